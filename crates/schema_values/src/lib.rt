@@ -1,0 +1,30 @@
+//! The values that the other crates speak of: lists, texts and JSON.
+#![tactic(auto)]
+
+mod boxed;
+mod copy;
+mod get;
+mod json_value;
+mod laws;
+mod list;
+mod pretty;
+mod print;
+mod read;
+mod schema;
+mod schema_copy;
+#[cfg(test)]
+mod tests;
+mod text;
+mod value;
+
+pub use boxed::Boxed;
+pub use json_value::{Json, Member};
+pub use laws::{compact_reads_back, in_order_stays, pretty_reads_back, sorted_ascends};
+pub use list::List;
+pub use read::ReadError;
+pub use schema::{
+    ArrayParts, Definitions, InstanceType, InstanceTypes, Items, LengthBounds, NumberBounds,
+    ObjectParts, Property, Schema, SchemaObject, Subschemas,
+};
+pub use text::Text;
+pub use value::ValueError;

@@ -1,0 +1,127 @@
+ghost use Rattle.std.specs.Prelude.{◌≡◌, ◌<◌, ◌≤◌, ◌++◌, ◌∷◌, [], IfOk, OnOk, map, codes, if◌then◌else◌};
+ghost use Rattle.std.specs.Str.{encode_utf8_all};
+ghost use Rattle.schema_values.specs.Depth.{depth};
+ghost use Rattle.schema_values.specs.Print.{escape, hex_digit, quoted, joined, comma_before, compact_of};
+ghost use Rattle.schema_values.specs.PrintMember.{compact_member};
+ghost use Rattle.schema_values.specs.Reading.{Reads};
+ghost use Rattle.schema_values.specs.SortedMembers.{sorted_members};
+ghost use Rattle.schema_values.specs.Sound.{IsSound};
+
+use crate::json_value::{Json, Member};
+use crate::text::Text;
+use std::alloc::{AllocError, Global};
+
+impl Json {
+    /// The value's text with no white space.
+    pub fn compact(&self, alloc: Global) -> Result<Text, AllocError>
+        ensures text { IfOk result (λ text. text ≡ compact_of self.now) }
+        ensures reads_back { IfOk result (λ text. IsSound self.now → depth self.now ≤ 127 → Reads (encode_utf8_all text) (sorted_members self.now)) }
+    {
+        let mut out = Text::new(alloc);
+        self.write_compact(alloc, &mut out)?;
+        Ok(out)
+    }
+
+    #[cycle(compact)]
+    fn write_compact(&self, alloc: Global, out: &mut Text) -> Result<(), AllocError>
+        ensures { OnOk result (out.new ≡ out.old ++ compact_of self.now) }
+    {
+        match self {
+            Json::Null => out.push_ascii("null"),
+            Json::Bool(truth) => write_truth(*truth, out),
+            Json::Int(number) => out.push_number(alloc, *number),
+            Json::Text(text) => write_quoted(text, out),
+            Json::List(items) => {
+                out.push('[')?;
+                write_items(alloc, items.as_slice(), out)?;
+                out.push(']')
+            }
+            Json::Object(members) => {
+                out.push('{')?;
+                write_members(alloc, members.as_slice(), out)?;
+                out.push('}')
+            }
+        }
+    }
+}
+
+#[cycle(compact)]
+fn write_items(alloc: Global, items: &[Json], out: &mut Text) -> Result<(), AllocError>
+    ensures { OnOk result (out.new ≡ out.old ++ joined (map compact_of items.now)) }
+{
+    for (index, item) in items.iter().enumerate() {
+        write_comma(index, out)?;
+        item.write_compact(alloc, out)?;
+    }
+    Ok(())
+}
+
+#[cycle(compact)]
+fn write_members(alloc: Global, members: &[Member], out: &mut Text) -> Result<(), AllocError>
+    ensures { OnOk result (out.new ≡ out.old ++ joined (map compact_member members.now)) }
+{
+    for (index, member) in members.iter().enumerate() {
+        write_comma(index, out)?;
+        write_quoted(&member.name, out)?;
+        out.push(':')?;
+        member.value.write_compact(alloc, out)?;
+    }
+    Ok(())
+}
+
+pub(crate) fn write_comma(index: usize, out: &mut Text) -> Result<(), AllocError>
+    ensures { OnOk result (out.new ≡ out.old ++ comma_before index) }
+{
+    if index == 0 { Ok(()) } else { out.push(',') }
+}
+
+pub(crate) fn write_truth(truth: bool, out: &mut Text) -> Result<(), AllocError>
+    ensures { OnOk result (out.new ≡ out.old ++ (if truth then codes "true" else codes "false")) }
+{
+    if truth {
+        out.push_ascii("true")
+    } else {
+        out.push_ascii("false")
+    }
+}
+
+pub(crate) fn write_quoted(text: &Text, out: &mut Text) -> Result<(), AllocError>
+    ensures { OnOk result (out.new ≡ out.old ++ quoted text.now) }
+{
+    out.push('"')?;
+    for character in text.as_str().chars() {
+        write_escaped(character, out)?;
+    }
+    out.push('"')
+}
+
+#[tactic(auto, unfolding(crate::specs::Print::escape))]
+fn write_escaped(character: char, out: &mut Text) -> Result<(), AllocError>
+    ensures { OnOk result (out.new ≡ out.old ++ escape character) }
+{
+    match character {
+        '"' => out.push_ascii("\\\""),
+        '\\' => out.push_ascii("\\\\"),
+        '\u{8}' => out.push_ascii("\\b"),
+        '\t' => out.push_ascii("\\t"),
+        '\n' => out.push_ascii("\\n"),
+        '\u{c}' => out.push_ascii("\\f"),
+        '\r' => out.push_ascii("\\r"),
+        '\0'..='\u{1f}' => {
+            out.push_ascii("\\u00")?;
+            out.push(hex_digit_of(u32::from(character) / 16))?;
+            out.push(hex_digit_of(u32::from(character) % 16))
+        }
+        _ => out.push(character),
+    }
+}
+
+fn hex_digit_of(digit: u32) -> char
+    requires { digit < 16 }
+    ensures { result ≡ hex_digit digit }
+{
+    match char::from_digit(digit, 16) {
+        Some(character) => character,
+        None => '0',
+    }
+}

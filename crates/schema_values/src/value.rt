@@ -1,0 +1,104 @@
+ghost use Rattle.std.specs.Prelude.{◌≡◌, IfOk, IfErr, IfSome, None, Some};
+ghost use Rattle.std.specs.List.{AllByRecursion};
+ghost use Rattle.schema_values.specs.Ascending.{IsAscending};
+ghost use Rattle.schema_values.specs.AscendingMembers.{HasAscendingMembers};
+ghost use Rattle.schema_values.specs.Sound.{IsSound, IsWhole};
+ghost use Rattle.schema_values.specs.SoundMembers.{HasSoundMembers};
+ghost use Rattle.serde_json.specs.View.{view, number_view, items_view, members_view};
+ghost use Rattle.schema_values.specs.Reading.{json_of, items_of, members_of, whole_of};
+
+use crate::json_value::{Json, Member};
+use crate::list::List;
+use crate::text::Text;
+use serde_json::{Map, Number, Value};
+use std::alloc::{AllocError, Global};
+use thiserror::Error;
+
+/// Why a value of `serde_json` was not taken over.
+#[derive(Clone, Copy, Debug, PartialEq, Eq, Error)]
+pub enum ValueError {
+    /// The value holds a number that is no integer of 64 bits.
+    #[error("holds a number that is no 64-bit integer")]
+    HoldsFloat,
+    #[error("out of memory")]
+    OutOfMemory,
+}
+
+impl From<AllocError> for ValueError {
+    ghost use Rattle.std.specs.Prelude.{◌≡◌};
+    ghost use Rattle.schema_values.specs.declared.value.ValueError.TheVariants.{OutOfMemory};
+
+    ghost from_gives = { λ _ e. e ≡ OutOfMemory };
+
+    fn from(_: AllocError) -> ValueError {
+        ValueError::OutOfMemory
+    }
+}
+
+impl Json {
+    /// The same value, with the members of each object in ascending order of names.
+    ///
+    /// `HoldsFloat` exactly where it holds a number that is no integer of 64 bits.
+    #[cycle(of_value)]
+    pub fn of_value(alloc: Global, value: &Value) -> Result<Json, ValueError>
+        ensures ok { IfOk result (λ json. json_of (view value.now) ≡ Some json) }
+        ensures sound { IfOk result (λ json. IsSound json) }
+        ensures ascending { IfOk result (λ json. IsAscending json) }
+        ensures err { IfErr result (λ e. e ≡ ValueError.HoldsFloat → json_of (view value.now) ≡ None) }
+    {
+        match value {
+            Value::Null => Ok(Json::Null),
+            Value::Bool(truth) => Ok(Json::Bool(*truth)),
+            Value::Number(number) => match whole_number(number) {
+                Some(whole) => Ok(Json::Int(whole)),
+                None => Err(ValueError::HoldsFloat),
+            },
+            Value::String(text) => Ok(Json::Text(Text::from_str(alloc, text.as_str())?)),
+            Value::Array(values) => Ok(Json::List(items_of_values(alloc, values)?)),
+            Value::Object(members) => Ok(Json::Object(members_of_map(alloc, members)?)),
+        }
+    }
+}
+
+#[cycle(of_value)]
+fn items_of_values(alloc: Global, values: &Vec<Value>) -> Result<List<Json>, ValueError>
+    ensures ok { IfOk result (λ items. items_of (items_view values.now.items) ≡ Some items) }
+    ensures sound { IfOk result (λ items. AllByRecursion IsSound items) }
+    ensures ascending { IfOk result (λ items. AllByRecursion IsAscending items) }
+    ensures err { IfErr result (λ e. e ≡ ValueError.HoldsFloat → items_of (items_view values.now.items) ≡ None) }
+{
+    let mut items = List::new(alloc);
+    for value in values {
+        items.push(Json::of_value(alloc, value)?)?;
+    }
+    Ok(items)
+}
+
+#[cycle(of_value)]
+fn members_of_map(alloc: Global, map: &Map<String, Value>) -> Result<List<Member>, ValueError>
+    ensures ok { IfOk result (λ members. members_of (members_view map.now.entries) ≡ Some members) }
+    ensures sound { IfOk result (λ members. HasSoundMembers members) }
+    ensures ascending { IfOk result (λ members. HasAscendingMembers members) }
+    ensures err { IfErr result (λ e. e ≡ ValueError.HoldsFloat → members_of (members_view map.now.entries) ≡ None) }
+{
+    let mut members = List::new(alloc);
+    for (key, value) in map.iter() {
+        let name = Text::from_str(alloc, key.as_str())?;
+        let value = Json::of_value(alloc, value)?;
+        members.push(Member { name, value })?;
+    }
+    Ok(members)
+}
+
+fn whole_number(number: &Number) -> Option<i128>
+    ensures value { result ≡ whole_of (number_view number.now) }
+    ensures fits { IfSome result (λ whole. IsWhole whole) }
+{
+    match number.as_u64() {
+        Some(whole) => Some(i128::from(whole)),
+        None => match number.as_i64() {
+            Some(whole) => Some(i128::from(whole)),
+            None => None,
+        },
+    }
+}
