@@ -1,0 +1,6 @@
+pub mod Pieces
+pub mod Handling
+pub mod Going
+pub mod LineLemmas
+pub mod Limits
+pub mod Whole

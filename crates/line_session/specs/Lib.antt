@@ -1,0 +1,9 @@
+pub mod Adapters
+pub mod Causes
+pub mod Memory
+pub mod Parts
+pub mod Lines
+pub mod Reading
+pub mod NextLine
+pub mod Session
+pub mod Status

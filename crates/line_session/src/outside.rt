@@ -1,0 +1,52 @@
+//! What a session reads from and writes to. Each end counts its own faults, which generic code cannot.
+ghost use Rattle.std.specs.Prelude.{◌≡◌, ◌<◌, ◌≤◌, ℕ, List, length, IfOk, IsErrOf};
+ghost use Rattle.std.specs.declared.option.Option.{Option};
+ghost use Rattle.std.specs.Io.{ReadsAtMost, WritesAtMost};
+ghost use Rattle.std.specs.Io.KnownBytes.{ReadConsumes, WriteAppends};
+ghost use Rattle.line_session.specs.Causes.{Rose, HasCause};
+
+/// The source could not be read.
+#[derive(Clone, Copy, Debug, Drop, PartialEq, Eq)]
+pub struct Failed;
+
+/// Why a sink took nothing.
+#[derive(Clone, Copy, Debug, Drop, PartialEq, Eq)]
+pub enum SinkError {
+    /// The sink could not be written.
+    Failed,
+    OutOfMemory,
+}
+
+/// Bytes to be read.
+pub trait Source {
+    /// The bytes that are left, where the source tells them.
+    ghost left: { Self → Option (List ℕ) };
+
+    /// How often it has failed.
+    ghost faults: { Self → ℕ };
+
+    /// Takes bytes from the front of what is left, and gives their number; 0 only at the end or for an empty buffer.
+    /// At an `Err` nothing was taken.
+    fn read(&mut self, buf: &mut [u8]) -> Result<usize, Failed>
+        ensures bound { ReadsAtMost result buf.new }
+        ensures bytes { ReadConsumes (left self.old) (left self.new) result buf.new }
+        ensures cause { HasCause (faults self.old) (faults self.new) result };
+}
+
+/// Where bytes are written.
+pub trait Sink {
+    /// The bytes that it has taken, where it tells them.
+    ghost taken: { Self → Option (List ℕ) };
+
+    /// How often it has failed.
+    ghost faults: { Self → ℕ };
+
+    /// Takes bytes from the front of a piece, at least one of a piece that is not empty, and gives their number.
+    /// At an `Err` nothing was taken.
+    fn write(&mut self, piece: &[u8]) -> Result<usize, SinkError>
+        ensures bound { WritesAtMost result piece.now }
+        ensures progress { 0 < length piece.now → IfOk result (λ n. 0 < n) }
+        ensures bytes { WriteAppends (taken self.old) (taken self.new) result piece.now }
+        ensures later { faults self.old ≤ faults self.new }
+        ensures failed { IsErrOf result SinkError.Failed → Rose (faults self.old) (faults self.new) };
+}

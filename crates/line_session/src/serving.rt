@@ -1,0 +1,187 @@
+//! A session over any answering of lines: a front is written, and then the reply to each line.
+ghost use Rattle.std.specs.Prelude.{◌≡◌, ◌⊎◌, Some, ◌+◌, ◌-◌, ◌^◌, ◌<◌, ◌≤◌, List as ListOf, ℕ, take, IfOk, OnOk, OnErr, IsErrOf};
+ghost use Rattle.line_session.specs.Causes.{Rose};
+ghost use Rattle.line_session.specs.Lines.{HasLongLine, IsTooMuch, PassesNoLimit};
+ghost use Rattle.line_session.specs.Session.{Replied, PartReplied, IsAnswered};
+ghost use Rattle.line_session.specs.Status.{IsServed, MeetsLimits, status_of};
+
+use crate::line_reader::{LineReader, NextLine};
+use crate::outside::{Sink, SinkError, Source};
+use crate::writing::{write_all, write_line};
+use schema_values::List;
+use std::alloc::{AllocError, Global};
+
+/// What answers lines. It may choose among replies, and each line goes on from the state that the line before left.
+pub trait Answering {
+    /// What is carried from line to line.
+    type State;
+
+    /// What has to hold before a line can be answered; it goes on holding.
+    ghost can_answer: { Self → Type 0 };
+
+    /// From a state the line may be answered by this reply, which leaves that state.
+    ghost answers: { Self → Self.State → ListOf ℕ → ListOf ℕ → Self.State → Type 0 };
+
+    /// The reply to a line, without a newline. Fails only for want of memory: then the line was not answered, or it
+    /// was and the reply is lost.
+    fn answer(
+        &self,
+        alloc: Global,
+        state: &mut Self::State,
+        line: &[u8],
+    ) -> Result<List<u8>, AllocError>
+        requires { can_answer self.now }
+        ensures ok { IfOk result (λ reply. answers self.now state.old line.now reply state.new) }
+        ensures err { OnErr result ((state.new ≡ state.old) ⊎ ((reply : ListOf ℕ) × answers self.now state.old line.now reply state.new)) };
+}
+
+/// How a session ended.
+#[derive(Clone, Copy, Debug, Drop, PartialEq, Eq)]
+pub enum SessionEnd {
+    /// The input was read to its end, and every line answered.
+    Done,
+    /// The source failed. The lines that ended before were answered.
+    ReadFault,
+    /// The sink failed. It took a part of the front and the replies, from their beginning.
+    WriteFault,
+    /// A line is longer than allowed; with the number of bytes at which that showed.
+    LineTooLong(u64),
+    /// There are more bytes than allowed; with the number of bytes at which that showed.
+    TooMuchInput(u64),
+    /// Memory ran out. The sink took a part of the front and the replies, from their beginning.
+    OutOfMemory,
+}
+
+// Answers a line.
+fn answer<A: Answering, K: Sink>(
+    alloc: Global,
+    answering: &A,
+    state: &mut A::State,
+    line: &[u8],
+    sink: &mut K,
+) -> Result<(), SinkError>
+    requires { A.can_answer answering.now }
+    ensures ok { OnOk result (Replied (A.answers answering.now) (K.taken sink.old) (K.taken sink.new) state.old line.now state.new) }
+    ensures part { OnErr result (PartReplied (A.answers answering.now) (K.taken sink.old) (K.taken sink.new) state.old line.now state.new) }
+    ensures later { K.faults sink.old ≤ K.faults sink.new }
+    ensures failed { IsErrOf result SinkError.Failed → Rose (K.faults sink.old) (K.faults sink.new) }
+{
+    match answering.answer(alloc, state, line) {
+        Ok(reply) => write_line(sink, reply),
+        Err(_) => Err(SinkError::OutOfMemory),
+    }
+}
+
+// The status of a write that failed.
+fn status_of(error: SinkError) -> SessionEnd
+    ensures { result ≡ status_of error }
+{
+    match error {
+        SinkError::Failed => SessionEnd::WriteFault,
+        SinkError::OutOfMemory => SessionEnd::OutOfMemory,
+    }
+}
+
+// Writes the front, and then answers each line.
+fn serve_lines<A: Answering, S: Source, K: Sink>(
+    alloc: Global,
+    answering: &A,
+    state: &mut A::State,
+    front: &[u8],
+    most_input: u64,
+    longest_line: u64,
+    source: &mut S,
+    sink: &mut K,
+) -> SessionEnd
+    requires ready { A.can_answer answering.now }
+    requires most { most_input < 2 ^ 64 - 1 }
+    requires longest { longest_line < 2 ^ 64 - 1 }
+    ensures served { IsServed (A.answers answering.now) front.now most_input longest_line (S.left source.old) (S.left source.new)
+        (K.taken sink.old) (K.taken sink.new) state.old state.new result }
+    ensures source_later { S.faults source.old ≤ S.faults source.new }
+    ensures sink_later { K.faults sink.old ≤ K.faults sink.new }
+    ensures read_fault { result ≡ SessionEnd.ReadFault → Rose (S.faults source.old) (S.faults source.new) }
+    ensures write_fault { result ≡ SessionEnd.WriteFault → Rose (K.faults sink.old) (K.faults sink.new) }
+{
+    if let Err(error) = write_all(sink, front) {
+        return status_of(error);
+    }
+    let Ok(mut reader) = LineReader::new(alloc, most_input) else {
+        return SessionEnd::OutOfMemory;
+    };
+    'lines: loop {
+        match reader.next_line(alloc, longest_line, source) {
+            NextLine::Ended(line) => {
+                if let Err(error) = answer(alloc, answering, state, &line, sink) {
+                    return status_of(error);
+                }
+            }
+            NextLine::End(line) => {
+                if line.is_empty() {
+                    return SessionEnd::Done;
+                }
+                if let Err(error) = answer(alloc, answering, state, &line, sink) {
+                    return status_of(error);
+                }
+                return SessionEnd::Done;
+            }
+            NextLine::ReadFault => return SessionEnd::ReadFault,
+            NextLine::TooLong => return SessionEnd::LineTooLong(longest_line + 1),
+            NextLine::TooMuchInput => return SessionEnd::TooMuchInput(most_input + 1),
+            NextLine::OutOfMemory => return SessionEnd::OutOfMemory,
+        }
+    }
+}
+
+/// Writes the front, and then the reply to each line of the source, each with a newline behind it.
+///
+/// A line ends at a newline; the last needs none, where it is not empty. At most `most_input` bytes are handled, in
+/// lines of at most `longest_line` bytes without their newline. The first byte beyond either ends the session, and the
+/// first of them counts; at the same byte it is too much input.
+pub fn serve<A: Answering, S: Source, K: Sink>(
+    alloc: Global,
+    answering: &A,
+    state: &mut A::State,
+    front: &[u8],
+    most_input: u64,
+    longest_line: u64,
+    source: &mut S,
+    sink: &mut K,
+) -> SessionEnd
+    requires ready { A.can_answer answering.now }
+    requires most { most_input < 2 ^ 64 - 1 }
+    requires longest { longest_line < 2 ^ 64 - 1 }
+    ensures served { IsServed (A.answers answering.now) front.now most_input longest_line (S.left source.old) (S.left source.new)
+        (K.taken sink.old) (K.taken sink.new) state.old state.new result }
+    // Of a source and a sink that tell their bytes.
+    ensures session { result ≡ SessionEnd.Done → (all before : ListOf ℕ) →
+        S.left source.old ≡ Some all → K.taken sink.old ≡ Some before →
+        IsAnswered (A.answers answering.now) front.now all before (S.left source.new) (K.taken sink.new) state.old state.new }
+    // Of a source that tells its bytes.
+    ensures limits { (all : ListOf ℕ) → S.left source.old ≡ Some all → MeetsLimits most_input longest_line all result }
+    // Where nothing fails, the end is the one that the bytes call for, or memory runs out.
+    ensures complete { (all : ListOf ℕ) → S.left source.old ≡ Some all → PassesNoLimit most_input longest_line all →
+        ¬ Rose (S.faults source.old) (S.faults source.new) → ¬ Rose (K.faults sink.old) (K.faults sink.new) →
+        (result ≡ SessionEnd.Done) ⊎ (result ≡ SessionEnd.OutOfMemory) }
+    ensures too_long { (all : ListOf ℕ) → S.left source.old ≡ Some all → HasLongLine longest_line (take most_input all) →
+        ¬ Rose (S.faults source.old) (S.faults source.new) → ¬ Rose (K.faults sink.old) (K.faults sink.new) →
+        (result ≡ SessionEnd.LineTooLong (longest_line + 1)) ⊎ (result ≡ SessionEnd.OutOfMemory) }
+    ensures too_much { (all : ListOf ℕ) → S.left source.old ≡ Some all → IsTooMuch most_input longest_line all →
+        ¬ Rose (S.faults source.old) (S.faults source.new) → ¬ Rose (K.faults sink.old) (K.faults sink.new) →
+        (result ≡ SessionEnd.TooMuchInput (most_input + 1)) ⊎ (result ≡ SessionEnd.OutOfMemory) }
+    ensures source_later { S.faults source.old ≤ S.faults source.new }
+    ensures sink_later { K.faults sink.old ≤ K.faults sink.new }
+    ensures read_fault { result ≡ SessionEnd.ReadFault → Rose (S.faults source.old) (S.faults source.new) }
+    ensures write_fault { result ≡ SessionEnd.WriteFault → Rose (K.faults sink.old) (K.faults sink.new) }
+{
+    serve_lines(
+        alloc,
+        answering,
+        state,
+        front,
+        most_input,
+        longest_line,
+        source,
+        sink,
+    )
+}

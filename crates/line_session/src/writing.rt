@@ -1,0 +1,36 @@
+//! Whole texts to a sink, which may take them in parts.
+ghost use Rattle.std.specs.Prelude.{◌≡◌, ◌≤◌, OnOk, OnErr, IsErrOf};
+ghost use Rattle.std.specs.Io.KnownBytes.{Appends};
+ghost use Rattle.line_session.specs.Causes.{Rose};
+ghost use Rattle.line_session.specs.Lines.{end_line};
+ghost use Rattle.line_session.specs.Parts.{AppendsPart};
+
+use crate::outside::{Sink, SinkError};
+use schema_values::List;
+
+/// Writes all of `bytes`; at an `Err` a part from the front.
+pub fn write_all<K: Sink>(sink: &mut K, bytes: &[u8]) -> Result<(), SinkError>
+    ensures ok { OnOk result (Appends (K.taken sink.old) (K.taken sink.new) bytes.now) }
+    ensures part { OnErr result (AppendsPart (K.taken sink.old) (K.taken sink.new) bytes.now) }
+    ensures later { K.faults sink.old ≤ K.faults sink.new }
+    ensures failed { IsErrOf result SinkError.Failed → Rose (K.faults sink.old) (K.faults sink.new) }
+{
+    let mut at = 0;
+    while at < bytes.len() {
+        at += sink.write(&bytes[at..])?;
+    }
+    Ok(())
+}
+
+/// Writes a line and its newline; at an `Err` a part from the front.
+pub fn write_line<K: Sink>(sink: &mut K, mut line: List<u8>) -> Result<(), SinkError>
+    ensures ok { OnOk result (Appends (K.taken sink.old) (K.taken sink.new) (end_line line)) }
+    ensures part { OnErr result (AppendsPart (K.taken sink.old) (K.taken sink.new) (end_line line)) }
+    ensures later { K.faults sink.old ≤ K.faults sink.new }
+    ensures failed { IsErrOf result SinkError.Failed → Rose (K.faults sink.old) (K.faults sink.new) }
+{
+    if line.push(b'\n').is_err() {
+        return Err(SinkError::OutOfMemory);
+    }
+    write_all(sink, line.as_slice())
+}
