@@ -1,0 +1,11 @@
+pub mod After
+pub mod Measure
+pub mod ObjectLemmas
+pub mod OneVariant
+pub mod PartMaps
+pub mod RefusalLevels
+pub mod RoomLemmas
+pub mod SchemaLevels
+pub mod Stands
+pub mod Steps
+pub mod Words

@@ -1,0 +1,91 @@
+-- One level of a schema, as it is written.
+use Rattle.std.proofs.Common.{◌≡◌, ℕ, List, [], ◌∷◌, ◌++◌, Bool, Option, Some, None, option_map, unwrap_or, map, codes, refl, ◌∙◌, ap}
+use Rattle.std.specs.Option.{option_map_or}
+use Rattle.schema_values.specs.declared.json_value.Json.{Json, List as ListOf}
+use Rattle.schema_values.specs.declared.schema.ArrayParts.{ArrayParts, fold_out-ArrayParts}
+use Rattle.schema_values.specs.declared.schema.Items.{Items, One, fold_out-Items}
+use Rattle.schema_values.specs.declared.schema.ObjectParts.{ObjectParts, out-ObjectParts, fold_out-ObjectParts}
+use Rattle.schema_values.specs.declared.schema.Property.{Property, fold_out-Property}
+use Rattle.schema_values.specs.declared.schema.Schema.{Schema, Bool as Truth, Object, fold_out-Schema}
+use Rattle.schema_values.specs.declared.schema.Items.TheViews.{outs-One, outs-Bool, outs-Object}
+use Rattle.schema_values.specs.declared.schema.Items.TheShapes.{former-SchemaObject-object, former-SchemaObject-subschemas, former-Subschemas-all_of}
+use Rattle.schema_values.specs.declared.schema.SchemaObject.{SchemaObject, out-SchemaObject, fold_out-SchemaObject}
+use Rattle.schema_values.specs.declared.schema.Subschemas.{Subschemas, fold_out-Subschemas}
+use Rattle.openapi_values.specs.Objects.{Entry, pair_member, object_of, reference_json, unless_empty}
+use Rattle.openapi_values.proofs.OneVariant.{schema_in}
+use Rattle.openapi_values.proofs.PartMaps.{items-map, additional-map, array-map, object-map, subschemas-map, all_of-map}
+use Rattle.openapi_values.specs.SchemaJson.{Written, untitled, truth_json, additional_json, names_json, schemas_json, annotations, type_entries, schema_step, items_step, array_step, property_step, object_parts_step, subschemas_step, object_step, schema_written, items_written, array_written, object_parts_written, property_written, object_written, subschemas_written, count_json}
+
+pub truth-is : (truth : Bool) → schema_written (Truth truth) ≡ record { truth = Some truth; under = λ title. truth_json truth }
+unfolding schema_written
+truth-is truth = fold_out-Schema Json Written (List Entry) (List Entry) (List ℕ × Json) (Option (List ℕ) → Json) (List Entry) items_step schema_step array_step object_parts_step property_step object_step subschemas_step (Truth truth) ∙ rw (outs-Bool truth) refl
+
+pub object-under : (object : SchemaObject) → schema_written (Object object) ≡ record { truth = None; under = object_written object }
+unfolding schema_written object_written
+object-under object = fold_out-Schema Json Written (List Entry) (List Entry) (List ℕ × Json) (Option (List ℕ) → Json) (List Entry) items_step schema_step array_step object_parts_step property_step object_step subschemas_step (Object object) ∙ rw (outs-Object object) refl
+
+item-is : (schema : Schema) → items_written (One schema) ≡ untitled (schema_written schema)
+unfolding schema_written items_written
+item-is schema = fold_out-Items Json Written (List Entry) (List Entry) (List ℕ × Json) (Option (List ℕ) → Json) (List Entry) items_step schema_step array_step object_parts_step property_step object_step subschemas_step (One schema) ∙ rw (outs-One schema) refl
+
+pub items-are : (items : Items) → items_written items ≡ untitled (schema_written (schema_in items))
+items-are (One schema) = item-is schema
+
+pub property-is : (property : Property) → property_written property ≡ (property.name, untitled (schema_written property.schema))
+unfolding schema_written property_written
+property-is property = fold_out-Property Json Written (List Entry) (List Entry) (List ℕ × Json) (Option (List ℕ) → Json) (List Entry) items_step schema_step array_step object_parts_step property_step object_step subschemas_step property
+
+pub array-is : (array : ArrayParts) → array_written array ≡ (codes "items", option_map items_written array.items) ∷ (codes "minItems", count_json array.min) ∷ (codes "maxItems", count_json array.max) ∷ []
+unfolding array_written items_written
+array-is array = fold_out-ArrayParts Json Written (List Entry) (List Entry) (List ℕ × Json) (Option (List ℕ) → Json) (List Entry) items_step schema_step array_step object_parts_step property_step object_step subschemas_step array
+    ∙ ap (λ o. (codes "items", o) ∷ (codes "minItems", count_json array.min) ∷ (codes "maxItems", count_json array.max) ∷ []) (items-map items_written array.items)
+
+pub subschemas-are : (subschemas : Subschemas) → subschemas_written subschemas ≡ (codes "allOf", schemas_json (option_map (map schema_written) subschemas.all_of)) ∷ (codes "anyOf", schemas_json (option_map (map schema_written) subschemas.any_of)) ∷ []
+unfolding subschemas_written schema_written
+subschemas-are subschemas = fold_out-Subschemas Json Written (List Entry) (List Entry) (List ℕ × Json) (Option (List ℕ) → Json) (List Entry) items_step schema_step array_step object_parts_step property_step object_step subschemas_step subschemas
+    ∙ ap (λ o. (codes "allOf", schemas_json o) ∷ (codes "anyOf", schemas_json (former-Subschemas-all_of.map Schema Written schema_written subschemas.any_of)) ∷ []) (all_of-map schema_written subschemas.all_of)
+    ∙ ap (λ o. (codes "allOf", schemas_json (option_map (map schema_written) subschemas.all_of)) ∷ (codes "anyOf", schemas_json o) ∷ []) (all_of-map schema_written subschemas.any_of)
+
+pub object_parts-are : (object : ObjectParts) → object_parts_written object ≡
+    (codes "properties", unless_empty (map pair_member (map property_written (out-ObjectParts object).properties)))
+    ∷ (codes "required", names_json (out-ObjectParts object).required)
+    ∷ (codes "additionalProperties", option_map additional_json (option_map schema_written (out-ObjectParts object).additional))
+    ∷ []
+unfolding object_parts_written schema_written property_written
+object_parts-are object = fold_out-ObjectParts Json Written (List Entry) (List Entry) (List ℕ × Json) (Option (List ℕ) → Json) (List Entry) items_step schema_step array_step object_parts_step property_step object_step subschemas_step object
+    ∙ ap (λ o.
+    (codes "properties", unless_empty (map pair_member (map property_written (out-ObjectParts object).properties)))
+    ∷ (codes "required", names_json (out-ObjectParts object).required)
+    ∷ (codes "additionalProperties", option_map additional_json o)
+    ∷ []) (additional-map schema_written (out-ObjectParts object).additional)
+
+-- a schema object, by what its parts are written as
+abbrev pub object_with : SchemaObject → Option (List ℕ) → Option (List Entry) → Option (List Entry) → Option (List Entry) → Json
+object_with schema given array object subschemas = option_map_or reference_json (out-SchemaObject schema).reference
+    (object_of ((annotations given (out-SchemaObject schema).title (out-SchemaObject schema).description (out-SchemaObject schema).nullable
+    ++ type_entries (out-SchemaObject schema).instance_type (out-SchemaObject schema).format (out-SchemaObject schema).number (out-SchemaObject schema).string array object)
+    ++ unwrap_or subschemas []))
+
+pub object-is : (schema : SchemaObject) (given : Option (List ℕ)) → object_written schema given ≡
+    object_with schema given (option_map array_written (out-SchemaObject schema).array) (option_map object_parts_written (out-SchemaObject schema).object) (option_map subschemas_written (out-SchemaObject schema).subschemas)
+unfolding object_written array_written object_parts_written subschemas_written
+object-is schema given = ap (λ f. f given) (fold_out-SchemaObject Json Written (List Entry) (List Entry) (List ℕ × Json) (Option (List ℕ) → Json) (List Entry) items_step schema_step array_step object_parts_step property_step object_step subschemas_step schema)
+    ∙ ap (λ o. object_with schema given o (former-SchemaObject-object.map ObjectParts (List Entry) object_parts_written (out-SchemaObject schema).object) (former-SchemaObject-subschemas.map Subschemas (List Entry) subschemas_written (out-SchemaObject schema).subschemas)) (array-map array_written (out-SchemaObject schema).array)
+    ∙ ap (λ o. object_with schema given (option_map array_written (out-SchemaObject schema).array) o (former-SchemaObject-subschemas.map Subschemas (List Entry) subschemas_written (out-SchemaObject schema).subschemas)) (object-map object_parts_written (out-SchemaObject schema).object)
+    ∙ ap (λ o. object_with schema given (option_map array_written (out-SchemaObject schema).array) (option_map object_parts_written (out-SchemaObject schema).object) o) (subschemas-map subschemas_written (out-SchemaObject schema).subschemas)
+
+by_reference : (o : Option (List ℕ)) (other : Json) (text : List ℕ) → o ≡ Some text → option_map_or reference_json o other ≡ reference_json text
+by_reference o other text e = ap (λ o. option_map_or reference_json o other) e
+
+pub reference-is : (schema : SchemaObject) (given : Option (List ℕ)) (text : List ℕ) → (out-SchemaObject schema).reference ≡ Some text → object_written schema given ≡ reference_json text
+reference-is schema given text e = object-is schema given ∙ by_reference _ _ text e
+
+without : (o : Option (List ℕ)) (other : Json) → ((text : List ℕ) → o ≡ Some text → ⊥) → option_map_or reference_json o other ≡ other
+without None other h = refl
+without (Some text) other h = absurd (h text refl)
+
+pub parts-are : (schema : SchemaObject) (given : Option (List ℕ)) → ((text : List ℕ) → (out-SchemaObject schema).reference ≡ Some text → ⊥) → object_written schema given ≡
+    object_of ((annotations given (out-SchemaObject schema).title (out-SchemaObject schema).description (out-SchemaObject schema).nullable
+    ++ type_entries (out-SchemaObject schema).instance_type (out-SchemaObject schema).format (out-SchemaObject schema).number (out-SchemaObject schema).string (option_map array_written (out-SchemaObject schema).array) (option_map object_parts_written (out-SchemaObject schema).object))
+    ++ unwrap_or (option_map subschemas_written (out-SchemaObject schema).subschemas) [])
+parts-are schema given none = object-is schema given ∙ without _ _ none

@@ -1,0 +1,53 @@
+use Rattle.std.proofs.Common.{rules, sym, ap, ◌∙◌, refl}
+use Rattle.openapi_values.specs.Refusal.{refusal_of, object_refusal}
+use Rattle.openapi_values.proofs.OneVariant.{bound-is}
+use Rattle.openapi_values.proofs.RefusalLevels.{truth-is, object-is, items-are, property-is, array-is, object_parts-are, one_kind-is, inner-is, parts-are}
+use Rattle.openapi_values.proofs.refusal.+refusal.Goals as goal
+
+pub refusal-returns-in-Bool : goal.refusal-returns-in-Bool
+refusal-returns-in-Bool t c = sym (ap refusal_of c.in-Bool.is ∙ truth-is _)
+
+pub refusal-returns-in-Object : goal.refusal-returns-in-Object
+refusal-returns-in-Object t c = c.object_refusal.ensures ∙ ap object_refusal c.get.ensures ∙ sym (ap refusal_of c.in-Object.is ∙ object-is c.in-Object.object)
+
+pub object_refusal-returns-in-Some : goal.object_refusal-returns-in-Some
+object_refusal-returns-in-Some t c = rw (parts-are c.args.schema.now) (search rules)
+
+pub object_refusal-returns-in-None-instance_type : goal.object_refusal-returns-in-None-instance_type
+object_refusal-returns-in-None-instance_type t c = rw (parts-are c.args.schema.now) (search rules)
+
+pub object_refusal-returns-in-Some-kind_refusal : goal.object_refusal-returns-in-Some-kind_refusal
+object_refusal-returns-in-Some-kind_refusal t c = rw (parts-are c.args.schema.now) (search rules)
+
+pub object_refusal-returns-in-None-kind_refusal : goal.object_refusal-returns-in-None-kind_refusal
+object_refusal-returns-in-None-kind_refusal t c = rw (parts-are c.args.schema.now) (search rules)
+
+pub untyped_refusal-returns-in-Some : goal.untyped_refusal-returns-in-Some
+untyped_refusal-returns-in-Some t c = rw (c.in-Some.is) (rw (one_kind-is c.in-Some.subschemas) (search rules))
+
+pub untyped_refusal-returns-in-Some-2 : goal.untyped_refusal-returns-in-Some-2
+untyped_refusal-returns-in-Some-2 t c = rw (c.in-Some.is) (rw (one_kind-is c.in-Some.subschemas) (search rules))
+
+pub array_refusal-returns-in-Some : goal.array_refusal-returns-in-Some
+array_refusal-returns-in-Some t c = rw (array-is c.args.array.now) (search rules)
+
+pub array_refusal-returns-in-None : goal.array_refusal-returns-in-None
+array_refusal-returns-in-None t c = rw (array-is c.args.array.now) (search rules)
+
+pub items_refusal-returns : goal.items_refusal-returns
+items_refusal-returns t c = c.refusal.ensures ∙ ap refusal_of (bound-is c.args.items.now _) ∙ sym (items-are c.args.items.now)
+
+pub object_parts_refusal-returns-in-Some : goal.object_parts_refusal-returns-in-Some
+object_parts_refusal-returns-in-Some t c = rw (object_parts-are c.args.object.now) (search rules)
+
+pub object_parts_refusal-returns-in-None : goal.object_parts_refusal-returns-in-None
+object_parts_refusal-returns-in-None t c = rw (object_parts-are c.args.object.now) (search rules)
+
+pub property_refusal-returns : goal.property_refusal-returns
+property_refusal-returns t c = c.refusal.ensures ∙ sym (property-is c.args.property.now)
+
+pub subschemas_refusal-returns-in-Some : goal.subschemas_refusal-returns-in-Some
+subschemas_refusal-returns-in-Some t c = rw (inner-is c.args.subschemas.now) (search rules)
+
+pub subschemas_refusal-returns-in-None : goal.subschemas_refusal-returns-in-None
+subschemas_refusal-returns-in-None t c = rw (inner-is c.args.subschemas.now) (search rules)

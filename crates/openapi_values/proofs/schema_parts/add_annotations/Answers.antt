@@ -1,0 +1,14 @@
+use Rattle.std.proofs.Common.{codes, option_map}
+use Rattle.std.specs.Option.{option_or}
+use Rattle.schema_values.specs.declared.json_value.Json.{Text}
+use Rattle.schema_values.specs.declared.schema.SchemaObject.{out-SchemaObject}
+use Rattle.openapi_values.specs.IfTrue.{if_true}
+use Rattle.openapi_values.proofs.ObjectLemmas.{first, added}
+use Rattle.openapi_values.proofs.schema_parts.add_annotations.Goals as goal
+
+pub returns : goal.returns
+returns c =
+    let schema = out-SchemaObject c.args.schema.now in
+    let written_1 = first (codes "nullable") (if_true schema.nullable) _ _ _ c.in_ok-add.ensures c.true_json.ensures in
+    let written_2 = added written_1 (codes "title") (option_map Text (option_or c.args.given.now schema.title)) _ _ c.in_ok-add-2.ensures c.in_ok-title.ensures in
+    (added written_2 (codes "description") (option_map Text schema.description) _ _ c.in_ok-add-3.ensures c.in_ok-description.ensures).are

@@ -1,0 +1,69 @@
+use Rattle.std.proofs.Common.{◌≡◌, None, [], IfOk, map, option_map, unwrap_or, codes, sym, subst, ap, ◌∙◌}
+use Rattle.std.specs.Option.{option_map_or}
+use Rattle.schema_values.specs.declared.schema.ObjectParts.{out-ObjectParts}
+use Rattle.schema_values.specs.declared.schema.SchemaObject.{out-SchemaObject}
+use Rattle.openapi_values.specs.Objects.{unless_empty, pair_member, reference_json}
+use Rattle.openapi_values.specs.SchemaJson.{untitled, annotations, type_entries, additional_json, schemas_json, names_json, count_json, schema_written, object_written, items_written, array_written, object_parts_written, property_written, subschemas_written}
+use Rattle.openapi_values.proofs.ObjectLemmas.{Adds, first, added, joined, object}
+use Rattle.openapi_values.proofs.OneVariant.{bound-is}
+use Rattle.openapi_values.proofs.SchemaLevels.{truth-is, object-under, items-are, property-is, array-is, subschemas-are, object_parts-are, reference-is, parts-are}
+use Rattle.openapi_values.proofs.written.+written.Goals as goal
+
+pub written-returns-in-Bool : goal.written-returns-in-Bool
+written-returns-in-Bool t c =
+    subst (λ j. IfOk c.truth_json.result (λ json. json ≡ j)) (sym (ap (λ s. (schema_written s).under c.args.title.now) c.in-Bool.is ∙ ap (λ w. w.under c.args.title.now) (truth-is c.in-Bool.truth))) c.truth_json.ensures
+
+pub written-returns-in-Object : goal.written-returns-in-Object
+written-returns-in-Object t c =
+    let title = c.args.title.now in
+    let eq = ap (λ s. (schema_written s).under title) c.in-Object.is ∙ ap (λ w. w.under title) (object-under c.in-Object.object) ∙ ap (λ o. object_written o title) (sym c.get.ensures) in
+    subst (λ j. IfOk c.object_json.result (λ json. json ≡ j)) (sym eq) c.object_json.ensures
+
+pub object_json-returns-in-Some : goal.object_json-returns-in-Some
+object_json-returns-in-Some t c =
+    subst (λ j. IfOk c.reference.result (λ json. json ≡ j)) (sym (reference-is c.args.schema.now c.args.title.now c.in-Some.text c.in-Some.is)) c.reference.ensures
+
+pub object_json-returns : goal.object_json-returns
+object_json-returns t c =
+    let schema = out-SchemaObject c.args.schema.now in
+    let annotated : Adds _ (annotations c.args.title.now schema.title schema.description schema.nullable) _ = record { are = c.in_ok-add_annotations.ensures } in
+    let typed = joined annotated (type_entries schema.instance_type schema.format schema.number schema.string (option_map array_written schema.array) (option_map object_parts_written schema.object)) _ c.in_ok-add_type.ensures in
+    object c.new-members.ensures (joined typed (unwrap_or (option_map subschemas_written schema.subschemas) []) _ c.in_ok-add_subschemas.ensures)
+    ∙ sym (parts-are c.args.schema.now c.args.title.now c.in_default.not-Some)
+
+pub add_array-returns : goal.add_array-returns
+add_array-returns t c =
+    let array = c.args.array.now in
+    let items = first (codes "items") (option_map items_written array.items) _ _ _ c.in_ok-add.ensures c.in_ok-items.ensures in
+    let least = added items (codes "minItems") (count_json array.min) _ _ c.in_ok-add-2.ensures c.count_json.ensures in
+    rw (array-is array) (added least (codes "maxItems") (count_json array.max) _ _ c.in_ok-add-3.ensures c.count_json-2.ensures).are
+
+pub item_json-returns : goal.item_json-returns
+item_json-returns t c =
+    let written = subst (λ s. IfOk c.written.result (λ json. json ≡ untitled (schema_written s))) (bound-is c.args.items.now _) c.written.ensures in
+    subst (λ j. IfOk c.written.result (λ json. json ≡ j)) (sym (items-are c.args.items.now)) written
+
+pub add_object_parts-returns : goal.add_object_parts-returns
+add_object_parts-returns t c =
+    let parts = out-ObjectParts c.args.object.now in
+    let properties = first (codes "properties") (unless_empty (map pair_member (map property_written parts.properties))) _ _ _ c.in_ok-add.ensures c.in_ok-properties.ensures in
+    let required = added properties (codes "required") (names_json parts.required) _ _ c.in_ok-add-2.ensures c.in_ok-required.ensures in
+    rw (object_parts-are c.args.object.now) (added required (codes "additionalProperties") (option_map additional_json (option_map schema_written parts.additional)) _ _ c.in_ok-add-3.ensures c.in_ok-additional.ensures).are
+
+pub property_member-returns : goal.property_member-returns
+property_member-returns t c =
+    rw (c.in_ok-name.ensures, c.in_ok-value.ensures) (ap pair_member (sym (property-is c.args.property.now)))
+
+pub truth_or_schema-returns-in-Bool : goal.truth_or_schema-returns-in-Bool
+truth_or_schema-returns-in-Bool t c = sym (ap (λ s. additional_json (schema_written s)) c.in-Bool.is ∙ ap additional_json (truth-is c.in-Bool.truth))
+
+pub truth_or_schema-returns-in-Object : goal.truth_or_schema-returns-in-Object
+truth_or_schema-returns-in-Object t c =
+    let eq = ap (λ s. additional_json (schema_written s)) c.in-Object.is ∙ ap additional_json (object-under c.in-Object.object) ∙ ap (λ o. object_written o None) (sym c.get.ensures) in
+    subst (λ j. IfOk c.object_json.result (λ json. json ≡ j)) (sym eq) c.object_json.ensures
+
+pub add_schemas-returns : goal.add_schemas-returns
+add_schemas-returns t c =
+    let subschemas = c.args.subschemas.now in
+    let all_of = first (codes "allOf") (schemas_json (option_map (map schema_written) subschemas.all_of)) _ _ _ c.in_ok-add.ensures c.in_ok-all_of.ensures in
+    rw (subschemas-are subschemas) (added all_of (codes "anyOf") (schemas_json (option_map (map schema_written) subschemas.any_of)) _ _ c.in_ok-add-2.ensures c.in_ok-any_of.ensures).are

@@ -1,0 +1,17 @@
+pub mod Levels
+pub mod Options
+pub mod Keywords
+pub mod Lookup
+pub mod Rows
+pub mod Room
+pub mod ValuesOfMembers
+pub mod JsonAdmits
+pub mod Smaller
+pub mod IfTrue
+pub mod Objects
+pub mod Operation
+pub mod Document
+pub mod Admits
+pub mod Find
+pub mod SchemaJson
+pub mod Refusal

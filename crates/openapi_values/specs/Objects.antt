@@ -1,0 +1,39 @@
+-- JSON objects as they are written: the members whose values are there.
+use Rattle.std.specs.Prelude.{ℕ, List, [], ◌∷◌, map, Option, Some, None, codes}
+use Rattle.schema_values.specs.declared.json_value.Json.{Json, Text, Object}
+use Rattle.schema_values.specs.declared.json_value.Member.{Member}
+
+-- a name, and its value if it has one
+abbrev pub Entry : Type 0
+Entry = List ℕ × Option Json
+
+abbrev pub member : List ℕ → Json → Member
+member name value = record { name = name; value = value }
+
+-- a member that is left out where it has no value
+abbrev pub present : List ℕ → Option Json → List Member → List Member
+present name None rest = rest
+present name (Some value) rest = member name value ∷ rest
+
+abbrev pub members_of : List Entry → List Member
+members_of [] = []
+members_of (entry ∷ rest) = present entry.0 entry.1 (members_of rest)
+
+abbrev pub object_of : List Entry → Json
+object_of entries = Object (members_of entries)
+
+-- a reference alone (OpenAPI 3.0.3, Reference Object)
+abbrev pub reference_json : List ℕ → Json
+reference_json reference = object_of ((codes "$ref", Some (Text reference)) ∷ [])
+
+abbrev pub pair_member : List ℕ × Json → Member
+pair_member pair = member pair.0 pair.1
+
+-- the members that a map of names is written as
+abbrev pub map_members : {X : Type 0} → (X → Json) → List (List ℕ × X) → List Member
+map_members json = map (λ pair. member pair.0 (json pair.1))
+
+-- a map as an object, left out where it is empty
+abbrev pub unless_empty : List Member → Option Json
+unless_empty [] = None
+unless_empty (m ∷ ms) = Some (Object (m ∷ ms))

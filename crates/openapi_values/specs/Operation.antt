@@ -1,0 +1,58 @@
+-- How an operation and its parts are written (OpenAPI 3.0.3, from Path Item Object on).
+use Rattle.std.specs.Prelude.{ℕ, List, [], ◌∷◌, Option, Some, None, option_map, codes}
+use Rattle.std.specs.Option.{option_map_or}
+use Rattle.schema_values.specs.declared.json_value.Json.{Json, Text}
+use Rattle.openapi_values.specs.declared.media.MediaType.{MediaType}
+use Rattle.openapi_values.specs.declared.media.RequestBody.{RequestBody}
+use Rattle.openapi_values.specs.declared.media.ResponseObject.{ResponseObject}
+use Rattle.openapi_values.specs.declared.operation.Operation.{Operation}
+use Rattle.openapi_values.specs.declared.operation.PathItem.{PathItem}
+use Rattle.openapi_values.specs.IfTrue.{if_true}
+use Rattle.openapi_values.specs.Objects.{Entry, object_of, reference_json, map_members, unless_empty}
+
+abbrev pub media_type_entries : MediaType → List Entry
+media_type_entries media = (codes "schema", Some media.schema) ∷ []
+
+abbrev pub media_type_json : MediaType → Json
+media_type_json media = object_of (media_type_entries media)
+
+abbrev pub content_json : List (List ℕ × MediaType) → Option Json
+content_json content = unless_empty (map_members media_type_json content)
+
+abbrev pub request_body_entries : RequestBody → List Entry
+request_body_entries body = (codes "content", content_json body.content) ∷ (codes "required", if_true body.required) ∷ []
+
+unfoldable pub request_body_json : RequestBody → Json
+request_body_json body = object_of (request_body_entries body)
+
+unfoldable pub described_json : ResponseObject → Json
+described_json response = object_of ((codes "description", option_map Text response.description) ∷ (codes "content", content_json response.content) ∷ [])
+
+-- a reference stands alone
+abbrev pub response_json : ResponseObject → Json
+response_json response = option_map_or reference_json response.reference (described_json response)
+
+abbrev pub operation_entries : Operation → List Entry
+operation_entries operation =
+    (codes "operationId", Some (Text operation.operation_id))
+    ∷ (codes "requestBody", option_map request_body_json operation.request_body)
+    ∷ (codes "responses", unless_empty (map_members response_json operation.responses))
+    ∷ []
+
+unfoldable pub operation_json : Operation → Json
+operation_json operation = object_of (operation_entries operation)
+
+abbrev pub path_item_entries : PathItem → List Entry
+path_item_entries item =
+    (codes "get", option_map operation_json item.get)
+    ∷ (codes "put", option_map operation_json item.put)
+    ∷ (codes "post", option_map operation_json item.post)
+    ∷ (codes "delete", option_map operation_json item.delete)
+    ∷ (codes "options", option_map operation_json item.options)
+    ∷ (codes "head", option_map operation_json item.head)
+    ∷ (codes "patch", option_map operation_json item.patch)
+    ∷ (codes "trace", option_map operation_json item.trace)
+    ∷ []
+
+unfoldable pub path_item_json : PathItem → Json
+path_item_json item = object_of (path_item_entries item)

@@ -1,0 +1,23 @@
+-- The steps that are left at each value: as many as there are JSON values to go through, and one more.
+use Rattle.std.specs.Prelude.{ℕ, suc, ◌+◌, sum, min}
+use Rattle.schema_values.specs.declared.json_value.Json.{Json, fold-Json}
+use Rattle.schema_values.specs.declared.json_value.Json.TheOpen.{Json-F, Member-F}
+
+abbrev pub values_step : Json-F ℕ ℕ → ℕ
+values_step (Json-F.List ns) = suc (sum ns)
+values_step (Json-F.Object ns) = suc (sum ns)
+values_step _ = 1
+
+abbrev pub values_of_member : Member-F ℕ ℕ → ℕ
+values_of_member m = m.value
+
+-- the number of JSON values in a value, with itself
+unfoldable pub values : Json → ℕ
+values = fold-Json ℕ ℕ values_step values_of_member
+
+-- a count, or 2^64-1 where that is less
+abbrev pub capped : ℕ → ℕ
+capped n = min n 18446744073709551615
+
+unfoldable pub room : Json → Json → ℕ
+room doc schema = capped (suc (values doc + values schema))

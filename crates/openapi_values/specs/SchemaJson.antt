@@ -1,0 +1,146 @@
+-- How a schema is written (OpenAPI 3.0.3, Schema Object).
+use Rattle.std.specs.Prelude.{ℕ, ℤ, pos, Bool, true, false, List, [], ◌∷◌, ◌++◌, map, Option, Some, None, option_map, option_and_then, unwrap_or, if◌then◌else◌, codes}
+use Rattle.std.specs.Option.{option_map_or, option_or}
+use Rattle.schema_values.specs.declared.json_value.Json.{Json, Bool as Truth, Int, Text, List as ListOf, Object as ObjectOf}
+use Rattle.schema_values.specs.declared.schema.ArrayParts.{ArrayParts, ArrayParts-F, fold-ArrayParts}
+use Rattle.schema_values.specs.declared.schema.InstanceType.{InstanceType}
+use Rattle.schema_values.specs.declared.schema.InstanceType.TheVariants.{Boolean, Object, Array, String, Integer}
+use Rattle.schema_values.specs.declared.schema.InstanceTypes.{InstanceTypes}
+use Rattle.schema_values.specs.declared.schema.InstanceTypes.TheVariants.{Single}
+use Rattle.schema_values.specs.declared.schema.Items.{Items, Items-F, One, fold-Items}
+use Rattle.schema_values.specs.declared.schema.Items.TheOpen as open_types
+use Rattle.schema_values.specs.declared.schema.LengthBounds.{LengthBounds}
+use Rattle.schema_values.specs.declared.schema.NumberBounds.{NumberBounds}
+use Rattle.schema_values.specs.declared.schema.ObjectParts.{ObjectParts, ObjectParts-F, fold-ObjectParts}
+use Rattle.schema_values.specs.declared.schema.Property.{Property, Property-F, fold-Property}
+use Rattle.schema_values.specs.declared.schema.Schema.{Schema, Schema-F, fold-Schema}
+use Rattle.schema_values.specs.declared.schema.SchemaObject.{SchemaObject, SchemaObject-F, fold-SchemaObject}
+use Rattle.schema_values.specs.declared.schema.Subschemas.{Subschemas, Subschemas-F, fold-Subschemas}
+use Rattle.openapi_values.specs.IfTrue.{if_true}
+use Rattle.openapi_values.specs.Objects.{Entry, pair_member, object_of, reference_json, unless_empty}
+
+-- what a schema is written as: a schema under a title, where one is given; beside it the truth value that it is
+pub record Written : Type 0 where
+  pub truth : Option Bool
+  pub under : Option (List ℕ) → Json
+
+abbrev pub untitled : Written → Json
+untitled written = written.under None
+
+-- one level of each type, with what the smaller schemas are written as
+abbrev pub Level : ((A B C D E F G : Type 0) → Type 0) → Type 0
+Level F = F Json Written (List Entry) (List Entry) (List ℕ × Json) (Option (List ℕ) → Json) (List Entry)
+
+-- `{}` admits all, and `{"not":{}}` nothing
+abbrev pub truth_json : Bool → Json
+truth_json true = object_of []
+truth_json false = object_of ((codes "not", Some (object_of [])) ∷ [])
+
+abbrev pub schema_step : Level Schema-F → Written
+schema_step (open_types.Bool truth) = record { truth = Some truth; under = λ title. truth_json truth }
+schema_step (open_types.Object under) = record { truth = None; under = under }
+
+abbrev pub items_step : Level Items-F → Json
+items_step (open_types.One written) = untitled written
+
+abbrev pub count_json : Option ℕ → Option Json
+count_json = option_map (λ n. Int (pos n))
+
+abbrev pub array_step : Level ArrayParts-F → List Entry
+array_step array = (codes "items", array.items) ∷ (codes "minItems", count_json array.min) ∷ (codes "maxItems", count_json array.max) ∷ []
+
+abbrev pub property_step : Level Property-F → List ℕ × Json
+property_step property = (property.name, untitled property.schema)
+
+abbrev pub names_json : List (List ℕ) → Option Json
+names_json [] = None
+names_json (name ∷ names) = Some (ListOf (map Text (name ∷ names)))
+
+-- `additionalProperties` is a truth value where its schema is one
+abbrev pub additional_json : Written → Json
+additional_json written = option_map_or Truth written.truth (untitled written)
+
+abbrev pub object_parts_step : Level ObjectParts-F → List Entry
+object_parts_step object =
+    (codes "properties", unless_empty (map pair_member object.properties))
+    ∷ (codes "required", names_json object.required)
+    ∷ (codes "additionalProperties", option_map additional_json object.additional)
+    ∷ []
+
+abbrev pub schemas_json : Option (List Written) → Option Json
+schemas_json = option_map (λ schemas. ListOf (map untitled schemas))
+
+abbrev pub subschemas_step : Level Subschemas-F → List Entry
+subschemas_step subschemas = (codes "allOf", schemas_json subschemas.all_of) ∷ (codes "anyOf", schemas_json subschemas.any_of) ∷ []
+
+abbrev pub type_name : InstanceType → List ℕ
+type_name Boolean = codes "boolean"
+type_name Object = codes "object"
+type_name Array = codes "array"
+type_name String = codes "string"
+type_name Integer = codes "integer"
+
+abbrev pub annotations : Option (List ℕ) → Option (List ℕ) → Option (List ℕ) → Bool → List Entry
+annotations given title description nullable =
+    (codes "nullable", if_true nullable) ∷ (codes "title", option_map Text (option_or given title)) ∷ (codes "description", option_map Text description) ∷ []
+
+abbrev pub number_entries : Option (List ℕ) → Option NumberBounds → List Entry
+number_entries format bounds =
+    (codes "format", option_map Text format)
+    ∷ (codes "minimum", option_map Int (option_and_then (λ b. b.minimum) bounds))
+    ∷ (codes "maximum", option_map Int (option_and_then (λ b. b.maximum) bounds))
+    ∷ []
+
+abbrev pub text_entries : Option (List ℕ) → Option LengthBounds → List Entry
+text_entries format bounds =
+    (codes "format", option_map Text format)
+    ∷ (codes "minLength", count_json (option_and_then (λ b. b.min) bounds))
+    ∷ (codes "maxLength", count_json (option_and_then (λ b. b.max) bounds))
+    ∷ []
+
+-- the members that a type has beside its name
+abbrev pub kind_entries : InstanceType → Option (List ℕ) → Option NumberBounds → Option LengthBounds → Option (List Entry) → Option (List Entry) → List Entry
+kind_entries Boolean format number text array object = []
+kind_entries Object format number text array object = unwrap_or object []
+kind_entries Array format number text array object = unwrap_or array []
+kind_entries String format number text array object = text_entries format text
+kind_entries Integer format number text array object = number_entries format number
+
+abbrev pub type_entries : Option InstanceTypes → Option (List ℕ) → Option NumberBounds → Option LengthBounds → Option (List Entry) → Option (List Entry) → List Entry
+type_entries None format number text array object = []
+type_entries (Some (Single type)) format number text array object = (codes "type", Some (Text (type_name type))) ∷ kind_entries type format number text array object
+
+-- a reference stands alone; else annotations come first, then the members of the type, then the subschemas
+abbrev pub object_step : Level SchemaObject-F → Option (List ℕ) → Json
+object_step schema given =
+    option_map_or reference_json schema.reference
+    (object_of (
+    (annotations given schema.title schema.description schema.nullable
+    ++ type_entries schema.instance_type schema.format schema.number schema.string schema.array schema.object)
+    ++ unwrap_or schema.subschemas []))
+
+-- each type, as it is written
+unfoldable pub schema_written : Schema → Written
+schema_written = fold-Schema Json Written (List Entry) (List Entry) (List ℕ × Json) (Option (List ℕ) → Json) (List Entry) items_step schema_step array_step object_parts_step property_step object_step subschemas_step
+
+unfoldable pub items_written : Items → Json
+items_written = fold-Items Json Written (List Entry) (List Entry) (List ℕ × Json) (Option (List ℕ) → Json) (List Entry) items_step schema_step array_step object_parts_step property_step object_step subschemas_step
+
+unfoldable pub array_written : ArrayParts → List Entry
+array_written = fold-ArrayParts Json Written (List Entry) (List Entry) (List ℕ × Json) (Option (List ℕ) → Json) (List Entry) items_step schema_step array_step object_parts_step property_step object_step subschemas_step
+
+unfoldable pub object_parts_written : ObjectParts → List Entry
+object_parts_written = fold-ObjectParts Json Written (List Entry) (List Entry) (List ℕ × Json) (Option (List ℕ) → Json) (List Entry) items_step schema_step array_step object_parts_step property_step object_step subschemas_step
+
+unfoldable pub property_written : Property → List ℕ × Json
+property_written = fold-Property Json Written (List Entry) (List Entry) (List ℕ × Json) (Option (List ℕ) → Json) (List Entry) items_step schema_step array_step object_parts_step property_step object_step subschemas_step
+
+unfoldable pub object_written : SchemaObject → Option (List ℕ) → Json
+object_written = fold-SchemaObject Json Written (List Entry) (List Entry) (List ℕ × Json) (Option (List ℕ) → Json) (List Entry) items_step schema_step array_step object_parts_step property_step object_step subschemas_step
+
+unfoldable pub subschemas_written : Subschemas → List Entry
+subschemas_written = fold-Subschemas Json Written (List Entry) (List Entry) (List ℕ × Json) (Option (List ℕ) → Json) (List Entry) items_step schema_step array_step object_parts_step property_step object_step subschemas_step
+
+-- a schema, under a title where one is given
+abbrev pub schema_json : Option (List ℕ) → Schema → Json
+schema_json title schema = (schema_written schema).under title

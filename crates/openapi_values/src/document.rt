@@ -1,0 +1,99 @@
+use crate::media::ResponseObject;
+use crate::objects::{add, ascii};
+use crate::operation::PathItem;
+use crate::part::{Part, copy_map, map_json, map_unless_empty};
+use schema_values::{Json, List, Text};
+use std::alloc::{AllocError, Global};
+
+/// What an API is: an OpenAPI 3.0.3 document.
+#[derive(Drop)]
+pub struct OpenApi {
+    pub info: Info,
+    pub paths: List<(Text, PathItem)>,
+    pub components: Components,
+}
+
+/// The title and the version of an API.
+#[derive(Drop)]
+pub struct Info {
+    pub title: Text,
+    pub version: Text,
+}
+
+/// What other parts refer to by names: responses and schemas.
+#[derive(Drop)]
+pub struct Components {
+    pub responses: List<(Text, ResponseObject)>,
+    pub schemas: List<(Text, Json)>,
+}
+
+impl Part for Info {
+    ghost use Rattle.openapi_values.specs.Document.{info_json};
+
+    ghost json = { info_json };
+
+    fn to_json(&self, alloc: Global) -> Result<Json, AllocError> {
+        let mut members = List::new(alloc);
+        let title = self.title.to_json(alloc)?;
+        add(alloc, &mut members, "title", Some(title))?;
+        let version = self.version.to_json(alloc)?;
+        add(alloc, &mut members, "version", Some(version))?;
+        Ok(Json::Object(members))
+    }
+
+    fn copy(&self, alloc: Global) -> Result<Info, AllocError> {
+        Ok(Info {
+            title: self.title.copy(alloc)?,
+            version: self.version.copy(alloc)?,
+        })
+    }
+}
+
+impl Part for Components {
+    ghost use Rattle.openapi_values.specs.Document.{components_json};
+
+    ghost json = { components_json };
+
+    fn to_json(&self, alloc: Global) -> Result<Json, AllocError> {
+        let mut members = List::new(alloc);
+        let responses = map_unless_empty(alloc, &self.responses)?;
+        add(alloc, &mut members, "responses", responses)?;
+        let schemas = map_unless_empty(alloc, &self.schemas)?;
+        add(alloc, &mut members, "schemas", schemas)?;
+        Ok(Json::Object(members))
+    }
+
+    fn copy(&self, alloc: Global) -> Result<Components, AllocError> {
+        Ok(Components {
+            responses: copy_map(alloc, &self.responses)?,
+            schemas: copy_map(alloc, &self.schemas)?,
+        })
+    }
+}
+
+impl Part for OpenApi {
+    ghost use Rattle.openapi_values.specs.Document.{open_api_json};
+
+    ghost json = { open_api_json };
+
+    fn to_json(&self, alloc: Global) -> Result<Json, AllocError> {
+        let mut members = List::new(alloc);
+        let version = Json::Text(ascii(alloc, "3.0.3")?);
+        add(alloc, &mut members, "openapi", Some(version))?;
+        let info = self.info.to_json(alloc)?;
+        add(alloc, &mut members, "info", Some(info))?;
+        let paths = Json::Object(map_json(alloc, &self.paths)?);
+        add(alloc, &mut members, "paths", Some(paths))?;
+        let components = self.components.to_json(alloc)?;
+        add(alloc, &mut members, "components", Some(components))?;
+        Ok(Json::Object(members))
+    }
+
+    fn copy(&self, alloc: Global) -> Result<OpenApi, AllocError> {
+        Ok(OpenApi {
+            info: self.info.copy(alloc)?,
+            paths: copy_map(alloc, &self.paths)?,
+            components: self.components.copy(alloc)?,
+        })
+    }
+}

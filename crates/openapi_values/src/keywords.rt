@@ -1,0 +1,138 @@
+ghost use Rattle.std.specs.Prelude.{◌≡◌, IsTrue, bytes_eq, option_map};
+ghost use Rattle.std.specs.Str.{chars};
+ghost use Rattle.schema_values.specs.Ascii.{all_ascii};
+ghost use Rattle.openapi_values.specs.Keywords.{after, is_annotation, bound_or, part_of, keyword_of};
+
+use schema_values::Text;
+
+/// The members of a schema object, by their names.
+#[derive(Drop, Clone, Copy)]
+pub enum Keyword {
+    Reference,
+    Nullable,
+    Annotation,
+    OfType,
+    Format,
+    Minimum,
+    Maximum,
+    ExclusiveMinimum,
+    ExclusiveMaximum,
+    MinLength,
+    MaxLength,
+    Items,
+    MinItems,
+    MaxItems,
+    Properties,
+    Required,
+    AdditionalProperties,
+    MinProperties,
+    MaxProperties,
+    AllOf,
+    AnyOf,
+    OneOf,
+    Not,
+    Other,
+}
+
+/// Whether a text is an ASCII word.
+pub fn is_word(text: &Text, word: &str) -> bool
+    requires { IsTrue (all_ascii word.now) }
+    ensures { result ≡ bytes_eq text.now word.now }
+{
+    text.equals_str(word)
+}
+
+/// What follows an ASCII prefix.
+pub fn text_after<'a>(text: &'a Text, prefix: &str) -> Option<&'a str>
+    requires { IsTrue (all_ascii prefix.now) }
+    ensures { option_map (λ rest. chars rest.now) result ≡ after prefix.now text.now }
+{
+    text.as_str().strip_prefix(prefix)
+}
+
+#[tactic(auto, unfolding(crate::specs::Keywords::is_annotation))]
+fn names_annotation(name: &Text) -> bool
+    ensures { result ≡ is_annotation name.now }
+{
+    is_word(name, "title")
+        || is_word(name, "description")
+        || is_word(name, "default")
+        || is_word(name, "readOnly")
+        || is_word(name, "writeOnly")
+        || is_word(name, "deprecated")
+        || is_word(name, "example")
+        || text_after(name, "x-").is_some()
+}
+
+#[tactic(auto, unfolding(crate::specs::Keywords::bound_or))]
+fn bound_named(name: &Text, other: Keyword) -> Keyword
+    ensures { result ≡ bound_or other name.now }
+{
+    if is_word(name, "minimum") {
+        Keyword::Minimum
+    } else if is_word(name, "maximum") {
+        Keyword::Maximum
+    } else if is_word(name, "exclusiveMinimum") {
+        Keyword::ExclusiveMinimum
+    } else if is_word(name, "exclusiveMaximum") {
+        Keyword::ExclusiveMaximum
+    } else if is_word(name, "minLength") {
+        Keyword::MinLength
+    } else if is_word(name, "maxLength") {
+        Keyword::MaxLength
+    } else if is_word(name, "minItems") {
+        Keyword::MinItems
+    } else if is_word(name, "maxItems") {
+        Keyword::MaxItems
+    } else if is_word(name, "minProperties") {
+        Keyword::MinProperties
+    } else if is_word(name, "maxProperties") {
+        Keyword::MaxProperties
+    } else {
+        other
+    }
+}
+
+#[tactic(auto, unfolding(crate::specs::Keywords::part_of))]
+fn part_named(name: &Text) -> Keyword
+    ensures { result ≡ part_of name.now }
+{
+    if is_word(name, "$ref") {
+        Keyword::Reference
+    } else if is_word(name, "nullable") {
+        Keyword::Nullable
+    } else if is_word(name, "type") {
+        Keyword::OfType
+    } else if is_word(name, "format") {
+        Keyword::Format
+    } else if is_word(name, "items") {
+        Keyword::Items
+    } else if is_word(name, "properties") {
+        Keyword::Properties
+    } else if is_word(name, "required") {
+        Keyword::Required
+    } else if is_word(name, "additionalProperties") {
+        Keyword::AdditionalProperties
+    } else if is_word(name, "allOf") {
+        Keyword::AllOf
+    } else if is_word(name, "anyOf") {
+        Keyword::AnyOf
+    } else if is_word(name, "oneOf") {
+        Keyword::OneOf
+    } else if is_word(name, "not") {
+        Keyword::Not
+    } else {
+        Keyword::Other
+    }
+}
+
+/// The member that a name stands for.
+pub fn keyword_named(name: &Text) -> Keyword
+    ensures { result ≡ keyword_of name.now }
+{
+    if names_annotation(name) {
+        Keyword::Annotation
+    } else {
+        bound_named(name, part_named(name))
+    }
+}

@@ -1,0 +1,112 @@
+ghost use Rattle.std.specs.Prelude.{◌≡◌, IfOk};
+ghost use Rattle.openapi_values.specs.IfTrue.{if_true};
+
+use crate::objects::{add, reference};
+use crate::part::{Part, copy_map, copy_option, map_unless_empty, option_json};
+use schema_values::{Json, List, Text};
+use std::alloc::{AllocError, Global};
+
+/// A body of one media type.
+#[derive(Drop)]
+pub struct MediaType {
+    pub schema: Json,
+}
+
+/// The body of a request, by media types.
+#[derive(Drop)]
+pub struct RequestBody {
+    pub content: List<(Text, MediaType)>,
+    pub required: bool,
+}
+
+/// A response: its description and its bodies by media types, or a reference alone.
+#[derive(Drop)]
+pub struct ResponseObject {
+    pub description: Option<Text>,
+    pub content: List<(Text, MediaType)>,
+    pub reference: Option<Text>,
+}
+
+impl Part for MediaType {
+    ghost use Rattle.openapi_values.specs.Operation.{media_type_json};
+
+    ghost json = { media_type_json };
+
+    fn to_json(&self, alloc: Global) -> Result<Json, AllocError> {
+        let mut members = List::new(alloc);
+        add(
+            alloc,
+            &mut members,
+            "schema",
+            Some(self.schema.copy(alloc)?),
+        )?;
+        Ok(Json::Object(members))
+    }
+
+    fn copy(&self, alloc: Global) -> Result<MediaType, AllocError> {
+        let schema = self.schema.copy(alloc)?;
+        Ok(MediaType { schema })
+    }
+}
+
+impl Part for RequestBody {
+    ghost use Rattle.openapi_values.specs.Operation.{request_body_json};
+
+    ghost json = { request_body_json };
+
+    fn to_json(&self, alloc: Global) -> Result<Json, AllocError> {
+        let mut members = List::new(alloc);
+        let content = map_unless_empty(alloc, &self.content)?;
+        add(alloc, &mut members, "content", content)?;
+        add(alloc, &mut members, "required", true_json(self.required))?;
+        Ok(Json::Object(members))
+    }
+
+    fn copy(&self, alloc: Global) -> Result<RequestBody, AllocError> {
+        let content = copy_map(alloc, &self.content)?;
+        let required = self.required;
+        Ok(RequestBody { content, required })
+    }
+}
+
+pub(crate) fn true_json(truth: bool) -> Option<Json>
+    ensures { result ≡ if_true truth }
+{
+    if truth { Some(Json::Bool(true)) } else { None }
+}
+
+impl ResponseObject {
+    ghost use Rattle.openapi_values.specs.Operation.{described_json};
+
+    fn described(&self, alloc: Global) -> Result<Json, AllocError>
+        ensures { IfOk result (λ json. json ≡ described_json self.now) }
+    {
+        let mut members = List::new(alloc);
+        let description = option_json(alloc, &self.description)?;
+        add(alloc, &mut members, "description", description)?;
+        let content = map_unless_empty(alloc, &self.content)?;
+        add(alloc, &mut members, "content", content)?;
+        Ok(Json::Object(members))
+    }
+}
+
+impl Part for ResponseObject {
+    ghost use Rattle.openapi_values.specs.Operation.{response_json};
+
+    ghost json = { response_json };
+
+    fn to_json(&self, alloc: Global) -> Result<Json, AllocError> {
+        match &self.reference {
+            Some(text) => reference(alloc, text),
+            None => self.described(alloc),
+        }
+    }
+
+    fn copy(&self, alloc: Global) -> Result<ResponseObject, AllocError> {
+        Ok(ResponseObject {
+            description: copy_option(alloc, &self.description)?,
+            content: copy_map(alloc, &self.content)?,
+            reference: copy_option(alloc, &self.reference)?,
+        })
+    }
+}

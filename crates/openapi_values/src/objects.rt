@@ -1,0 +1,45 @@
+ghost use Rattle.std.specs.Prelude.{◌≡◌, IfOk, OnOk, IsTrue, [], ◌∷◌, ◌++◌};
+ghost use Rattle.schema_values.specs.Ascii.{all_ascii};
+ghost use Rattle.openapi_values.specs.Objects.{present, reference_json};
+
+use schema_values::{Json, List, Member, Text};
+use std::alloc::{AllocError, Global};
+
+/// A text of an ASCII word.
+pub fn ascii(alloc: Global, word: &str) -> Result<Text, AllocError>
+    requires { IsTrue (all_ascii word.now) }
+    ensures { IfOk result (λ text. text ≡ word.now) }
+{
+    let mut text = Text::new(alloc);
+    text.push_ascii(word)?;
+    Ok(text)
+}
+
+/// Adds a member of an ASCII name, where it has a value.
+pub fn add(
+    alloc: Global,
+    members: &mut List<Member>,
+    name: &str,
+    value: Option<Json>,
+) -> Result<(), AllocError>
+    requires { IsTrue (all_ascii name.now) }
+    ensures { OnOk result (members.new ≡ members.old ++ present name.now value []) }
+{
+    match value {
+        Some(value) => {
+            let name = ascii(alloc, name)?;
+            members.push(Member { name, value })
+        }
+        None => Ok(()),
+    }
+}
+
+/// A reference alone.
+pub fn reference(alloc: Global, reference: &Text) -> Result<Json, AllocError>
+    ensures { IfOk result (λ json. json ≡ reference_json reference.now) }
+{
+    let mut members = List::new(alloc);
+    let text = Json::Text(reference.copy(alloc)?);
+    add(alloc, &mut members, "$ref", Some(text))?;
+    Ok(Json::Object(members))
+}

@@ -1,0 +1,303 @@
+ghost use Rattle.std.specs.Prelude.{◌≡◌, pos, length, ◌||◌, not, ℕ, List};
+ghost use Rattle.std.specs.List.{list_all};
+ghost use Rattle.schema_values.specs.declared.json_value.Json.{Json as JsonValue, out-Json};
+ghost use Rattle.openapi_values.specs.Keywords.{keyword_of};
+ghost use Rattle.openapi_values.specs.Levels.{is_null, is_true, has_type, has_member, as_number, as_text, as_list, as_object};
+ghost use Rattle.openapi_values.specs.Lookup.{is_integer};
+ghost use Rattle.openapi_values.specs.Options.{is_some_and, is_none_or};
+ghost use Rattle.openapi_values.specs.Rows.{in_format, is_between, is_under, is_least, is_greatest, is_enough, is_not_too_many, is_property, names_stand, is_read, in_subset};
+
+use crate::find::{find_word, has_integer_type, stands};
+use crate::keywords::{Keyword, is_word, keyword_named};
+use schema_values::{Json, Member, Text};
+
+pub fn is_null_value(value: &Json) -> bool
+    ensures { result ≡ is_null (out-Json value.now) }
+{
+    match value {
+        Json::Null => true,
+        _ => false,
+    }
+}
+
+pub fn is_true_value(value: &Json) -> bool
+    ensures { result ≡ is_true (out-Json value.now) }
+{
+    match value {
+        Json::Bool(truth) => *truth,
+        _ => false,
+    }
+}
+
+/// Whether each member of a schema is of the subset that is read.
+pub fn all_read(schema: &[Member]) -> bool
+    ensures { result ≡ in_subset schema.now }
+{
+    for member in schema {
+        if !is_member_read(member) {
+            return false;
+        }
+    }
+    true
+}
+
+fn is_member_read(member: &Member) -> bool
+    ensures { result ≡ is_read (keyword_of member.now.name) member.now.value }
+{
+    match keyword_named(&member.name) {
+        Keyword::Reference | Keyword::Other => false,
+        Keyword::AllOf => match &member.value {
+            Json::List(schemas) => schemas.len() == 1,
+            _ => false,
+        },
+        Keyword::Not => match &member.value {
+            Json::Object(members) => members.len() == 0,
+            _ => false,
+        },
+        _ => true,
+    }
+}
+
+pub fn is_of_type(name: &Json, value: &Json) -> bool
+    ensures { result ≡ is_some_and (as_text (out-Json name.now)) (λ name. has_type name (out-Json value.now)) }
+{
+    match name {
+        Json::Text(name) => is_type(name, value),
+        _ => false,
+    }
+}
+
+fn is_type(name: &Text, value: &Json) -> bool
+    ensures { result ≡ has_type name.now (out-Json value.now) }
+{
+    match value {
+        Json::Null => false,
+        Json::Bool(_) => is_word(name, "boolean"),
+        Json::Int(_) => is_word(name, "integer"),
+        Json::Text(_) => is_word(name, "string"),
+        Json::List(_) => is_word(name, "array"),
+        Json::Object(_) => is_word(name, "object"),
+    }
+}
+
+/// Whether a number is of the format that stands beside the type integer.
+pub fn is_of_format(schema: &[Member], format: &Json, value: &Json) -> bool
+    ensures { result ≡ is_none_or (as_number (out-Json value.now)) (λ n. not (is_integer schema.now) || is_some_and (as_text (out-Json format.now)) (λ name. in_format name n)) }
+{
+    match value {
+        Json::Int(number) => !has_integer_type(schema) || is_in_format(format, number),
+        _ => true,
+    }
+}
+
+fn is_in_format(format: &Json, number: &i128) -> bool
+    ensures { result ≡ is_some_and (as_text (out-Json format.now)) (λ name. in_format name number.now) }
+{
+    match format {
+        Json::Text(name) => is_in_format_named(name, number),
+        _ => false,
+    }
+}
+
+#[tactic(auto, unfolding(crate::specs::Rows::in_format))]
+fn is_in_format_named(name: &Text, number: &i128) -> bool
+    ensures { result ≡ in_format name.now number.now }
+{
+    if is_word(name, "int8") {
+        lies_between(-128, 127, number)
+    } else if is_word(name, "int16") {
+        lies_between(-32_768, 32_767, number)
+    } else if is_word(name, "int32") {
+        lies_between(-2_147_483_648, 2_147_483_647, number)
+    } else if is_word(name, "int64") {
+        lies_between(
+            -9_223_372_036_854_775_808,
+            9_223_372_036_854_775_807,
+            number,
+        )
+    } else if is_word(name, "uint8") {
+        lies_between(0, 255, number)
+    } else if is_word(name, "uint16") {
+        lies_between(0, 65_535, number)
+    } else if is_word(name, "uint32") {
+        lies_between(0, 4_294_967_295, number)
+    } else if is_word(name, "uint64") {
+        lies_between(0, 18_446_744_073_709_551_615, number)
+    } else {
+        true
+    }
+}
+
+fn lies_between(low: i128, high: i128, number: &i128) -> bool
+    ensures { result ≡ is_between low high number.now }
+{
+    low <= *number && *number <= high
+}
+
+/// Whether a number is at least the least one, or above it.
+pub fn is_at_least(strictly: bool, least: &Json, value: &Json) -> bool
+    ensures { result ≡ is_none_or (as_number (out-Json value.now)) (λ n. is_least strictly n least.now) }
+{
+    match value {
+        Json::Int(number) => not_below(strictly, least, number),
+        _ => true,
+    }
+}
+
+/// Whether a number is at most the greatest one, or below it.
+pub fn is_at_most(strictly: bool, greatest: &Json, value: &Json) -> bool
+    ensures { result ≡ is_none_or (as_number (out-Json value.now)) (λ n. is_greatest strictly n greatest.now) }
+{
+    match value {
+        Json::Int(number) => not_above(strictly, greatest, number),
+        _ => true,
+    }
+}
+
+fn not_below(strictly: bool, least: &Json, number: &i128) -> bool
+    ensures { result ≡ is_least strictly number.now least.now }
+{
+    match least {
+        Json::Int(least) => lies_under(strictly, least, number),
+        _ => false,
+    }
+}
+
+fn not_above(strictly: bool, greatest: &Json, number: &i128) -> bool
+    ensures { result ≡ is_greatest strictly number.now greatest.now }
+{
+    match greatest {
+        Json::Int(greatest) => lies_under(strictly, number, greatest),
+        _ => false,
+    }
+}
+
+fn lies_under(strictly: bool, low: &i128, high: &i128) -> bool
+    ensures { result ≡ is_under strictly low.now high.now }
+{
+    if strictly {
+        *low < *high
+    } else {
+        *low <= *high
+    }
+}
+
+fn has_enough(count: usize, least: &Json) -> bool
+    ensures { result ≡ is_enough count least.now }
+{
+    not_below(false, least, &(count as i128))
+}
+
+fn has_not_too_many(count: usize, greatest: &Json) -> bool
+    ensures { result ≡ is_not_too_many count greatest.now }
+{
+    not_above(false, greatest, &(count as i128))
+}
+
+fn characters(text: &Text) -> usize
+    ensures { result ≡ length text.now }
+{
+    text.as_str().chars().count()
+}
+
+pub fn is_long_enough(least: &Json, value: &Json) -> bool
+    ensures { result ≡ is_none_or (as_text (out-Json value.now)) (λ t. is_enough (length t) least.now) }
+{
+    match value {
+        Json::Text(text) => has_enough(characters(text), least),
+        _ => true,
+    }
+}
+
+pub fn is_short_enough(greatest: &Json, value: &Json) -> bool
+    ensures { result ≡ is_none_or (as_text (out-Json value.now)) (λ t. is_not_too_many (length t) greatest.now) }
+{
+    match value {
+        Json::Text(text) => has_not_too_many(characters(text), greatest),
+        _ => true,
+    }
+}
+
+pub fn has_enough_items(least: &Json, value: &Json) -> bool
+    ensures { result ≡ is_none_or (as_list (out-Json value.now)) (λ (xs : List JsonValue). is_enough (length xs) least.now) }
+{
+    match value {
+        Json::List(items) => has_enough(items.len(), least),
+        _ => true,
+    }
+}
+
+pub fn has_few_items(greatest: &Json, value: &Json) -> bool
+    ensures { result ≡ is_none_or (as_list (out-Json value.now)) (λ (xs : List JsonValue). is_not_too_many (length xs) greatest.now) }
+{
+    match value {
+        Json::List(items) => has_not_too_many(items.len(), greatest),
+        _ => true,
+    }
+}
+
+pub fn has_enough_members(least: &Json, value: &Json) -> bool
+    ensures { result ≡ is_none_or (as_object (out-Json value.now)) (λ ms. is_enough (length ms) least.now) }
+{
+    match value {
+        Json::Object(members) => has_enough(members.len(), least),
+        _ => true,
+    }
+}
+
+pub fn has_few_members(greatest: &Json, value: &Json) -> bool
+    ensures { result ≡ is_none_or (as_object (out-Json value.now)) (λ ms. is_not_too_many (length ms) greatest.now) }
+{
+    match value {
+        Json::Object(members) => has_not_too_many(members.len(), greatest),
+        _ => true,
+    }
+}
+
+pub fn has_names(names: &Json, value: &Json) -> bool
+    ensures { result ≡ is_none_or (as_object (out-Json value.now)) (λ ms. names_stand names.now ms) }
+{
+    match value {
+        Json::Object(members) => all_named(names, members.as_slice()),
+        _ => true,
+    }
+}
+
+fn all_named(names: &Json, members: &[Member]) -> bool
+    ensures { result ≡ names_stand names.now members.now }
+{
+    match names {
+        Json::List(names) => all_stand(names.as_slice(), members),
+        _ => false,
+    }
+}
+
+fn all_stand(names: &[Json], members: &[Member]) -> bool
+    ensures { result ≡ list_all (λ name. is_some_and (as_text (out-Json name)) (λ t. has_member t members.now)) names.now }
+{
+    for name in names {
+        if !is_name(name, members) {
+            return false;
+        }
+    }
+    true
+}
+
+fn is_name(name: &Json, members: &[Member]) -> bool
+    ensures { result ≡ is_some_and (as_text (out-Json name.now)) (λ t. has_member t members.now) }
+{
+    match name {
+        Json::Text(name) => stands(members, name),
+        _ => false,
+    }
+}
+
+/// Whether a name is one of the schema's properties.
+pub fn names_property(schema: &[Member], name: &Text) -> bool
+    ensures { result ≡ is_property schema.now name.now }
+{
+    match find_word(schema, "properties") {
+        Some(Json::Object(properties)) => stands(properties.as_slice(), name),
+        _ => false,
+    }
+}

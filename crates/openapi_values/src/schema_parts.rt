@@ -1,0 +1,177 @@
+ghost use Rattle.std.specs.Prelude.{◌≡◌, ◌++◌, IfOk, OnOk, map, option_map, option_and_then};
+ghost use Rattle.std.specs.Option.{option_or};
+ghost use Rattle.schema_values.specs.declared.json_value.Json.{Text as TextOf, Int as IntOf};
+ghost use Rattle.schema_values.specs.declared.schema.SchemaObject.{out-SchemaObject};
+ghost use Rattle.openapi_values.specs.Objects.{members_of};
+ghost use Rattle.openapi_values.specs.SchemaJson.{annotations, number_entries, text_entries, count_json as count_of, names_json, truth_json as json_of_truth, type_name};
+
+use crate::media::true_json;
+use crate::objects::{add, ascii};
+use crate::part::option_json;
+use schema_values::{
+    InstanceType, Json, LengthBounds, List, Member, NumberBounds, SchemaObject, Text,
+};
+use std::alloc::{AllocError, Global};
+
+/// `{}` for true, and `{"not":{}}` for false.
+pub fn truth_json(alloc: Global, truth: bool) -> Result<Json, AllocError>
+    ensures { IfOk result (λ json. json ≡ json_of_truth truth) }
+{
+    let mut members = List::new(alloc);
+    if !truth {
+        let all = Json::Object(List::new(alloc));
+        add(alloc, &mut members, "not", Some(all))?;
+    }
+    Ok(Json::Object(members))
+}
+
+/// The name of a type.
+pub fn type_text(alloc: Global, kind: InstanceType) -> Result<Json, AllocError>
+    ensures { IfOk result (λ json. json ≡ TextOf (type_name kind)) }
+{
+    let name = match kind {
+        InstanceType::Boolean => ascii(alloc, "boolean")?,
+        InstanceType::Object => ascii(alloc, "object")?,
+        InstanceType::Array => ascii(alloc, "array")?,
+        InstanceType::String => ascii(alloc, "string")?,
+        InstanceType::Integer => ascii(alloc, "integer")?,
+    };
+    Ok(Json::Text(name))
+}
+
+pub fn count_json(count: Option<u32>) -> Option<Json>
+    ensures { result ≡ count_of count }
+{
+    match count {
+        Some(count) => Some(Json::Int(count as i128)),
+        None => None,
+    }
+}
+
+/// The given title, or else the schema's own.
+fn title_json(
+    alloc: Global,
+    given: &Option<Text>,
+    title: &Option<Text>,
+) -> Result<Option<Json>, AllocError>
+    ensures { IfOk result (λ json. json ≡ option_map TextOf (option_or given.now title.now)) }
+{
+    match given {
+        Some(given) => Ok(Some(Json::Text(given.copy(alloc)?))),
+        None => option_json(alloc, title),
+    }
+}
+
+/// Adds the annotations, which come first.
+pub fn add_annotations(
+    alloc: Global,
+    members: &mut List<Member>,
+    given: &Option<Text>,
+    schema: &SchemaObject,
+) -> Result<(), AllocError>
+    ensures { OnOk result (members.new ≡ members.old ++ members_of (annotations given.now (out-SchemaObject schema.now).title (out-SchemaObject schema.now).description (out-SchemaObject schema.now).nullable)) }
+{
+    add(alloc, members, "nullable", true_json(schema.nullable))?;
+    let title = title_json(alloc, given, &schema.title)?;
+    add(alloc, members, "title", title)?;
+    let description = option_json(alloc, &schema.description)?;
+    add(alloc, members, "description", description)?;
+    Ok(())
+}
+
+fn bound_json(bound: Option<i128>) -> Option<Json>
+    ensures { result ≡ option_map IntOf bound }
+{
+    match bound {
+        Some(bound) => Some(Json::Int(bound)),
+        None => None,
+    }
+}
+
+fn least(bounds: &Option<NumberBounds>) -> Option<i128>
+    ensures { result ≡ option_and_then (λ b. b.minimum) bounds.now }
+{
+    match bounds {
+        Some(bounds) => bounds.minimum,
+        None => None,
+    }
+}
+
+fn greatest(bounds: &Option<NumberBounds>) -> Option<i128>
+    ensures { result ≡ option_and_then (λ b. b.maximum) bounds.now }
+{
+    match bounds {
+        Some(bounds) => bounds.maximum,
+        None => None,
+    }
+}
+
+/// Adds the members of an integer.
+pub fn add_number(
+    alloc: Global,
+    members: &mut List<Member>,
+    format: &Option<Text>,
+    bounds: &Option<NumberBounds>,
+) -> Result<(), AllocError>
+    ensures { OnOk result (members.new ≡ members.old ++ members_of (number_entries format.now bounds.now)) }
+{
+    let format = option_json(alloc, format)?;
+    add(alloc, members, "format", format)?;
+    add(alloc, members, "minimum", bound_json(least(bounds)))?;
+    add(alloc, members, "maximum", bound_json(greatest(bounds)))?;
+    Ok(())
+}
+
+fn shortest(bounds: &Option<LengthBounds>) -> Option<u32>
+    ensures { result ≡ option_and_then (λ b. b.min) bounds.now }
+{
+    match bounds {
+        Some(bounds) => bounds.min,
+        None => None,
+    }
+}
+
+fn longest(bounds: &Option<LengthBounds>) -> Option<u32>
+    ensures { result ≡ option_and_then (λ b. b.max) bounds.now }
+{
+    match bounds {
+        Some(bounds) => bounds.max,
+        None => None,
+    }
+}
+
+/// Adds the members of a string.
+pub fn add_text(
+    alloc: Global,
+    members: &mut List<Member>,
+    format: &Option<Text>,
+    bounds: &Option<LengthBounds>,
+) -> Result<(), AllocError>
+    ensures { OnOk result (members.new ≡ members.old ++ members_of (text_entries format.now bounds.now)) }
+{
+    let format = option_json(alloc, format)?;
+    add(alloc, members, "format", format)?;
+    add(alloc, members, "minLength", count_json(shortest(bounds)))?;
+    add(alloc, members, "maxLength", count_json(longest(bounds)))?;
+    Ok(())
+}
+
+/// The list of names, unless there is none.
+pub fn names(alloc: Global, names: &List<Text>) -> Result<Option<Json>, AllocError>
+    ensures { IfOk result (λ json. json ≡ names_json names.now) }
+{
+    if names.len() == 0 {
+        return Ok(None);
+    }
+    Ok(Some(Json::List(texts(alloc, names.as_slice())?)))
+}
+
+fn texts(alloc: Global, texts: &[Text]) -> Result<List<Json>, AllocError>
+    ensures { IfOk result (λ list. list ≡ map TextOf texts.now) }
+{
+    let mut list = List::new(alloc);
+    for text in texts {
+        list.push(Json::Text(text.copy(alloc)?))?;
+    }
+    Ok(list)
+}

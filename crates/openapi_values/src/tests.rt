@@ -1,0 +1,211 @@
+use crate::{
+    Components, Info, J2oasError, MediaType, OpenApi, Operation, Part, PathItem, RequestBody,
+    ResponseObject, j2oas_schema, json_admits,
+};
+use schema_values::{
+    Boxed, InstanceType, InstanceTypes, Json, LengthBounds, List, NumberBounds, ObjectParts,
+    Property, ReadError, Schema, SchemaObject, Subschemas, Text,
+};
+use std::alloc::{AllocError, Global};
+use std::test::Fail;
+
+const DOCUMENT: &str =
+    "{\"components\":{\"schemas\":{\"Point\":{\"type\":\"object\",\"properties\":{\"label\":{\"type\":\"string\",\"minLength\":1},\"n\":{\"type\":\"integer\",\"format\":\"int32\"},\"next\":{\"nullable\":true,\"allOf\":[{\"$ref\":\"#/components/schemas/Point\"}]}},\"required\":[\"label\"]},\"Loop\":{\"$ref\":\"#/components/schemas/Loop\"}}}}";
+
+// A schema, a value, and whether it is admitted.
+const CASES: &str =
+    "[[{},[null],true],[true,1,false],[{\"not\":{}},1,false],[{\"nullable\":true,\"type\":\"string\"},null,true],[{\"nullable\":true,\"pattern\":\"a\"},null,false],[{\"type\":\"string\"},null,false],[{\"type\":\"integer\",\"format\":\"uint8\"},256,false],[{\"type\":\"integer\",\"format\":\"int8\"},-128,true],[{\"format\":\"int8\"},128,true],[{\"minimum\":1,\"exclusiveMinimum\":true},1,false],[{\"maximum\":1},1,true],[{\"minLength\":2},\"é\",false],[{\"maxLength\":1},\"é\",true],[{\"items\":{\"type\":\"boolean\"},\"minItems\":1},[true,1],false],[{\"maxItems\":1},[1,2],false],[{\"additionalProperties\":false},{},true],[{\"properties\":{\"a\":{}},\"additionalProperties\":false},{\"a\":1,\"b\":2},false],[{\"additionalProperties\":{\"type\":\"integer\"}},{\"a\":1},true],[{\"minProperties\":1},{},false],[{\"oneOf\":[{\"minimum\":1},{\"minimum\":2}]},2,false],[{\"anyOf\":[{\"minimum\":1},{\"minimum\":2}]},1,true],[{\"allOf\":[{},{}]},1,false],[{\"$ref\":\"#/components/schemas/Point\"},{\"label\":\"a\",\"next\":{\"label\":\"b\",\"next\":null}},true],[{\"$ref\":\"#/components/schemas/Point\"},{\"label\":\"a\",\"next\":{\"n\":1}},false],[{\"$ref\":\"#/components/schemas/Point\",\"title\":\"a\"},{\"label\":\"a\"},false],[{\"$ref\":\"#/components/schemas/Loop\"},1,false]]";
+
+fn holds(doc: &Json, case: &Json) -> bool {
+    match case {
+        Json::List(parts) => match parts.as_slice() {
+            [schema, value, Json::Bool(expected)] => json_admits(doc, schema, value) == *expected,
+            _ => false,
+        },
+        _ => false,
+    }
+}
+
+fn all_hold(doc: &Json, cases: &[Json]) -> bool {
+    for case in cases {
+        if !holds(doc, case) {
+            return false;
+        }
+    }
+    true
+}
+
+#[test]
+fn schemas_admit_by_their_members(rt: HostRuntime) -> Result<(), Fail> {
+    let doc = json(rt.alloc(), DOCUMENT)?;
+    let cases = json(rt.alloc(), CASES)?;
+    assert!(rt; matches!(&cases, Json::List(cases) if all_hold(&doc, cases.as_slice())));
+    Ok(())
+}
+
+fn json(alloc: Global, text: &str) -> Result<Json, ReadError> {
+    Json::read(alloc, text.as_bytes())
+}
+
+fn text(alloc: Global, text: &str) -> Result<Text, AllocError> {
+    Text::from_str(alloc, text)
+}
+
+fn under<T: Drop>(alloc: Global, name: &str, value: T) -> Result<List<(Text, T)>, AllocError> {
+    let mut map = List::new(alloc);
+    let name = text(alloc, name)?;
+    map.push((name, value))?;
+    Ok(map)
+}
+
+fn described(alloc: Global, schema: Json) -> Result<ResponseObject, AllocError> {
+    let content = under(alloc, "application/json", MediaType { schema })?;
+    let description = Some(text(alloc, "Error")?);
+    let reference = None;
+    Ok(ResponseObject {
+        description,
+        content,
+        reference,
+    })
+}
+
+fn referred(alloc: Global) -> Result<ResponseObject, AllocError> {
+    let reference = Some(text(alloc, "#/components/responses/Error")?);
+    let content = List::new(alloc);
+    let description = None;
+    Ok(ResponseObject {
+        description,
+        content,
+        reference,
+    })
+}
+
+fn taking(alloc: Global, schema: Json) -> Result<Operation, AllocError> {
+    let operation_id = text(alloc, "point_create")?;
+    let content = under(alloc, "application/json", MediaType { schema })?;
+    let responses = under(alloc, "4XX", referred(alloc)?)?;
+    let request_body = Some(RequestBody {
+        content,
+        required: true,
+    });
+    Ok(Operation {
+        operation_id,
+        request_body,
+        responses,
+    })
+}
+
+fn post(operation: Operation) -> PathItem {
+    PathItem {
+        get: None,
+        put: None,
+        post: Some(operation),
+        delete: None,
+        options: None,
+        head: None,
+        patch: None,
+        trace: None,
+    }
+}
+
+fn components(alloc: Global, schema: &Json) -> Result<Components, AllocError> {
+    let responses = under(alloc, "Error", described(alloc, schema.copy(alloc)?)?)?;
+    let schemas = under(alloc, "Any", schema.copy(alloc)?)?;
+    Ok(Components { responses, schemas })
+}
+
+fn document(alloc: Global, schema: &Json) -> Result<OpenApi, AllocError> {
+    let paths = under(alloc, "/points", post(taking(alloc, schema.copy(alloc)?)?))?;
+    let components = components(alloc, schema)?;
+    let title = text(alloc, "sample")?;
+    let version = text(alloc, "1.0.0")?;
+    let info = Info { title, version };
+    Ok(OpenApi {
+        info,
+        paths,
+        components,
+    })
+}
+
+const WRITTEN: &str =
+    "{\"openapi\":\"3.0.3\",\"info\":{\"title\":\"sample\",\"version\":\"1.0.0\"},\"paths\":{\"/points\":{\"post\":{\"operationId\":\"point_create\",\"requestBody\":{\"content\":{\"application/json\":{\"schema\":{}}},\"required\":true},\"responses\":{\"4XX\":{\"$ref\":\"#/components/responses/Error\"}}}}},\"components\":{\"responses\":{\"Error\":{\"description\":\"Error\",\"content\":{\"application/json\":{\"schema\":{}}}}},\"schemas\":{\"Any\":{}}}}";
+
+#[test]
+fn a_document_is_written_in_its_order(rt: HostRuntime) -> Result<(), Fail> {
+    let alloc = rt.alloc();
+    let schema = json(alloc, "{}")?;
+    let document = document(alloc, &schema)?;
+    let written = document.copy(alloc)?.to_json(alloc)?.compact(alloc)?;
+    assert_eq!(rt; written.as_str(), WRITTEN);
+    Ok(())
+}
+
+fn no_parts() -> SchemaObject {
+    SchemaObject {
+        title: None,
+        description: None,
+        nullable: false,
+        instance_type: None,
+        format: None,
+        subschemas: None,
+        number: None,
+        string: None,
+        array: None,
+        object: None,
+        reference: None,
+    }
+}
+
+fn of_type(kind: InstanceType) -> SchemaObject {
+    let mut schema = no_parts();
+    schema.instance_type = Some(InstanceTypes::Single(kind));
+    schema.number = Some(NumberBounds {
+        minimum: Some(-1),
+        maximum: None,
+    });
+    schema
+}
+
+fn nullable_all_of(alloc: Global, reference: &str) -> Result<SchemaObject, AllocError> {
+    let mut referring = no_parts();
+    referring.reference = Some(text(alloc, reference)?);
+    let mut all_of = List::new(alloc);
+    all_of.push(Schema::Object(Boxed::new(alloc, referring)?))?;
+    let mut schema = no_parts();
+    schema.title = Some(text(alloc, "Own")?);
+    schema.nullable = true;
+    schema.subschemas = Some(Subschemas {
+        all_of: Some(all_of),
+        any_of: None,
+    });
+    Ok(schema)
+}
+
+fn written(alloc: Global, schema: SchemaObject) -> Result<Json, J2oasError> {
+    let boxed = match Boxed::new(alloc, schema) {
+        Ok(boxed) => boxed,
+        Err(_) => return Err(J2oasError::OutOfMemory),
+    };
+    j2oas_schema(alloc, Some("Nullable_Foo"), &Schema::Object(boxed))
+}
+
+#[test]
+fn schemas_are_written_under_a_name(rt: HostRuntime) -> Result<(), Fail> {
+    let alloc = rt.alloc();
+    let schema = nullable_all_of(alloc, "#/components/schemas/Foo")?;
+    let json = written(alloc, schema)?;
+    assert_eq!(rt;
+        json.compact(alloc)?.as_str(),
+        "{\"nullable\":true,\"title\":\"Nullable_Foo\",\"allOf\":[{\"$ref\":\"#/components/schemas/Foo\"}]}"
+    );
+    let json = written(alloc, of_type(InstanceType::Integer))?;
+    assert_eq!(rt;
+        json.compact(alloc)?.as_str(),
+        "{\"title\":\"Nullable_Foo\",\"type\":\"integer\",\"minimum\":-1}"
+    );
+    let refused = written(alloc, of_type(InstanceType::Array));
+    assert!(rt; matches!(refused, Err(J2oasError::NoItems)));
+    let json = j2oas_schema(alloc, None, &Schema::Bool(false))?;
+    assert_eq!(rt; json.compact(alloc)?.as_str(), "{\"not\":{}}");
+    Ok(())
+}

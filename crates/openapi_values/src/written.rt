@@ -1,0 +1,250 @@
+ghost use Rattle.std.specs.Prelude.{◌≡◌, ◌++◌, IfOk, OnOk, [], map, option_map, unwrap_or};
+ghost use Rattle.schema_values.specs.declared.schema.ObjectParts.{out-ObjectParts};
+ghost use Rattle.schema_values.specs.declared.schema.SchemaObject.{out-SchemaObject};
+ghost use Rattle.openapi_values.specs.Objects.{members_of, unless_empty, pair_member};
+ghost use Rattle.openapi_values.specs.SchemaJson.{untitled, additional_json as json_of_additional, schemas_json as json_of_schemas, kind_entries, type_entries, schema_json, schema_written, object_written, items_written, array_written, object_parts_written, property_written, subschemas_written};
+
+use crate::objects::{add, reference};
+use crate::schema_parts::{
+    add_annotations, add_number, add_text, count_json, names, truth_json, type_text,
+};
+use schema_values::{
+    ArrayParts, InstanceType, InstanceTypes, Items, Json, List, Member, ObjectParts, Property,
+    Schema, SchemaObject, Subschemas, Text,
+};
+use std::alloc::{AllocError, Global};
+
+/// A schema as it is written, under a title where one is given.
+#[cycle(written)]
+pub fn written(alloc: Global, title: &Option<Text>, schema: &Schema) -> Result<Json, AllocError>
+    ensures { IfOk result (λ json. json ≡ schema_json title.now schema.now) }
+{
+    match schema {
+        Schema::Bool(truth) => truth_json(alloc, *truth),
+        Schema::Object(object) => object_json(alloc, title, object.get()),
+    }
+}
+
+#[cycle(written)]
+fn object_json(
+    alloc: Global,
+    title: &Option<Text>,
+    schema: &SchemaObject,
+) -> Result<Json, AllocError>
+    ensures { IfOk result (λ json. json ≡ object_written schema.now title.now) }
+{
+    if let Some(text) = &schema.reference {
+        return reference(alloc, text);
+    }
+    let mut members = List::new(alloc);
+    add_annotations(alloc, &mut members, title, schema)?;
+    add_type(alloc, &mut members, schema)?;
+    add_subschemas(alloc, &mut members, schema)?;
+    Ok(Json::Object(members))
+}
+
+#[cycle(written)]
+fn add_type(
+    alloc: Global,
+    members: &mut List<Member>,
+    schema: &SchemaObject,
+) -> Result<(), AllocError>
+    ensures { OnOk result (members.new ≡ members.old ++ members_of (type_entries (out-SchemaObject schema.now).instance_type (out-SchemaObject schema.now).format (out-SchemaObject schema.now).number (out-SchemaObject schema.now).string (option_map array_written (out-SchemaObject schema.now).array) (option_map object_parts_written (out-SchemaObject schema.now).object))) }
+{
+    match &schema.instance_type {
+        None => Ok(()),
+        Some(InstanceTypes::Single(kind)) => {
+            let name = type_text(alloc, *kind)?;
+            add(alloc, members, "type", Some(name))?;
+            add_kind(alloc, members, *kind, schema)?;
+            Ok(())
+        }
+    }
+}
+
+#[cycle(written)]
+fn add_kind(
+    alloc: Global,
+    members: &mut List<Member>,
+    kind: InstanceType,
+    schema: &SchemaObject,
+) -> Result<(), AllocError>
+    ensures { OnOk result (members.new ≡ members.old ++ members_of (kind_entries kind (out-SchemaObject schema.now).format (out-SchemaObject schema.now).number (out-SchemaObject schema.now).string (option_map array_written (out-SchemaObject schema.now).array) (option_map object_parts_written (out-SchemaObject schema.now).object))) }
+{
+    match kind {
+        InstanceType::Boolean => Ok(()),
+        InstanceType::Object => match &schema.object {
+            Some(object) => add_object_parts(alloc, members, object),
+            None => Ok(()),
+        },
+        InstanceType::Array => match &schema.array {
+            Some(array) => add_array(alloc, members, array),
+            None => Ok(()),
+        },
+        InstanceType::String => add_text(alloc, members, &schema.format, &schema.string),
+        InstanceType::Integer => add_number(alloc, members, &schema.format, &schema.number),
+    }
+}
+
+#[cycle(written)]
+fn add_array(
+    alloc: Global,
+    members: &mut List<Member>,
+    array: &ArrayParts,
+) -> Result<(), AllocError>
+    ensures { OnOk result (members.new ≡ members.old ++ members_of (array_written array.now)) }
+{
+    let items = items_json(alloc, array)?;
+    add(alloc, members, "items", items)?;
+    add(alloc, members, "minItems", count_json(array.min))?;
+    add(alloc, members, "maxItems", count_json(array.max))?;
+    Ok(())
+}
+
+#[cycle(written)]
+fn items_json(alloc: Global, array: &ArrayParts) -> Result<Option<Json>, AllocError>
+    ensures { IfOk result (λ json. json ≡ option_map items_written array.now.items) }
+{
+    match &array.items {
+        Some(items) => Ok(Some(item_json(alloc, items)?)),
+        None => Ok(None),
+    }
+}
+
+#[cycle(written)]
+fn item_json(alloc: Global, items: &Items) -> Result<Json, AllocError>
+    ensures { IfOk result (λ json. json ≡ items_written items.now) }
+{
+    match items {
+        Items::One(schema) => written(alloc, &None, schema),
+    }
+}
+
+#[cycle(written)]
+fn add_object_parts(
+    alloc: Global,
+    members: &mut List<Member>,
+    object: &ObjectParts,
+) -> Result<(), AllocError>
+    ensures { OnOk result (members.new ≡ members.old ++ members_of (object_parts_written object.now)) }
+{
+    let properties = properties_json(alloc, object)?;
+    add(alloc, members, "properties", properties)?;
+    let required = names(alloc, &object.required)?;
+    add(alloc, members, "required", required)?;
+    let additional = additional_json(alloc, object)?;
+    add(alloc, members, "additionalProperties", additional)?;
+    Ok(())
+}
+
+#[cycle(written)]
+fn properties_json(alloc: Global, object: &ObjectParts) -> Result<Option<Json>, AllocError>
+    ensures { IfOk result (λ json. json ≡ unless_empty (map pair_member (map property_written (out-ObjectParts object.now).properties))) }
+{
+    let properties = object.properties.as_slice();
+    if properties.is_empty() {
+        return Ok(None);
+    }
+    Ok(Some(Json::Object(property_members(alloc, properties)?)))
+}
+
+#[cycle(written)]
+fn property_members(alloc: Global, properties: &[Property]) -> Result<List<Member>, AllocError>
+    ensures { IfOk result (λ members. members ≡ map pair_member (map property_written properties.now)) }
+{
+    let mut members = List::new(alloc);
+    for property in properties {
+        members.push(property_member(alloc, property)?)?;
+    }
+    Ok(members)
+}
+
+#[cycle(written)]
+fn property_member(alloc: Global, property: &Property) -> Result<Member, AllocError>
+    ensures { IfOk result (λ written. written ≡ pair_member (property_written property.now)) }
+{
+    let name = property.name.copy(alloc)?;
+    let value = written(alloc, &None, &property.schema)?;
+    Ok(Member { name, value })
+}
+
+#[cycle(written)]
+fn additional_json(alloc: Global, object: &ObjectParts) -> Result<Option<Json>, AllocError>
+    ensures { IfOk result (λ json. json ≡ option_map json_of_additional (option_map schema_written (out-ObjectParts object.now).additional)) }
+{
+    match &object.additional {
+        Some(schema) => Ok(Some(truth_or_schema(alloc, schema)?)),
+        None => Ok(None),
+    }
+}
+
+// What other members are admitted by: a truth value, or a schema.
+#[cycle(written)]
+fn truth_or_schema(alloc: Global, schema: &Schema) -> Result<Json, AllocError>
+    ensures { IfOk result (λ json. json ≡ json_of_additional (schema_written schema.now)) }
+{
+    match schema {
+        Schema::Bool(truth) => Ok(Json::Bool(*truth)),
+        Schema::Object(object) => object_json(alloc, &None, object.get()),
+    }
+}
+
+#[cycle(written)]
+fn add_subschemas(
+    alloc: Global,
+    members: &mut List<Member>,
+    schema: &SchemaObject,
+) -> Result<(), AllocError>
+    ensures { OnOk result (members.new ≡ members.old ++ members_of (unwrap_or (option_map subschemas_written (out-SchemaObject schema.now).subschemas) [])) }
+{
+    match &schema.subschemas {
+        Some(subschemas) => add_schemas(alloc, members, subschemas),
+        None => Ok(()),
+    }
+}
+
+#[cycle(written)]
+fn add_schemas(
+    alloc: Global,
+    members: &mut List<Member>,
+    subschemas: &Subschemas,
+) -> Result<(), AllocError>
+    ensures { OnOk result (members.new ≡ members.old ++ members_of (subschemas_written subschemas.now)) }
+{
+    let all_of = all_of_json(alloc, subschemas)?;
+    add(alloc, members, "allOf", all_of)?;
+    let any_of = any_of_json(alloc, subschemas)?;
+    add(alloc, members, "anyOf", any_of)?;
+    Ok(())
+}
+
+#[cycle(written)]
+fn all_of_json(alloc: Global, subschemas: &Subschemas) -> Result<Option<Json>, AllocError>
+    ensures { IfOk result (λ json. json ≡ json_of_schemas (option_map (map schema_written) subschemas.now.all_of)) }
+{
+    match &subschemas.all_of {
+        Some(schemas) => Ok(Some(Json::List(list_json(alloc, schemas.as_slice())?))),
+        None => Ok(None),
+    }
+}
+
+#[cycle(written)]
+fn any_of_json(alloc: Global, subschemas: &Subschemas) -> Result<Option<Json>, AllocError>
+    ensures { IfOk result (λ json. json ≡ json_of_schemas (option_map (map schema_written) subschemas.now.any_of)) }
+{
+    match &subschemas.any_of {
+        Some(schemas) => Ok(Some(Json::List(list_json(alloc, schemas.as_slice())?))),
+        None => Ok(None),
+    }
+}
+
+#[cycle(written)]
+fn list_json(alloc: Global, schemas: &[Schema]) -> Result<List<Json>, AllocError>
+    ensures { IfOk result (λ list. list ≡ map untitled (map schema_written schemas.now)) }
+{
+    let mut list = List::new(alloc);
+    for schema in schemas {
+        list.push(written(alloc, &None, schema)?)?;
+    }
+    Ok(list)
+}
