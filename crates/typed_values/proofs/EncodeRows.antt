@@ -1,0 +1,98 @@
+-- What each arm of the encoder needs: its row.
+use Rattle.std.proofs.Common.{◌≡◌, ◌<◌, ◌≤◌, ◌+◌, ◌++◌, ◌⊎◌, inl, inr, ℕ, ℤ, Bool, false, List, [], ◌∷◌, length, drop, get_or, Option, refl, sym, ◌∙◌, ap, arith, min}
+use Rattle.std.proofs.lemmas.List.{drop_more, append_assoc, append-nil}
+use Rattle.std.proofs.Math.ListN.{drop_of_length-le}
+use Rattle.std.specs.Prelude.{slice_get}
+use Rattle.schema_values.specs.declared.json_value.Json.{Json}
+use Rattle.schema_values.specs.declared.json_value.Member.{Member}
+use Rattle.typed_values.specs.declared.desc.Desc.{Desc, out-Desc}
+use Rattle.typed_values.specs.declared.desc.Desc.TheOpen.{Desc-F}
+use Rattle.typed_values.specs.declared.desc.Desc.TheVariants as desc
+use Rattle.typed_values.specs.declared.desc.Field.{Field}
+use Rattle.typed_values.specs.declared.desc.IntKind.{IntKind}
+use Rattle.typed_values.specs.declared.tree.Tree.{Tree, Variant as Choice, out-Tree}
+use Rattle.typed_values.specs.declared.tree.Tree.TheVariants.{outs-Variant}
+use Rattle.typed_values.specs.declared.table.Definition.{Definition}
+use Rattle.typed_values.specs.Definitions.{definition}
+use Rattle.typed_values.specs.Denotes.{room}
+use Rattle.typed_values.specs.Encoding.{member, is_left_out, unless, members_written, scalar_written, option_written, items_written, parts_written, choice_written, written_if_there, written_by, written_under}
+use Rattle.typed_values.specs.Fits.{field_desc}
+use Rattle.typed_values.specs.Sound.{Rests}
+use Rattle.typed_values.proofs.EncodeSteps.{written_row, is_none_tree}
+use Rattle.typed_values.proofs.FitRows.{alternative_is}
+
+module _ (table : List Definition) (whole : Desc) (t : Tree) (d : Desc) (h : Rests table (room table whole) d) where
+  row_at : (y : Desc-F Desc Field) → out-Desc d ≡ y → written_under table whole t d ≡ written_by table is_none_tree (written_under table whole) (written_under table whole t) y (out-Tree t)
+  row_at y e = written_row table whole t d h ∙ ap (λ (z : Desc-F Desc Field). written_by table is_none_tree (written_under table whole) (written_under table whole t) z (out-Tree t)) e
+
+  written_bool : d ≡ desc.Bool → written_under table whole t d ≡ scalar_written (out-Tree t)
+  written_bool e = row_at Desc-F.Bool (ap out-Desc e ∙ desc.outs-Bool)
+
+  written_int : (kind : IntKind) (min max : Option ℤ) → d ≡ desc.Int kind min max → written_under table whole t d ≡ scalar_written (out-Tree t)
+  written_int kind min max e = row_at (Desc-F.Int kind min max) (ap out-Desc e ∙ desc.outs-Int kind min max)
+
+  written_text : (min max : Option ℕ) (format : Option (List ℕ)) → d ≡ desc.Text min max format → written_under table whole t d ≡ scalar_written (out-Tree t)
+  written_text min max format e = row_at (Desc-F.Text min max format) (ap out-Desc e ∙ desc.outs-Text min max format)
+
+  pub written_scalar : ((d ≡ desc.Bool) ⊎ (((kind : IntKind) × (min : Option ℤ) × (max : Option ℤ) × (d ≡ desc.Int kind min max)) ⊎ ((min : Option ℕ) × (max : Option ℕ) × (format : Option (List ℕ)) × (d ≡ desc.Text min max format)))) → written_under table whole t d ≡ scalar_written (out-Tree t)
+  written_scalar (inl e) = written_bool e
+  written_scalar (inr (inl e)) = written_int e.0 e.1 e.2 e.3
+  written_scalar (inr (inr e)) = written_text e.0 e.1 e.2 e.3
+
+  pub written_option : (x : Desc) → d ≡ desc.Option x → written_under table whole t d ≡ option_written (λ s. written_under table whole s x) (out-Tree t)
+  written_option x e = row_at (Desc-F.Option x) (ap out-Desc e ∙ desc.outs-Option x)
+
+  pub written_list : (x : Desc) (min max : Option ℕ) → d ≡ desc.List x min max → written_under table whole t d ≡ items_written (λ s. written_under table whole s x) (out-Tree t)
+  written_list x min max e = row_at (Desc-F.List x min max) (ap out-Desc e ∙ desc.outs-List x min max)
+
+  pub written_struct : (fs : List Field) (deny : Bool) → d ≡ desc.Struct fs deny → written_under table whole t d ≡ parts_written is_none_tree (written_under table whole) fs (out-Tree t)
+  written_struct fs deny e = row_at (Desc-F.Struct fs deny) (ap out-Desc e ∙ desc.outs-Struct fs deny)
+
+  pub written_untagged : (ds : List Desc) → d ≡ desc.Untagged ds → written_under table whole t d ≡ choice_written (written_under table whole) ds (out-Tree t)
+  written_untagged ds e = row_at (Desc-F.Untagged ds) (ap out-Desc e ∙ desc.outs-Untagged ds)
+
+  pub written_ref : (name : List ℕ) (o : Option Desc) → d ≡ desc.Ref name → definition table name ≡ o → written_under table whole t d ≡ written_if_there (written_under table whole t) o
+  written_ref name o e f = row_at (Desc-F.Ref name) (ap out-Desc e ∙ desc.outs-Ref name) ∙ ap (written_if_there (written_under table whole t)) f
+
+-- a choice, with the alternative at its place
+pub chosen_row : (written : Tree → Desc → Json) (ds : List Desc) (t : Tree) (i : ℕ) (x : Tree) (o : Option Desc) → t ≡ Choice i x → slice_get ds i ≡ o → choice_written written ds (out-Tree t) ≡ written_if_there (written x) o
+chosen_row written ds t i x o e f = ap (choice_written written ds) (ap out-Tree e ∙ outs-Variant i x) ∙ ap (written_if_there (written x)) (alternative_is ds i ∙ f)
+
+one_past : (i a b : ℕ) → i ≡ min a b → (a ≤ i) ⊎ (b ≤ i)
+one_past i a b e = grind arith
+
+module _ {X : Type 0} (is_none : X → Bool) (written : X → Desc → Json) (fs : List Field) (xs : List X) where
+  -- the members that are left from a field and its tree on
+  members_more : (i : ℕ) (f : Field) (x : X) → i < length fs → i < length xs → f ≡ get_or fs i f → x ≡ get_or xs i x
+      → members_written is_none written (drop i fs) (drop i xs)
+      ≡ unless (is_left_out f.presence (is_none x)) (member f.name (written x (field_desc f))) (members_written is_none written (drop (i + 1) fs) (drop (i + 1) xs))
+  members_more i f x h k e g =
+      ap (λ (gs : List Field). members_written is_none written gs (drop i xs)) (drop_more fs i f h ∙ ap (λ (y : Field). y ∷ drop (i + 1) fs) (sym e))
+      ∙ ap (members_written is_none written (f ∷ drop (i + 1) fs)) (drop_more xs i x k ∙ ap (λ (y : X). y ∷ drop (i + 1) xs) (sym g))
+
+  -- one more member is written
+  pub members_kept : (i j : ℕ) (f : Field) (x : X) → j ≡ i + 1 → i < length fs → i < length xs → f ≡ get_or fs i f → x ≡ get_or xs i x → is_left_out f.presence (is_none x) ≡ false
+      → (whole before after : List Member) (m : Member) → m ≡ member f.name (written x (field_desc f)) → after ≡ before ++ m ∷ []
+      → whole ≡ before ++ members_written is_none written (drop i fs) (drop i xs)
+      → whole ≡ after ++ members_written is_none written (drop j fs) (drop j xs)
+  members_kept i j f x next h k e g kept whole before after m is grown so_far =
+      so_far
+      ∙ ap (λ (ms : List Member). before ++ ms) (members_more i f x h k e g ∙ ap (λ (b : Bool). unless b (member f.name (written x (field_desc f))) rest) kept ∙ ap (λ (n : Member). n ∷ rest) (sym is))
+      ∙ sym (append_assoc before (m ∷ []) rest)
+      ∙ ap (λ (ms : List Member). ms ++ rest) (sym grown)
+      ∙ ap (λ (n : ℕ). after ++ members_written is_none written (drop n fs) (drop n xs)) (sym next)
+    where
+      rest : List Member
+      rest = members_written is_none written (drop (i + 1) fs) (drop (i + 1) xs)
+
+  no_trees : (gs : List Field) → members_written is_none written gs [] ≡ []
+  no_trees [] = refl
+  no_trees (g ∷ gs) = refl
+
+  past_one : (i : ℕ) → (length fs ≤ i) ⊎ (length xs ≤ i) → members_written is_none written (drop i fs) (drop i xs) ≡ []
+  past_one i (inl h) = ap (λ (gs : List Field). members_written is_none written gs (drop i xs)) (drop_of_length-le fs h)
+  past_one i (inr h) = ap (members_written is_none written (drop i fs)) (drop_of_length-le xs h) ∙ no_trees (drop i fs)
+
+  -- nothing is left
+  pub members_end : (i : ℕ) → i ≡ min (length fs) (length xs) → (whole so_far : List Member) → whole ≡ so_far ++ members_written is_none written (drop i fs) (drop i xs) → so_far ≡ whole
+  members_end i e whole so_far h = sym (h ∙ ap (λ (ms : List Member). so_far ++ ms) (past_one i (one_past i (length fs) (length xs) e)) ∙ append-nil so_far)

@@ -1,0 +1,78 @@
+-- What each arm of the fit test needs: its row.
+use Rattle.std.proofs.Common.{arith, ◌≡◌, ◌<◌, ◌≤◌, ℕ, zero, suc, ℤ, Bool, true, false, ◌&&◌, length, List, [], ◌∷◌, Option, refl, ◌∙◌, ap}
+use Rattle.std.proofs.lemmas.Bool.Decides.{nat_tests}
+use Rattle.std.specs.Prelude.{slice_get, nat_lt, nat_eq}
+use Rattle.typed_values.specs.declared.desc.Desc.{Desc, Option as OptionOf, out-Desc}
+use Rattle.typed_values.specs.declared.desc.Desc.TheOpen.{Desc-F}
+use Rattle.typed_values.specs.declared.desc.Desc.TheVariants as desc
+use Rattle.typed_values.specs.declared.desc.Field.{Field}
+use Rattle.typed_values.specs.declared.desc.IntKind.{IntKind}
+use Rattle.typed_values.specs.declared.tree.Tree.{Tree, Variant as Choice, out-Tree}
+use Rattle.typed_values.specs.declared.tree.Tree.TheVariants.{outs-Variant}
+use Rattle.typed_values.specs.declared.desc.Presence.TheVariants.{Skipped}
+use Rattle.typed_values.specs.declared.table.Definition.{Definition}
+use Rattle.typed_values.specs.Definitions.{definition}
+use Rattle.typed_values.specs.Denotes.{room}
+use Rattle.typed_values.specs.Fits.{field_desc, fields_fit, truth_fits, number_fits, words_fit, option_fits, items_fit, parts_fit, choice_fits, if_there, alternative_at, fits_by, fits_under}
+use Rattle.typed_values.specs.Sound.{Rests}
+use Rattle.typed_values.proofs.FitSteps.{fits_row}
+
+module _ (table : List Definition) (whole : Desc) (t : Tree) (d : Desc) (h : Rests table (room table whole) d) where
+  row_at : (y : Desc-F Desc Field) → out-Desc d ≡ y → fits_under table whole t d ≡ fits_by table (fits_under table whole) (fits_under table whole t) y (out-Tree t)
+  row_at y e = fits_row table whole t d h ∙ ap (λ (z : Desc-F Desc Field). fits_by table (fits_under table whole) (fits_under table whole t) z (out-Tree t)) e
+
+  pub fits_bool : d ≡ desc.Bool → fits_under table whole t d ≡ truth_fits (out-Tree t)
+  fits_bool e = row_at Desc-F.Bool (ap out-Desc e ∙ desc.outs-Bool)
+
+  pub fits_int : (kind : IntKind) (min max : Option ℤ) → d ≡ desc.Int kind min max → fits_under table whole t d ≡ number_fits kind min max (out-Tree t)
+  fits_int kind min max e = row_at (Desc-F.Int kind min max) (ap out-Desc e ∙ desc.outs-Int kind min max)
+
+  pub fits_text : (min max : Option ℕ) (format : Option (List ℕ)) → d ≡ desc.Text min max format → fits_under table whole t d ≡ words_fit min max (out-Tree t)
+  fits_text min max format e = row_at (Desc-F.Text min max format) (ap out-Desc e ∙ desc.outs-Text min max format)
+
+  pub fits_option : (x : Desc) → d ≡ desc.Option x → fits_under table whole t d ≡ option_fits (λ s. fits_under table whole s x) (out-Tree t)
+  fits_option x e = row_at (Desc-F.Option x) (ap out-Desc e ∙ desc.outs-Option x)
+
+  pub fits_list : (x : Desc) (min max : Option ℕ) → d ≡ desc.List x min max → fits_under table whole t d ≡ items_fit (λ s. fits_under table whole s x) min max (out-Tree t)
+  fits_list x min max e = row_at (Desc-F.List x min max) (ap out-Desc e ∙ desc.outs-List x min max)
+
+  pub fits_struct : (fs : List Field) (deny : Bool) → d ≡ desc.Struct fs deny → fits_under table whole t d ≡ parts_fit (fits_under table whole) fs (out-Tree t)
+  fits_struct fs deny e = row_at (Desc-F.Struct fs deny) (ap out-Desc e ∙ desc.outs-Struct fs deny)
+
+  pub fits_untagged : (ds : List Desc) → d ≡ desc.Untagged ds → fits_under table whole t d ≡ choice_fits (fits_under table whole) ds (out-Tree t)
+  fits_untagged ds e = row_at (Desc-F.Untagged ds) (ap out-Desc e ∙ desc.outs-Untagged ds)
+
+  pub fits_ref : (name : List ℕ) (o : Option Desc) → d ≡ desc.Ref name → definition table name ≡ o → fits_under table whole t d ≡ if_there (fits_under table whole t) o
+  fits_ref name o e f = row_at (Desc-F.Ref name) (ap out-Desc e ∙ desc.outs-Ref name) ∙ ap (if_there (fits_under table whole t)) f
+
+pub alternative_is : (ds : List Desc) (i : ℕ) → alternative_at ds i ≡ slice_get ds i
+alternative_is [] i = refl
+alternative_is (d ∷ ds) zero = refl
+alternative_is (d ∷ ds) (suc i) = alternative_is ds i
+
+-- a choice, with the alternative at its place
+pub choice_row : (fits : Tree → Desc → Bool) (ds : List Desc) (t : Tree) (i : ℕ) (x : Tree) (o : Option Desc) → t ≡ Choice i x → slice_get ds i ≡ o → choice_fits fits ds (out-Tree t) ≡ if_there (fits x) o
+choice_row fits ds t i x o e f = ap (choice_fits fits ds) (ap out-Tree e ∙ outs-Variant i x) ∙ ap (if_there (fits x)) (alternative_is ds i ∙ f)
+
+pub skipped_desc : (f : Field) → f.presence ≡ Skipped → field_desc f ≡ OptionOf f.desc
+skipped_desc f e = rw e refl
+
+pub below_true : (n m : ℕ) → true ≡ nat_lt n m → n < m
+below_true n m e = grind (arith, nat_tests)
+
+pub below_false : (n m : ℕ) → false ≡ nat_lt n m → m ≤ n
+below_false n m e = grind (arith, nat_tests)
+
+pub unequal : (n m : ℕ) → (n ≡ m → ⊥) → nat_eq n m ≡ false
+unequal n m h = grind (arith, nat_tests)
+
+second_false : (a b : Bool) → b ≡ false → (a && b) ≡ false
+second_false true b e = e
+second_false false b e = refl
+
+-- as many trees as fields
+pub lengths_differ : {X : Type 0} (fits : X → Desc → Bool) (fs : List Field) (xs : List X) → (length fs ≡ length xs → ⊥) → fields_fit fits fs xs ≡ false
+lengths_differ fits [] [] h = absurd (h refl)
+lengths_differ fits [] (x ∷ xs) h = refl
+lengths_differ fits (f ∷ fs) [] h = refl
+lengths_differ fits (f ∷ fs) (x ∷ xs) h = second_false (fits x (field_desc f)) (fields_fit fits fs xs) (lengths_differ fits fs xs (λ e. h (ap suc e)))

@@ -1,0 +1,146 @@
+-- A table and a descriptor that pass their checks are sound: steps at one value are never spent.
+use Rattle.std.proofs.Common.{◌≡◌, ℕ, zero, suc, ◌+◌, ◌≤◌, Bool, true, false, List, [], ◌∷◌, Option, Some, None, bytes_eq, cond, refl, sym, ◌∙◌, ap, subst, arith, MatchOption, ◌⊎◌, inl, inr}
+use Rattle.std.proofs.lemmas.Slice.Eq.{bytes_eq-Decides}
+use Rattle.std.specs.Prelude.{Contains}
+use Rattle.typed_values.specs.declared.desc.Desc.{Desc, out-Desc}
+use Rattle.typed_values.specs.declared.desc.Desc.TheOpen.{Desc-F}
+use Rattle.typed_values.specs.declared.desc.Field.{Field}
+use Rattle.typed_values.specs.declared.table.Definition.{Definition}
+use Rattle.typed_values.specs.Definitions.{definition}
+use Rattle.typed_values.specs.Denotes.{room}
+use Rattle.typed_values.specs.Guarded.{named_here, Reaches, at_once, through}
+use Rattle.typed_values.specs.Parts.{the_whole, in_option, in_alternative, IsPart, of_whole, of_table}
+use Rattle.typed_values.specs.Sound.{EachRests, RestsBy, Rests, IsSound}
+use Rattle.typed_values.specs.Checks.{IsPlainlyRight, TablePasses, DescPasses}
+use Rattle.typed_values.proofs.Found.{contains_first, contains_later, other_name, same_or_not, entry_found, definition_found}
+use Rattle.typed_values.proofs.Tops.{top, tops, top_at, top_positive, top_fits, tops_fit, other_tops_fit, map_sum, through_option, through_alternative, stands_inside}
+
+-- a table without the first definition of a name
+unfoldable without : List ℕ → List Definition → List Definition
+without name [] = []
+without name (e ∷ es) = cond (bytes_eq e.name name) es (e ∷ without name es)
+
+tops_by : (b : Bool) (e : Definition) (es less : List Definition) (o : Option Desc) (y : Desc) → (o ≡ Some y → tops es ≡ top y + tops less) → cond b (Some e.desc) o ≡ Some y → top e.desc + tops es ≡ top y + tops (cond b es (e ∷ less))
+unfolding tops
+tops_by true e es less o y later f = let q : e.desc ≡ y = cc f in rw q refl
+tops_by false e es less o y later f = let q : tops es ≡ top y + tops less = later f in omega (arith, q)
+
+tops_without : (es : List Definition) (name : List ℕ) (y : Desc) → definition es name ≡ Some y → tops es ≡ top y + tops (without name es)
+unfolding tops without
+tops_without [] name y f = absurd (cc f)
+tops_without (e ∷ es) name y f = tops_by (bytes_eq e.name name) e es (without name es) (definition es name) y (tops_without es name y) f
+
+without_by : (b : Bool) (e : Definition) (es less : List Definition) (m : List ℕ) → (b ≡ true → bytes_eq e.name m ≡ false) → definition less m ≡ definition es m
+    → definition (cond b es (e ∷ less)) m ≡ cond (bytes_eq e.name m) (Some e.desc) (definition es m)
+without_by true e es less m h q = rw (h refl) refl
+without_by false e es less m h q = ap (λ (o : Option Desc). cond (bytes_eq e.name m) (Some e.desc) o) q
+
+-- another name is found as before
+definition_without : (es : List Definition) (name m : List ℕ) → (name ≡ m → ⊥) → definition (without name es) m ≡ definition es m
+unfolding without
+definition_without [] name m ne = refl
+definition_without (e ∷ es) name m ne =
+    without_by (bytes_eq e.name name) e es (without name es) m
+    (λ t. other_name e.name m (λ u. ne (sym ((bytes_eq-Decides e.name name).0 t) ∙ u)))
+    (definition_without es name m ne)
+
+each_rests : (Next : Desc → Type 0) (xs : List Desc) → ((x : Desc) → Contains xs x → Next x) → EachRests Next xs
+each_rests Next [] h = tt
+each_rests Next (x ∷ xs) h = (h x (contains_first x xs), each_rests Next xs (λ y c. h y (contains_later x xs y c)))
+
+rests_found : (Next : Desc → Type 0) (o : Option Desc) → (o ≡ None → ⊥) → ((y : Desc) → o ≡ Some y → Next y) → MatchOption o ⊥ Next
+rests_found Next None some next = some refl
+rests_found Next (Some y) some next = next y refl
+
+module _ (table : List Definition) where
+  -- a definition that is not among those left has led to here
+  AreLeft : List Definition → Desc → Type 0
+  AreLeft left d = (name : List ℕ) (y : Desc) → definition table name ≡ Some y → (definition left name ≡ Some y) ⊎ ((target : List ℕ) → Reaches table target d → Reaches table target y)
+
+  none_taken : (d : Desc) → AreLeft table d
+  unfolding AreLeft
+  none_taken d name y f = inl f
+
+  go_on : (left : List Definition) (d x : Desc) → ((target : List ℕ) → Reaches table target x → Reaches table target d) → AreLeft left d → AreLeft left x
+  unfolding AreLeft
+  go_on left d x step inv name y f = elim (inv name y f) [ inl a ↦ inl a | inr a ↦ inr (λ target r. a target (step target r)) ]
+
+  take_out : (left : List Definition) (d y : Desc) (name : List ℕ) → definition table name ≡ Some y → ((target : List ℕ) → Reaches table target d → Reaches table target y) → AreLeft left d → AreLeft (without name left) d
+  unfolding AreLeft
+  take_out left d y name f led inv m z g =
+      elim (same_or_not name m) [
+        | inl s ↦ let q : Some z ≡ Some y = sym g ∙ ap (definition table) (sym s) ∙ f in let w : y ≡ z = cc q in inr (subst (λ (v : Desc). (target : List ℕ) → Reaches table target d → Reaches table target v) w led)
+        | inr ne ↦ elim (inv m z g) [ inl a ↦ inl (definition_without left name m ne ∙ a) | inr a ↦ inr a ]
+      ]
+
+  is_right : (whole d : Desc) → TablePasses table → DescPasses table whole → IsPart table whole d → IsPlainlyRight table d
+  is_right whole d passes right (of_whole s) = right d s
+  is_right whole d passes right (of_table e c s) = passes.each e c d s
+
+  option_part : (whole d x : Desc) → out-Desc d ≡ Desc-F.Option x → IsPart table whole d → IsPart table whole x
+  option_part whole d x e (of_whole s) = of_whole (in_option x s e)
+  option_part whole d x e (of_table y c s) = of_table y c (in_option x s e)
+
+  alternative_part : (whole d : Desc) (ds : List Desc) (x : Desc) → out-Desc d ≡ Desc-F.Untagged ds → Contains ds x → IsPart table whole d → IsPart table whole x
+  alternative_part whole d ds x e k (of_whole s) = of_whole (in_alternative ds x s e k)
+  alternative_part whole d ds x e k (of_table y c s) = of_table y c (in_alternative ds x s e k)
+
+module _ (table : List Definition) (whole : Desc) (passes : TablePasses table) (right : DescPasses table whole) where
+  -- a budget pays for the top of a descriptor and for those of the definitions left
+  Budget : ℕ → Type 0
+  Budget n = (left : List Definition) (d : Desc) → IsPart table whole d → top d + tops left ≤ n → AreLeft table left d → Rests table n d
+
+  ref_rests : (n : ℕ) → Budget n → (left : List Definition) (d : Desc) (name : List ℕ) → IsPart table whole d → top d + tops left ≤ suc n → AreLeft table left d
+      → out-Desc d ≡ Desc-F.Ref name → (y : Desc) → definition table name ≡ Some y → Rests table n y
+  unfolding Budget AreLeft
+  ref_rests n budget left d name part le inv e y f =
+      let (entry, i) = entry_found table name y f in
+      let led : (target : List ℕ) → Reaches table target y → Reaches table target d = λ target r. through name y (named_here e) f r in
+      elim (inv name y f) [
+        | inl a ↦
+            budget (without name left) y (subst (IsPart table whole) i.is (of_table entry i.inside the_whole))
+            (omega (arith, le, tops_without left name y a, top_positive d))
+            (take_out table left y y name f (λ target r. r) (go_on table left d y led inv))
+        | inr back ↦
+            let cycle : Reaches table name y = back name (at_once (named_here e)) in
+            absurd (passes.guarded entry i.inside (subst (λ (m : List ℕ). Reaches table m entry.desc) (sym i.named) (subst (Reaches table name) (sym i.is) cycle)))
+      ]
+
+  rests_by : (n : ℕ) → Budget n → (left : List Definition) (d : Desc) → IsPart table whole d → top d + tops left ≤ suc n → AreLeft table left d
+      → (z : Desc-F Desc Field) → out-Desc d ≡ z → RestsBy table (Rests table n) z
+  unfolding Budget
+  rests_by n budget left d part le inv Desc-F.Bool e = tt
+  rests_by n budget left d part le inv (Desc-F.Int kind min max) e = tt
+  rests_by n budget left d part le inv (Desc-F.Text min max format) e = tt
+  rests_by n budget left d part le inv (Desc-F.List x min max) e = tt
+  rests_by n budget left d part le inv (Desc-F.Struct fs deny) e = tt
+  rests_by n budget left d part le inv (Desc-F.Option x) e =
+      budget left x (option_part table whole d x e part) (omega (arith, le, top_at d _ e)) (go_on table left d x (through_option table x e) inv)
+  rests_by n budget left d part le inv (Desc-F.Untagged ds) e =
+      each_rests (Rests table n) ds (λ x c. budget left x (alternative_part table whole d ds x e c part) (omega (arith, le, top_at d _ e, map_sum top ds c.0 x c.1 c.2))
+      (go_on table left d x (through_alternative table ds x e c) inv))
+  rests_by n budget left d part le inv (Desc-F.Ref name) e =
+      rests_found (Rests table n) (definition table name) (λ none. (is_right table whole d passes right part).defined (name, e, none)) (ref_rests n budget left d name part le inv e)
+
+  rests_within : (n : ℕ) → Budget n
+  unfolding Budget Rests
+  rests_within zero left d part le inv = absurd (omega (arith, top_positive d, le))
+  rests_within (suc n) left d part le inv = rests_by n (rests_within n) left d part le inv (out-Desc d) refl
+
+-- The steps are never spent.
+pub passes_is_sound : (table : List Definition) (desc : Desc) → TablePasses table → DescPasses table desc → IsSound table desc
+unfolding Budget room
+passes_is_sound table desc passes right d (of_whole s) =
+    elim (stands_inside table desc d s) [
+      | inl a ↦ rests_within table desc passes right (room table desc) table d (of_whole s) (omega (arith, a.fewer, top_fits desc, tops_fit table)) (none_taken table d)
+      | inr b ↦ rests_within table desc passes right (room table desc) table d (of_whole s) (omega (arith, b, top_fits d, tops_fit table)) (none_taken table d)
+    ]
+passes_is_sound table desc passes right d (of_table e c s) =
+    let found = definition_found table e passes.once c in
+    elim (stands_inside table e.desc d s) [
+      | inl a ↦
+          rests_within table desc passes right (room table desc) (without e.name table) d (of_table e c s)
+          (omega (arith, a.fewer, tops_without table e.name e.desc found, tops_fit table))
+          (take_out table table d e.desc e.name found a.reaches (none_taken table d))
+      | inr b ↦ rests_within table desc passes right (room table desc) table d (of_table e c s) (omega (arith, b, top_fits d, other_tops_fit table c.0 e c.1 c.2)) (none_taken table d)
+    ]

@@ -1,0 +1,125 @@
+use Rattle.std.proofs.Common.{rules, suc, ◌≡◌, Some, None, refl, sym, ◌∙◌, ap, arith, length}
+use Rattle.std.proofs.lemmas.List.{length-append}
+use Rattle.std.proofs.lemmas.Option.{slice_get_read, slice_get_past}
+use Rattle.std.proofs.lemmas.Slice.Zip.{zip_turn, zip_end}
+use denote.Param.Weighed.{most}
+use Rattle.typed_values.specs.declared.tree.Tree.{size-Tree}
+use Rattle.typed_values.specs.Encoding.{written_under}
+use Rattle.typed_values.proofs.Arms.{definition_is_part}
+use Rattle.typed_values.proofs.EncodeRows.{members_kept, members_end, written_scalar, written_option, written_list, written_struct, written_untagged, written_ref, chosen_row}
+use Rattle.typed_values.proofs.EncodeSteps.{skipped_written, is_none_tree}
+use Rattle.typed_values.proofs.FitRows.{skipped_desc, below_true, below_false}
+use Rattle.typed_values.proofs.Inside.{part_of_option, part_of_list, parts_of_untagged, fields_of_struct}
+use Rattle.typed_values.proofs.Measure.{ref-lt, alone-lt-at, at-lt-any, alone-lt-any, any-lt-alone, at-lt-alone}
+use Rattle.typed_values.proofs.TreeSizes.{size_some, size_items, size_choice, tree_smaller}
+use Rattle.typed_values.proofs.scope.Scope.+encode.Goals as goal
+
+pub encode_at-encode_option-requires : goal.encode_at-encode_option-requires
+encode_at-encode_option-requires t c =
+    let less = alone-lt-at c.args.self.now.table.now c.args.self.now.whole.now (size-Tree c.args.tree.now) c.args.desc.now in
+    (omega (arith, c.decreases, less), rw c.get.ensures (part_of_option c.requires c.in-Option.inner c.in-Option.is))
+
+pub encode_at-encode_list-requires : goal.encode_at-encode_list-requires
+encode_at-encode_list-requires t c =
+    let less = alone-lt-at c.args.self.now.table.now c.args.self.now.whole.now (size-Tree c.args.tree.now) c.args.desc.now in
+    (omega (arith, c.decreases, less), rw c.get-in-List.ensures (part_of_list c.requires c.in-List.item _ _ c.in-List.is))
+
+pub encode_at-encode_struct-requires : goal.encode_at-encode_struct-requires
+encode_at-encode_struct-requires t c =
+    let less = alone-lt-at c.args.self.now.table.now c.args.self.now.whole.now (size-Tree c.args.tree.now) c.args.desc.now in
+    (omega (arith, c.decreases, less), rw c.as_slice.ensures (fields_of_struct c.requires c.in-Struct.fields c.in-Struct.deny_unknown c.in-Struct.is))
+
+pub encode_at-encode_choice-requires : goal.encode_at-encode_choice-requires
+encode_at-encode_choice-requires t c =
+    let less = alone-lt-at c.args.self.now.table.now c.args.self.now.whole.now (size-Tree c.args.tree.now) c.args.desc.now in
+    (omega (arith, c.decreases, less), rw c.as_slice-in-Untagged.ensures (parts_of_untagged c.requires c.in-Untagged.alternatives c.in-Untagged.is))
+
+pub encode_at-encode_at-requires : goal.encode_at-encode_at-requires
+encode_at-encode_at-requires t c =
+    let found = sym c.in-Some.ensures in
+    let less = ref-lt c.args.self.now.table.now c.args.self.now.whole.now (size-Tree c.args.tree.now) c.args.desc.now (c.args.self.now.sound _ c.requires) c.in-Ref.name c.in-Some.definition.now c.in-Ref.is found in
+    (omega (arith, c.decreases, less), definition_is_part _ _ c.in-Ref.name c.in-Some.definition.now found)
+
+pub encode_at-returns-in-Bool : goal.encode_at-returns-in-Bool
+encode_at-returns-in-Bool t c =
+    rw (written_scalar _ _ c.args.tree.now c.args.desc.now (c.args.self.now.sound _ c.requires) c.in-Bool.is) c.encode_scalar.ensures
+
+pub encode_at-returns-in-Option : goal.encode_at-returns-in-Option
+encode_at-returns-in-Option t c = rw (written_option _ _ c.args.tree.now c.args.desc.now (c.args.self.now.sound _ c.requires) c.in-Option.inner c.in-Option.is, ← c.get.ensures) c.encode_option.ensures
+
+pub encode_at-returns-in-List : goal.encode_at-returns-in-List
+encode_at-returns-in-List t c = rw (written_list _ _ c.args.tree.now c.args.desc.now (c.args.self.now.sound _ c.requires) c.in-List.item _ _ c.in-List.is, ← c.get-in-List.ensures) c.encode_list.ensures
+
+pub encode_at-returns-in-Struct : goal.encode_at-returns-in-Struct
+encode_at-returns-in-Struct t c = rw (written_struct _ _ c.args.tree.now c.args.desc.now (c.args.self.now.sound _ c.requires) c.in-Struct.fields _ c.in-Struct.is, ← c.as_slice.ensures) c.encode_struct.ensures
+
+pub encode_at-returns-in-Untagged : goal.encode_at-returns-in-Untagged
+encode_at-returns-in-Untagged t c = rw (written_untagged _ _ c.args.tree.now c.args.desc.now (c.args.self.now.sound _ c.requires) c.in-Untagged.alternatives c.in-Untagged.is, ← c.as_slice-in-Untagged.ensures) c.encode_choice.ensures
+
+pub encode_at-returns-in-Some : goal.encode_at-returns-in-Some
+encode_at-returns-in-Some t c = rw (written_ref _ _ c.args.tree.now c.args.desc.now (c.args.self.now.sound _ c.requires) c.in-Ref.name (Some c.in-Some.definition.now) c.in-Ref.is (sym c.in-Some.ensures)) c.encode_at.ensures
+
+pub encode_at-returns-in-None : goal.encode_at-returns-in-None
+encode_at-returns-in-None t c = rw (written_ref _ _ c.args.tree.now c.args.desc.now (c.args.self.now.sound _ c.requires) c.in-Ref.name None c.in-Ref.is (sym c.in-None.ensures)) refl
+
+pub encode_option-encode_at-requires : goal.encode_option-encode_at-requires
+encode_option-encode_at-requires t c =
+    let size : size-Tree c.args.tree.now ≡ suc (size-Tree c.in-Some.tree) = ap size-Tree c.in-Some.is ∙ size_some c.in-Some.tree in
+    let less = at-lt-alone c.args.self.now.table.now c.args.self.now.whole.now (size-Tree c.in-Some.tree) (size-Tree c.args.tree.now) c.args.inner.now (omega arith) in
+    rw c.get.ensures (omega (arith, c.decreases, less), c.requires)
+
+pub encode_list-encode_each-requires : goal.encode_list-encode_each-requires
+encode_list-encode_each-requires t c =
+    let size : size-Tree c.args.tree.now ≡ suc (most size-Tree c.in-List.trees) = ap size-Tree c.in-List.is ∙ size_items c.in-List.trees in
+    rw (c.as_slice.ensures, ← size) (omega (arith, c.decreases), c.requires)
+
+pub encode_each-encode_at-requires : goal.encode_each-encode_at-requires
+encode_each-encode_at-requires t c =
+    let less = at-lt-alone c.args.self.now.table.now c.args.self.now.whole.now (size-Tree c.tree-item.result) (suc (most size-Tree c.args.trees.now)) c.args.item.now (tree_smaller c.args.trees.now c.loop-tree.tree-index c.tree-item.result (omega arith) c.tree-item.is) in
+    (omega (arith, c.decreases, less), c.requires)
+
+pub encode_fields-encode_field-requires : goal.encode_fields-encode_field-requires
+encode_fields-encode_field-requires t c =
+    let turn = zip_turn c.args.fields.now c.args.trees.now c.loop-field.yielded c.into_iter-field-iterator.result c.loop-field.field-iterator c.next.new.self c.next.result (search rules) (search rules) c.loop-field.yielded_by (c.in-Some.field, c.in-Some.tree) c.in-Some.is c.next.ensures.steps in
+    let smaller = tree_smaller c.args.trees.now (length c.loop-field.yielded) c.in-Some.tree.now turn.1 (turn.3 c.in-Some.tree.now) in
+    let less = any-lt-alone c.args.self.now.table.now c.args.self.now.whole.now (size-Tree c.in-Some.tree.now) (suc (most size-Tree c.args.trees.now)) smaller in
+    (omega (arith, c.decreases, less), c.requires c.in-Some.field.now (length c.loop-field.yielded, turn.0, sym (turn.2 c.in-Some.field.now)))
+
+pub encode_fields-loop-field-preserved-in-Continue-branch-3 : goal.encode_fields-loop-field-preserved-in-Continue-branch-3
+encode_fields-loop-field-preserved-in-Continue-branch-3 t c =
+    let turn = zip_turn c.args.fields.now c.args.trees.now c.loop-field.yielded c.into_iter-field-iterator.result c.loop-field.field-iterator c.next.new.self c.next.result (search rules) (search rules) c.loop-field.yielded_by (c.in-Some.field, c.in-Some.tree) c.in-Some.is c.next.ensures.steps in
+    members_kept is_none_tree (written_under c.args.self.now.table.now c.args.self.now.whole.now) c.args.fields.now c.args.trees.now (length c.loop-field.yielded) _ c.in-Some.field.now c.in-Some.tree.now (length-append c.loop-field.yielded _) turn.0 turn.1 (turn.2 c.in-Some.field.now) (turn.3 c.in-Some.tree.now) (sym c.is_left_out.ensures ∙ cc)
+    _ c.loop-field.members c.push.new.self (record { name = c.in_ok-name.name; value = c.in_ok-value.value }) (rw (c.in_ok-name.ensures, c.in_ok-value.ensures) refl) c.in_ok-push.ensures.ok c.loop-field.invariant
+
+pub encode_fields-returns : goal.encode_fields-returns
+encode_fields-returns t c =
+    let over = zip_end c.args.fields.now c.args.trees.now c.loop-field.yielded c.into_iter-field-iterator.result c.loop-field.field-iterator c.next.new.self c.next.result (search rules) (search rules) c.loop-field.yielded_by c.in-None.is c.next.ensures.steps in
+    members_end is_none_tree (written_under c.args.self.now.table.now c.args.self.now.whole.now) c.args.fields.now c.args.trees.now (length c.loop-field.yielded) over _ c.loop-field.members c.loop-field.invariant
+
+pub encode_field-encode_at-requires : goal.encode_field-encode_at-requires
+encode_field-encode_at-requires t c =
+    let less = at-lt-any c.args.self.now.table.now c.args.self.now.whole.now (size-Tree c.args.tree.now) c.args.field.now.desc in
+    (omega (arith, c.decreases, less), c.requires)
+
+pub encode_field-encode_option-requires : goal.encode_field-encode_option-requires
+encode_field-encode_option-requires t c =
+    let less = alone-lt-any c.args.self.now.table.now c.args.self.now.whole.now (size-Tree c.args.tree.now) in
+    (omega (arith, c.decreases, less), c.requires)
+
+pub encode_field-returns-in-Skipped : goal.encode_field-returns-in-Skipped
+encode_field-returns-in-Skipped t c =
+    rw (skipped_desc c.args.field.now c.in-Skipped.is, skipped_written c.args.self.now.table.now c.args.self.now.whole.now c.args.tree.now c.args.field.now.desc) c.encode_option.ensures
+
+pub encode_choice-encode_at-requires : goal.encode_choice-encode_at-requires
+encode_choice-encode_at-requires t c =
+    let size : size-Tree c.args.tree.now ≡ suc (size-Tree c.in-Variant.tree) = ap size-Tree c.in-Variant.is ∙ size_choice c.in-Variant.place c.in-Variant.tree in
+    let less = at-lt-alone c.args.self.now.table.now c.args.self.now.whole.now (size-Tree c.in-Variant.tree) (size-Tree c.args.tree.now) c.in-Some.alternative.now (omega arith) in
+    rw c.get-in-Some.ensures (omega (arith, c.decreases, less), c.requires c.in-Some.alternative.now (c.in-Variant.place, below_true _ _ c.in-Some.ensures.lookup.0, sym c.in-Some.ensures.lookup.1))
+
+pub encode_choice-returns-in-Some : goal.encode_choice-returns-in-Some
+encode_choice-returns-in-Some t c =
+    rw (chosen_row (written_under c.args.self.now.table.now c.args.self.now.whole.now) c.args.alternatives.now c.args.tree.now c.in-Variant.place c.in-Variant.tree (Some c.in-Some.alternative.now) c.in-Variant.is (slice_get_read c.args.alternatives.now _ c.in-Variant.place c.in-Some.alternative.now refl (below_true _ _ c.in-Some.ensures.lookup.0) c.in-Some.ensures.lookup.1), ← c.get-in-Some.ensures) c.encode_at.ensures
+
+pub encode_choice-returns-in-None : goal.encode_choice-returns-in-None
+encode_choice-returns-in-None t c =
+    rw (chosen_row (written_under c.args.self.now.table.now c.args.self.now.whole.now) c.args.alternatives.now c.args.tree.now c.in-Variant.place c.in-Variant.tree None c.in-Variant.is (slice_get_past c.args.alternatives.now c.in-Variant.place (below_false _ _ c.in-None.ensures.lookup.0))) refl

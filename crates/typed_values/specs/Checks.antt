@@ -1,0 +1,96 @@
+-- What is wrong with a table or a descriptor, case by case.
+use Rattle.std.specs.Prelude.{◌≡◌, ◌≢◌, ◌⊎◌, ℕ, ℤ, Bool, true, false, ◌&&◌, ◌||◌, nat_le, int_le, ◌==◌, IsTrue, List, [], length, map, Option, Some, None, Contains}
+use Rattle.std.specs.List.{AllByRecursion}
+use Rattle.schema_values.specs.Sound.{AreDistinct}
+use Rattle.typed_values.specs.declared.desc.Desc.{Desc, out-Desc}
+use Rattle.typed_values.specs.declared.desc.Desc.TheOpen.{Desc-F}
+use Rattle.typed_values.specs.declared.desc.Field.{Field}
+use Rattle.typed_values.specs.declared.desc.IntKind.{IntKind}
+use Rattle.typed_values.specs.declared.desc.Presence.TheVariants.{Nullable, Skipped}
+use Rattle.typed_values.specs.declared.table.Definition.{Definition}
+use Rattle.typed_values.specs.Definitions.{definition, definition_name, field_name}
+use Rattle.typed_values.specs.Bounds.{least_of, greatest_of}
+use Rattle.typed_values.specs.Guarded.{IsGuarded}
+use Rattle.typed_values.specs.Parts.{StandsIn}
+
+-- two fields have one name
+abbrev pub HasDoubledName : Desc → Type 0
+HasDoubledName d = (fs : List Field) × (deny : Bool) × (out-Desc d ≡ Desc-F.Struct fs deny) × (AreDistinct (map field_name fs) → ⊥)
+
+-- letters, digits, `.`, `-` and `_`
+abbrev pub is_name_character : ℕ → Bool
+is_name_character c = ((nat_le 97 c && nat_le c 122) || (nat_le 65 c && nat_le c 90)) || ((nat_le 48 c && nat_le c 57) || ((c == 46) || ((c == 45) || (c == 95))))
+
+abbrev pub IsName : List ℕ → Type 0
+IsName name = (name ≢ []) × AllByRecursion (λ c. IsTrue (is_name_character c)) name
+
+-- a reference that has no definition
+abbrev pub IsDangling : List Definition → Desc → Type 0
+IsDangling table d = (name : List ℕ) × (out-Desc d ≡ Desc-F.Ref name) × (definition table name ≡ None)
+
+-- a choice without alternatives
+abbrev pub IsEmptyChoice : Desc → Type 0
+IsEmptyChoice d = out-Desc d ≡ Desc-F.Untagged []
+
+-- null denotes something: an option, a reference to what takes null, or an alternative that does
+pub data TakesNull (table : List Definition) : Desc → Type 0 where
+  an_option : {d : Desc} (x : Desc) → out-Desc d ≡ Desc-F.Option x → TakesNull table d
+  a_reference : {d : Desc} (name : List ℕ) (y : Desc) → out-Desc d ≡ Desc-F.Ref name → definition table name ≡ Some y → TakesNull table y → TakesNull table d
+  an_alternative : {d : Desc} (ds : List Desc) (x : Desc) → out-Desc d ≡ Desc-F.Untagged ds → Contains ds x → TakesNull table x → TakesNull table d
+
+-- an option over what takes null itself
+abbrev pub IsNullOfNull : List Definition → Desc → Type 0
+IsNullOfNull table d = (x : Desc) × (out-Desc d ≡ Desc-F.Option x) × TakesNull table x
+
+abbrev pub is_length_order : Option ℕ → Option ℕ → Bool
+is_length_order (Some min) (Some max) = nat_le min max
+is_length_order _ _ = true
+
+abbrev pub is_number_order : Option ℤ → Option ℤ → Bool
+is_number_order (Some min) (Some max) = int_le min max
+is_number_order _ _ = true
+
+abbrev pub is_bound_of : IntKind → Option ℤ → Bool
+is_bound_of kind None = true
+is_bound_of kind (Some bound) = int_le (least_of kind) bound && int_le bound (greatest_of kind)
+
+abbrev pub are_bounds_right : Desc-F Desc Field → Bool
+are_bounds_right (Desc-F.Int kind min max) = is_number_order min max && (is_bound_of kind min && is_bound_of kind max)
+are_bounds_right (Desc-F.Text min max format) = is_length_order min max
+are_bounds_right (Desc-F.List x min max) = is_length_order min max
+are_bounds_right (Desc-F.Untagged ds) = nat_le (length ds) 4294967296
+are_bounds_right _ = true
+
+-- a least bound above the greatest, a bound outside its kind, or more than 2^32 alternatives
+abbrev pub HasBadRange : Desc → Type 0
+HasBadRange d = are_bounds_right (out-Desc d) ≡ false
+
+abbrev pub IsOption : Desc → Type 0
+IsOption d = (x : Desc) × (out-Desc d ≡ Desc-F.Option x)
+
+-- a nullable field that is no option, or one that may be skipped and takes null
+abbrev pub IsBadField : List Definition → Field → Type 0
+IsBadField table f = ((f.presence ≡ Nullable) × (IsOption f.desc → ⊥)) ⊎ ((f.presence ≡ Skipped) × TakesNull table f.desc)
+
+abbrev pub HasBadPresence : List Definition → Desc → Type 0
+HasBadPresence table d = (fs : List Field) × (deny : Bool) × (f : Field) × (out-Desc d ≡ Desc-F.Struct fs deny) × Contains fs f × IsBadField table f
+
+-- no case applies to a descriptor
+pub record IsPlainlyRight (table : List Definition) (d : Desc) : Type 0 where
+  pub names_distinct : HasDoubledName d → ⊥
+  pub defined : IsDangling table d → ⊥
+  pub some_alternative : IsEmptyChoice d → ⊥
+  pub null_once : IsNullOfNull table d → ⊥
+  pub ranges : HasBadRange d → ⊥
+  pub presences : HasBadPresence table d → ⊥
+
+-- no case applies to any descriptor that stands in one
+abbrev pub DescPasses : List Definition → Desc → Type 0
+DescPasses table desc = (d : Desc) → StandsIn desc d → IsPlainlyRight table d
+
+-- no case applies to a table, whose definitions have distinct names
+pub record TablePasses (table : List Definition) : Type 0 where
+  pub once : AreDistinct (map definition_name table)
+  pub named : (e : Definition) → Contains table e → IsName e.name
+  pub guarded : IsGuarded table
+  pub each : (e : Definition) → Contains table e → DescPasses table e.desc

@@ -1,0 +1,25 @@
+-- The definitions of a table, by name.
+use Rattle.std.specs.Prelude.{ℕ, List, [], ◌∷◌, Option, Some, None, if◌then◌else◌, bytes_eq}
+use Rattle.typed_values.specs.declared.desc.Desc.{Desc}
+use Rattle.typed_values.specs.declared.desc.Field.{Field}
+use Rattle.typed_values.specs.declared.table.Definition.{Definition}
+
+-- the definition of a name, description and all
+abbrev pub entry_of : List Definition → List ℕ → Option Definition
+entry_of [] name = None
+entry_of (e ∷ es) name = if bytes_eq e.name name then Some e else entry_of es name
+
+-- the descriptor that a name is defined as
+abbrev pub definition : List Definition → List ℕ → Option Desc
+definition [] name = None
+definition (e ∷ es) name = if bytes_eq e.name name then Some e.desc else definition es name
+
+abbrev pub field_name : Field → List ℕ
+field_name field = field.name
+
+abbrev pub definition_name : Definition → List ℕ
+definition_name e = e.name
+
+-- a definition by its parts
+abbrev pub definition_with : List ℕ → Option (List ℕ) → Desc → Definition
+definition_with name description desc = record { name = name; description = description; desc = desc }

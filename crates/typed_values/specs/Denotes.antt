@@ -1,0 +1,232 @@
+-- Which tree a JSON value denotes under a descriptor, and which fault is told first where it denotes none.
+use Rattle.std.specs.Prelude.{◌≡◌, ℕ, zero, suc, ◌+◌, ℤ, Bool, true, false, not, List, [], ◌∷◌, length, map, filter, Option, Some, None, if◌then◌else◌, bytes_eq, sum}
+use Rattle.std.specs.declared.result.Result.{Result}
+use Rattle.std.specs.declared.result.Result.TheVariants.{Ok, Err}
+use Rattle.std.specs.declared.cmp.Ordering.{Ordering}
+use Rattle.std.specs.declared.cmp.Ordering.TheVariants.{Less, Equal, Greater}
+use Rattle.std.specs.Ordering.{nat_cmp}
+use Rattle.std.specs.Cmp.Lexicographic.{slice_cmp}
+use Rattle.schema_values.specs.declared.json_value.Json.{Json}
+use Rattle.schema_values.specs.declared.json_value.Json.TheOpen.{Json-F, Member-F}
+use Rattle.schema_values.specs.declared.json_value.Json.TheFolds.{fold-Json}
+use Rattle.typed_values.specs.declared.desc.Desc.{Desc, out-Desc}
+use Rattle.typed_values.specs.declared.desc.Desc.TheOpen.{Desc-F, Field-F}
+use Rattle.typed_values.specs.declared.desc.Desc.TheFolds.{fold-Desc}
+use Rattle.typed_values.specs.declared.desc.Field.{Field}
+use Rattle.typed_values.specs.declared.desc.IntKind.{IntKind}
+use Rattle.typed_values.specs.declared.desc.Presence.{Presence}
+use Rattle.typed_values.specs.declared.desc.Presence.TheVariants.{Required, Nullable, Skipped}
+use Rattle.typed_values.specs.declared.tree.Tree.{Tree, Bool as Truth, Int as Number, Text as Words, None as Nothing, Some as Just, List as Items, Fields as Parts, Variant as Choice}
+use Rattle.typed_values.specs.declared.fault.FaultKind.{FaultKind}
+use Rattle.typed_values.specs.declared.fault.FaultKind.TheVariants.{Missing, Unknown, WrongKind, OutOfRange, BadLength, NoAlternative}
+use Rattle.typed_values.specs.declared.fault.Place.{Place}
+use Rattle.typed_values.specs.declared.fault.Place.TheVariants.{Name, Item}
+use Rattle.typed_values.specs.declared.table.Definition.{Definition}
+use Rattle.typed_values.specs.Definitions.{definition}
+use Rattle.typed_values.specs.Bounds.{is_number_of, is_length_within}
+use Rattle.typed_values.specs.Faults.{Trouble, at_root}
+
+-- a tree, or the fault that is told
+abbrev pub Told : Type 0
+Told = Result Tree Trouble
+
+-- what a value denotes, with so many steps left, under a descriptor
+abbrev pub Meaning : Type 0
+Meaning = ℕ → Desc → Told
+
+-- one level of a JSON value, where each smaller value stands as what it denotes
+abbrev pub NamedMeaning : Type 0
+NamedMeaning = Member-F Meaning (Unit {0})
+
+abbrev pub Level : Type 0
+Level = Json-F Meaning NamedMeaning
+
+-- the value of the first member of a name
+abbrev pub value_named : {X : Type 0} → List (Member-F X (Unit {0})) → List ℕ → Option X
+value_named [] name = None
+value_named (m ∷ ms) name = if bytes_eq m.name name then Some m.value else value_named ms name
+
+-- a fault below a place
+abbrev pub below : Place → Told → Told
+below place (Ok tree) = Ok tree
+below place (Err trouble) = Err (record { path = place ∷ trouble.path; kind = trouble.kind })
+
+abbrev pub just : Told → Told
+just (Ok tree) = Ok (Just tree)
+just (Err trouble) = Err trouble
+
+-- one after the other: the first fault from the left is told
+abbrev pub and_rest : Tree → Result (List Tree) Trouble → Result (List Tree) Trouble
+and_rest tree (Ok trees) = Ok (tree ∷ trees)
+and_rest tree (Err trouble) = Err trouble
+
+abbrev pub and_then : Told → Result (List Tree) Trouble → Result (List Tree) Trouble
+and_then (Ok tree) rest = and_rest tree rest
+and_then (Err trouble) rest = Err trouble
+
+abbrev pub all_told : {X : Type 0} → (ℕ → X → Told) → ℕ → List X → Result (List Tree) Trouble
+all_told told i [] = Ok []
+all_told told i (x ∷ xs) = and_then (told i x) (all_told told (i + 1) xs)
+
+abbrev pub as_tree : (List Tree → Tree) → Result (List Tree) Trouble → Told
+as_tree node (Ok trees) = Ok (node trees)
+as_tree node (Err trouble) = Err trouble
+
+abbrev pub refused : FaultKind → Told
+refused kind = Err (at_root kind)
+
+abbrev pub if_holds : Bool → FaultKind → Told → Told
+if_holds true kind told = told
+if_holds false kind told = refused kind
+
+abbrev pub truth : {X Y : Type 0} → Json-F X Y → Told
+truth (Json-F.Bool b) = Ok (Truth b)
+truth _ = refused WrongKind
+
+abbrev pub number : {X Y : Type 0} → IntKind → Option ℤ → Option ℤ → Json-F X Y → Told
+number kind min max (Json-F.Int n) = if_holds (is_number_of kind min max n) OutOfRange (Ok (Number n))
+number kind min max _ = refused WrongKind
+
+abbrev pub words : {X Y : Type 0} → Option ℕ → Option ℕ → Json-F X Y → Told
+words min max (Json-F.Text text) = if_holds (is_length_within min max (length text)) BadLength (Ok (Words text))
+words min max _ = refused WrongKind
+
+-- null, or what the value denotes under the inner descriptor
+abbrev pub optional : {X Y : Type 0} → Json-F X Y → Told → Told
+optional Json-F.Null inner = Ok Nothing
+optional _ inner = just inner
+
+-- a list of so many items, item by item
+abbrev pub items_told : {X : Type 0} → (ℕ → X → Told) → Option ℕ → Option ℕ → List X → Told
+items_told told min max xs = if_holds (is_length_within min max (length xs)) BadLength (as_tree Items (all_told told 0 xs))
+
+abbrev pub items : ℕ → Desc → Option ℕ → Option ℕ → Level → Told
+items room d min max (Json-F.List xs) = items_told (λ i x. below (Item i) (x room d)) min max xs
+items room d min max _ = refused WrongKind
+
+-- what a field that is absent gives
+abbrev pub if_absent : Presence → List ℕ → Told
+if_absent Required name = refused (Missing name)
+if_absent Nullable name = Ok Nothing
+if_absent Skipped name = Ok Nothing
+
+-- what a field that is there gives
+abbrev pub if_present : Presence → Told → Told
+if_present Required told = told
+if_present Nullable told = told
+if_present Skipped told = just told
+
+-- the presence rule
+abbrev pub by_presence : Field → Option Told → Told
+by_presence f None = if_absent f.presence f.name
+by_presence f (Some told) = if_present f.presence (below (Name f.name) told)
+
+abbrev pub value_told : ℕ → Desc → Option Meaning → Option Told
+value_told room d None = None
+value_told room d (Some meaning) = Some (meaning room d)
+
+abbrev pub field_told : ℕ → List NamedMeaning → Field → Told
+field_told room ms f = by_presence f (value_told room f.desc (value_named ms f.name))
+
+-- whether a name is that of a field
+abbrev pub is_declared : List Field → List ℕ → Bool
+is_declared [] name = false
+is_declared (f ∷ fs) name = if bytes_eq f.name name then true else is_declared fs name
+
+-- the least of some names, in the order of their characters
+abbrev pub lesser : Ordering → List ℕ → List ℕ → List ℕ
+lesser Less a b = a
+lesser Equal a b = a
+lesser Greater a b = b
+
+abbrev pub least_with : List ℕ → Option (List ℕ) → Option (List ℕ)
+least_with name None = Some name
+least_with name (Some other) = Some (lesser (slice_cmp nat_cmp name other) name other)
+
+abbrev pub least_name : List (List ℕ) → Option (List ℕ)
+least_name [] = None
+least_name (name ∷ names) = least_with name (least_name names)
+
+abbrev pub member_name : {X : Type 0} → Member-F X (Unit {0}) → List ℕ
+member_name m = m.name
+
+-- the first unknown name, in the order of names, where unknown names are denied
+abbrev pub denied_name : {X : Type 0} → Bool → List Field → List (Member-F X (Unit {0})) → Option (List ℕ)
+denied_name false fs ms = None
+denied_name true fs ms = least_name (filter (λ name. not (is_declared fs name)) (map member_name ms))
+
+-- the fields come first, and then unknown names
+abbrev pub unless_denied : Option (List ℕ) → Told → Told
+unless_denied None told = told
+unless_denied (Some name) (Ok tree) = refused (Unknown name)
+unless_denied (Some name) (Err trouble) = Err trouble
+
+abbrev pub fields : ℕ → List Field → Bool → Level → Told
+fields room fs deny (Json-F.Object ms) = unless_denied (denied_name deny fs ms) (as_tree Parts (all_told (λ i f. field_told room ms f) 0 fs))
+fields room fs deny _ = refused WrongKind
+
+abbrev pub at_definition : (Desc → Told) → Option Desc → Told
+at_definition told None = refused WrongKind
+at_definition told (Some d) = told d
+
+-- the first alternative under which the value denotes anything
+abbrev pub or_else : ℕ → Told → Told → Told
+or_else i (Ok tree) rest = Ok (Choice i tree)
+or_else i (Err trouble) rest = rest
+
+abbrev pub first_told : ℕ → (Desc → Told) → List Desc → Told
+first_told i told [] = refused NoAlternative
+first_told i told (d ∷ ds) = or_else i (told d) (first_told (i + 1) told ds)
+
+-- One row for each descriptor. `next` is what the same value denotes with one step less.
+abbrev pub told_by : List Definition → ℕ → Level → (Desc → Told) → Desc-F Desc Field → Told
+told_by table room j next Desc-F.Bool = truth j
+told_by table room j next (Desc-F.Int kind min max) = number kind min max j
+told_by table room j next (Desc-F.Text min max format) = words min max j
+told_by table room j next (Desc-F.Option d) = optional j (next d)
+told_by table room j next (Desc-F.List d min max) = items room d min max j
+told_by table room j next (Desc-F.Struct fs deny) = fields room fs deny j
+told_by table room j next (Desc-F.Untagged ds) = first_told 0 next ds
+told_by table room j next (Desc-F.Ref name) = at_definition next (definition table name)
+
+-- with no step left nothing is denoted
+unfoldable pub told_at : List Definition → ℕ → Level → Meaning
+told_at table room j zero d = refused WrongKind
+told_at table room j (suc n) d = told_by table room j (told_at table room j n) (out-Desc d)
+
+abbrev pub named_meaning : Member-F Meaning NamedMeaning → NamedMeaning
+named_meaning m = record { name = m.name; value = m.value }
+
+-- the steps are renewed at each smaller value
+abbrev pub told_within : List Definition → ℕ → Json → Meaning
+told_within table room = fold-Json Meaning NamedMeaning (told_at table room) named_meaning
+
+-- the number of descriptors in a descriptor
+abbrev pub nodes_step : Desc-F ℕ ℕ → ℕ
+nodes_step (Desc-F.Option n) = suc n
+nodes_step (Desc-F.List n min max) = suc n
+nodes_step (Desc-F.Struct ns deny) = suc (sum ns)
+nodes_step (Desc-F.Untagged ns) = suc (sum ns)
+nodes_step _ = 1
+
+abbrev pub field_nodes : Field-F ℕ ℕ → ℕ
+field_nodes f = f.desc
+
+abbrev pub nodes : Desc → ℕ
+nodes = fold-Desc ℕ ℕ nodes_step field_nodes
+
+abbrev pub nodes_of_table : List Definition → ℕ
+nodes_of_table [] = 0
+nodes_of_table (e ∷ es) = nodes e.desc + nodes_of_table es
+
+-- one more than all descriptors together: so many steps are never spent where the table is guarded
+unfoldable pub room : List Definition → Desc → ℕ
+room table d = suc (nodes_of_table table + nodes d)
+
+-- what a value denotes under a descriptor that stands in a table or in a whole descriptor
+unfoldable pub told : List Definition → Desc → Json → Desc → Told
+told table whole j d = told_within table (room table whole) j (room table whole) d
+
+-- the value denotes the tree
+abbrev pub JsonDenotes : List Definition → Desc → Json → Tree → Type 0
+JsonDenotes table desc j tree = told table desc j desc ≡ Ok tree

@@ -1,0 +1,103 @@
+-- The JSON value that a tree is written as. Fields stand in the order in which they are declared.
+use Rattle.std.specs.Prelude.{ℕ, zero, suc, Bool, true, false, List, [], ◌∷◌, map, Option, Some, None}
+use Rattle.schema_values.specs.declared.json_value.Json.{Json, Null, Bool as Truth, Int as Number, Text as Words, List as Items, Object}
+use Rattle.schema_values.specs.declared.json_value.Member.{Member}
+use Rattle.typed_values.specs.declared.desc.Desc.{Desc, out-Desc}
+use Rattle.typed_values.specs.declared.desc.Desc.TheOpen.{Desc-F}
+use Rattle.typed_values.specs.declared.desc.Field.{Field}
+use Rattle.typed_values.specs.declared.desc.Presence.{Presence}
+use Rattle.typed_values.specs.declared.desc.Presence.TheVariants.{Required, Nullable, Skipped}
+use Rattle.typed_values.specs.declared.tree.Tree.{Tree}
+use Rattle.typed_values.specs.declared.tree.Tree.TheOpen.{Tree-F}
+use Rattle.typed_values.specs.declared.tree.Tree.TheFolds.{fold-Tree}
+use Rattle.typed_values.specs.declared.table.Definition.{Definition}
+use Rattle.typed_values.specs.Definitions.{definition}
+use Rattle.typed_values.specs.Denotes.{room}
+use Rattle.typed_values.specs.Fits.{field_desc, alternative_at}
+
+-- a tree as it is written: whether it is `None`, and its JSON with so many steps left under a descriptor
+pub record Writing : Type 0 where
+  pub is_none : Bool
+  pub json : ℕ → Desc → Json
+
+abbrev pub member : List ℕ → Json → Member
+member name value = record { name = name; value = value }
+
+-- a field that may be skipped is left out where it is `None`
+abbrev pub is_left_out : Presence → Bool → Bool
+is_left_out Skipped is_none = is_none
+is_left_out Required is_none = false
+is_left_out Nullable is_none = false
+
+abbrev pub unless : Bool → Member → List Member → List Member
+unless true m ms = ms
+unless false m ms = m ∷ ms
+
+abbrev pub members_written : {X : Type 0} → (X → Bool) → (X → Desc → Json) → List Field → List X → List Member
+members_written is_none written [] xs = []
+members_written is_none written (f ∷ fs) [] = []
+members_written is_none written (f ∷ fs) (x ∷ xs) =
+    unless (is_left_out f.presence (is_none x)) (member f.name (written x (field_desc f))) (members_written is_none written fs xs)
+
+abbrev pub written_if_there : (Desc → Json) → Option Desc → Json
+written_if_there written None = Null
+written_if_there written (Some d) = written d
+
+-- What is written for trees that fit. Any other is written as null.
+abbrev pub scalar_written : {X : Type 0} → Tree-F X → Json
+scalar_written (Tree-F.Bool b) = Truth b
+scalar_written (Tree-F.Int n) = Number n
+scalar_written (Tree-F.Text text) = Words text
+scalar_written _ = Null
+
+abbrev pub option_written : {X : Type 0} → (X → Json) → Tree-F X → Json
+option_written written (Tree-F.Some x) = written x
+option_written written _ = Null
+
+abbrev pub items_written : {X : Type 0} → (X → Json) → Tree-F X → Json
+items_written written (Tree-F.List xs) = Items (map written xs)
+items_written written _ = Null
+
+abbrev pub parts_written : {X : Type 0} → (X → Bool) → (X → Desc → Json) → List Field → Tree-F X → Json
+parts_written is_none written fs (Tree-F.Fields xs) = Object (members_written is_none written fs xs)
+parts_written is_none written fs _ = Null
+
+abbrev pub choice_written : {X : Type 0} → (X → Desc → Json) → List Desc → Tree-F X → Json
+choice_written written ds (Tree-F.Variant i x) = written_if_there (written x) (alternative_at ds i)
+choice_written written ds _ = Null
+
+-- One row for each descriptor. `next` is how the same tree is written with one step less.
+abbrev pub written_by : {X : Type 0} → List Definition → (X → Bool) → (X → Desc → Json) → (Desc → Json) → Desc-F Desc Field → Tree-F X → Json
+written_by table is_none written next Desc-F.Bool tree = scalar_written tree
+written_by table is_none written next (Desc-F.Int kind min max) tree = scalar_written tree
+written_by table is_none written next (Desc-F.Text min max format) tree = scalar_written tree
+written_by table is_none written next (Desc-F.Option d) tree = option_written (λ x. written x d) tree
+written_by table is_none written next (Desc-F.List d min max) tree = items_written (λ x. written x d) tree
+written_by table is_none written next (Desc-F.Struct fs deny) tree = parts_written is_none written fs tree
+written_by table is_none written next (Desc-F.Untagged ds) tree = choice_written written ds tree
+written_by table is_none written next (Desc-F.Ref name) tree = written_if_there next (definition table name)
+
+abbrev pub is_none_written : Writing → Bool
+is_none_written x = x.is_none
+
+unfoldable pub written_at : List Definition → ℕ → Tree-F Writing → ℕ → Desc → Json
+written_at table room tree zero d = Null
+written_at table room tree (suc n) d = written_by table is_none_written (λ x e. x.json room e) (written_at table room tree n) (out-Desc d) tree
+
+abbrev pub is_none_level : {X : Type 0} → Tree-F X → Bool
+is_none_level Tree-F.None = true
+is_none_level _ = false
+
+abbrev pub writing_step : List Definition → ℕ → Tree-F Writing → Writing
+writing_step table room tree = record { is_none = is_none_level tree; json = written_at table room tree }
+
+abbrev pub writing : List Definition → ℕ → Tree → Writing
+writing table room = fold-Tree Writing (writing_step table room)
+
+-- a tree under a descriptor that stands in a table or in a whole descriptor
+unfoldable pub written_under : List Definition → Desc → Tree → Desc → Json
+written_under table whole tree d = (writing table (room table whole) tree).json (room table whole) d
+
+-- the JSON of a tree of a descriptor
+abbrev pub json_of_tree : List Definition → Desc → Tree → Json
+json_of_tree table desc tree = written_under table desc tree desc

@@ -1,0 +1,48 @@
+-- Faults with their paths, and the texts that tell them.
+use Rattle.std.specs.Prelude.{ℕ, List, [], ◌∷◌, ◌++◌, codes, bytes_eq, if◌then◌else◌}
+use Rattle.std.specs.Fmt.{decimal}
+use Rattle.typed_values.specs.declared.fault.FaultKind.{FaultKind}
+use Rattle.typed_values.specs.declared.fault.FaultKind.TheVariants.{Missing, Unknown, WrongKind, OutOfRange, BadLength, NoAlternative, NotJson}
+use Rattle.typed_values.specs.declared.fault.Place.{Place}
+use Rattle.typed_values.specs.declared.fault.Place.TheVariants.{Name, Item}
+use Rattle.typed_values.specs.declared.fault.Fault.{Fault}
+
+-- a fault, and the places that lead to it, the outermost first
+pub record Trouble : Type 0 where
+  pub path : List Place
+  pub kind : FaultKind
+
+abbrev pub at_root : FaultKind → Trouble
+at_root kind = record { path = []; kind = kind }
+
+-- a place behind others: a name after a dot, an item in brackets
+abbrev pub place_behind : Place → List ℕ
+place_behind (Name name) = 46 ∷ name
+place_behind (Item k) = 91 ∷ decimal k ++ 93 ∷ []
+
+abbrev pub places_behind : List Place → List ℕ
+places_behind [] = []
+places_behind (place ∷ rest) = place_behind place ++ places_behind rest
+
+-- a dot at the root, else the places, where a first name has no dot
+abbrev pub path_text : List Place → List ℕ
+path_text [] = codes "."
+path_text (Name name ∷ rest) = name ++ places_behind rest
+path_text (Item k ∷ rest) = places_behind (Item k ∷ rest)
+
+abbrev pub kind_text : FaultKind → List ℕ
+kind_text (Missing name) = codes "missing field `" ++ name ++ codes "`"
+kind_text (Unknown name) = codes "unknown field `" ++ name ++ codes "`"
+kind_text WrongKind = codes "invalid type"
+kind_text OutOfRange = codes "value out of range"
+kind_text BadLength = codes "length out of range"
+kind_text NoAlternative = codes "no alternative fits"
+kind_text NotJson = codes "not JSON"
+
+-- the fault as it is handed out
+abbrev pub fault_of : Trouble → Fault
+fault_of trouble = record { path = path_text trouble.path; kind = trouble.kind }
+
+-- the kind's text alone at the root, else the path, a colon, a space and the kind's text
+abbrev pub fault_text : Fault → List ℕ
+fault_text fault = if bytes_eq fault.path (codes ".") then kind_text fault.kind else fault.path ++ codes ": " ++ kind_text fault.kind

@@ -1,0 +1,106 @@
+-- Which trees are values of a descriptor.
+use Rattle.std.specs.Prelude.{ℕ, zero, suc, ℤ, Bool, true, false, IsTrue, ◌&&◌, List, [], ◌∷◌, length, Option, Some, None}
+use Rattle.typed_values.specs.declared.desc.Desc.{Desc, Option as OptionOf, out-Desc}
+use Rattle.typed_values.specs.declared.desc.Desc.TheOpen.{Desc-F}
+use Rattle.typed_values.specs.declared.desc.Field.{Field}
+use Rattle.typed_values.specs.declared.desc.IntKind.{IntKind}
+use Rattle.typed_values.specs.declared.desc.Presence.{Presence}
+use Rattle.typed_values.specs.declared.desc.Presence.TheVariants.{Required, Nullable, Skipped}
+use Rattle.typed_values.specs.declared.tree.Tree.{Tree}
+use Rattle.typed_values.specs.declared.tree.Tree.TheOpen.{Tree-F}
+use Rattle.typed_values.specs.declared.tree.Tree.TheFolds.{fold-Tree}
+use Rattle.typed_values.specs.declared.table.Definition.{Definition}
+use Rattle.typed_values.specs.Definitions.{definition}
+use Rattle.typed_values.specs.Bounds.{is_number_of, is_length_within}
+use Rattle.typed_values.specs.Denotes.{room}
+
+-- whether a tree fits, with so many steps left, a descriptor
+abbrev pub Fitting : Type 0
+Fitting = ℕ → Desc → Bool
+
+abbrev pub truth_fits : {X : Type 0} → Tree-F X → Bool
+truth_fits (Tree-F.Bool b) = true
+truth_fits _ = false
+
+abbrev pub number_fits : {X : Type 0} → IntKind → Option ℤ → Option ℤ → Tree-F X → Bool
+number_fits kind min max (Tree-F.Int n) = is_number_of kind min max n
+number_fits kind min max _ = false
+
+abbrev pub words_fit : {X : Type 0} → Option ℕ → Option ℕ → Tree-F X → Bool
+words_fit min max (Tree-F.Text text) = is_length_within min max (length text)
+words_fit min max _ = false
+
+-- nothing, or a tree that fits
+abbrev pub option_fits : {X : Type 0} → (X → Bool) → Tree-F X → Bool
+option_fits fits Tree-F.None = true
+option_fits fits (Tree-F.Some x) = fits x
+option_fits fits _ = false
+
+abbrev pub each_fits : {X : Type 0} → (X → Bool) → List X → Bool
+each_fits fits [] = true
+each_fits fits (x ∷ xs) = fits x && each_fits fits xs
+
+abbrev pub items_fit : {X : Type 0} → (X → Bool) → Option ℕ → Option ℕ → Tree-F X → Bool
+items_fit fits min max (Tree-F.List xs) = is_length_within min max (length xs) && each_fits fits xs
+items_fit fits min max _ = false
+
+-- a field's tree is one of an option where the field may be skipped
+abbrev pub field_desc : Field → Desc
+field_desc f = under f.presence where
+  under : Presence → Desc
+  under Required = f.desc
+  under Nullable = f.desc
+  under Skipped = OptionOf f.desc
+
+-- one tree for each field, in order
+abbrev pub fields_fit : {X : Type 0} → (X → Desc → Bool) → List Field → List X → Bool
+fields_fit fits [] [] = true
+fields_fit fits [] (x ∷ xs) = false
+fields_fit fits (f ∷ fs) [] = false
+fields_fit fits (f ∷ fs) (x ∷ xs) = fits x (field_desc f) && fields_fit fits fs xs
+
+abbrev pub parts_fit : {X : Type 0} → (X → Desc → Bool) → List Field → Tree-F X → Bool
+parts_fit fits fs (Tree-F.Fields xs) = fields_fit fits fs xs
+parts_fit fits fs _ = false
+
+-- the descriptor at a place
+abbrev pub alternative_at : List Desc → ℕ → Option Desc
+alternative_at [] i = None
+alternative_at (d ∷ ds) zero = Some d
+alternative_at (d ∷ ds) (suc i) = alternative_at ds i
+
+abbrev pub if_there : (Desc → Bool) → Option Desc → Bool
+if_there fits None = false
+if_there fits (Some d) = fits d
+
+abbrev pub choice_fits : {X : Type 0} → (X → Desc → Bool) → List Desc → Tree-F X → Bool
+choice_fits fits ds (Tree-F.Variant i x) = if_there (fits x) (alternative_at ds i)
+choice_fits fits ds _ = false
+
+-- One row for each descriptor. `next` is whether the same tree fits with one step less.
+abbrev pub fits_by : {X : Type 0} → List Definition → (X → Desc → Bool) → (Desc → Bool) → Desc-F Desc Field → Tree-F X → Bool
+fits_by table fits next Desc-F.Bool tree = truth_fits tree
+fits_by table fits next (Desc-F.Int kind min max) tree = number_fits kind min max tree
+fits_by table fits next (Desc-F.Text min max format) tree = words_fit min max tree
+fits_by table fits next (Desc-F.Option d) tree = option_fits (λ x. fits x d) tree
+fits_by table fits next (Desc-F.List d min max) tree = items_fit (λ x. fits x d) min max tree
+fits_by table fits next (Desc-F.Struct fs deny) tree = parts_fit fits fs tree
+fits_by table fits next (Desc-F.Untagged ds) tree = choice_fits fits ds tree
+fits_by table fits next (Desc-F.Ref name) tree = if_there next (definition table name)
+
+-- with no step left nothing fits
+unfoldable pub fits_at : List Definition → ℕ → Tree-F Fitting → Fitting
+fits_at table room tree zero d = false
+fits_at table room tree (suc n) d = fits_by table (λ x e. x room e) (fits_at table room tree n) (out-Desc d) tree
+
+-- the steps are renewed at each smaller tree
+abbrev pub fits_within : List Definition → ℕ → Tree → Fitting
+fits_within table room = fold-Tree Fitting (fits_at table room)
+
+-- whether a tree fits a descriptor that stands in a table or in a whole descriptor
+unfoldable pub fits_under : List Definition → Desc → Tree → Desc → Bool
+fits_under table whole tree d = fits_within table (room table whole) tree (room table whole) d
+
+-- the tree is a value of the descriptor
+abbrev pub Fits : List Definition → Desc → Tree → Type 0
+Fits table desc tree = IsTrue (fits_under table desc tree desc)

@@ -1,0 +1,35 @@
+-- A table is sound in one way at most, so that a ghost field can say it.
+use Rattle.std.specs.Prelude.{ℕ, zero, suc, List, [], ◌∷◌, Option, Some, None, refl, MatchOption}
+use Rattle.typed_values.specs.declared.desc.Desc.{Desc, out-Desc}
+use Rattle.typed_values.specs.declared.desc.Desc.TheOpen.{Desc-F}
+use Rattle.typed_values.specs.declared.desc.Field.{Field}
+use Rattle.typed_values.specs.declared.table.Definition.{Definition}
+use Rattle.typed_values.specs.Definitions.{definition}
+use Rattle.typed_values.specs.Denotes.{room}
+use Rattle.typed_values.specs.Sound.{EachRests, RestsBy, Rests, IsSound}
+
+once_found : (Next : Desc → Type 0) → ((d : Desc) → IsProp (Next d)) → (o : Option Desc) → IsProp (MatchOption o ⊥ Next)
+once_found Next p None = λ a b. absurd a
+once_found Next p (Some d) = p d
+
+once_each : (Next : Desc → Type 0) → ((d : Desc) → IsProp (Next d)) → (ds : List Desc) → IsProp (EachRests Next ds)
+once_each Next p [] = λ a b. refl
+once_each Next p (d ∷ ds) = λ a b i. (p d a.0 b.0 i, once_each Next p ds a.1 b.1 i)
+
+once_by : (table : List Definition) (Next : Desc → Type 0) → ((d : Desc) → IsProp (Next d)) → (x : Desc-F Desc Field) → IsProp (RestsBy table Next x)
+once_by table Next p Desc-F.Bool = λ a b. refl
+once_by table Next p (Desc-F.Int kind min max) = λ a b. refl
+once_by table Next p (Desc-F.Text min max format) = λ a b. refl
+once_by table Next p (Desc-F.Option d) = p d
+once_by table Next p (Desc-F.List d min max) = λ a b. refl
+once_by table Next p (Desc-F.Struct fs deny) = λ a b. refl
+once_by table Next p (Desc-F.Untagged ds) = once_each Next p ds
+once_by table Next p (Desc-F.Ref name) = once_found Next p (definition table name)
+
+once_rests : (table : List Definition) (n : ℕ) (d : Desc) → IsProp (Rests table n d)
+unfolding Rests
+once_rests table zero d = λ a b. absurd a
+once_rests table (suc n) d = once_by table (Rests table n) (once_rests table n) (out-Desc d)
+
+pub once_sound : (table : List Definition) (whole : Desc) → IsProp (IsSound table whole)
+once_sound table whole = λ a b i d p. once_rests table (room table whole) d (a d p) (b d p) i

@@ -1,0 +1,59 @@
+-- What lists and structs denote with no count of steps: on a sound table these equations are all that is to be known.
+use Rattle.std.specs.Prelude.{ℕ, Bool, List, Option, Some, None, Contains}
+use Rattle.std.specs.declared.result.Result.{Result}
+use Rattle.schema_values.specs.declared.json_value.Json.{Json}
+use Rattle.schema_values.specs.declared.json_value.Json.TheOpen.{Json-F}
+use Rattle.schema_values.specs.declared.json_value.Member.{Member}
+use Rattle.typed_values.specs.declared.desc.Desc.{Desc}
+use Rattle.typed_values.specs.declared.desc.Desc.TheOpen.{Desc-F}
+use Rattle.typed_values.specs.declared.desc.Field.{Field}
+use Rattle.typed_values.specs.declared.tree.Tree.{Tree, Fields as Parts}
+use Rattle.typed_values.specs.declared.fault.FaultKind.TheVariants.{WrongKind}
+use Rattle.typed_values.specs.declared.fault.Place.TheVariants.{Item}
+use Rattle.typed_values.specs.declared.table.Definition.{Definition}
+use Rattle.typed_values.specs.Definitions.{definition}
+use Rattle.typed_values.specs.Faults.{Trouble}
+use Rattle.typed_values.specs.Denotes.{Told, below, told, all_told, as_tree, refused, truth, number, words, optional, items_told, by_presence, value_named, unless_denied, denied_name, at_definition, first_told}
+use Rattle.typed_values.specs.Parts.{IsPart}
+
+abbrev pub told_item : List Definition → Desc → Desc → ℕ → Json → Told
+told_item table whole d i j = below (Item i) (told table whole j d)
+
+abbrev pub value_denotes : List Definition → Desc → Desc → Option Json → Option Told
+value_denotes table whole d None = None
+value_denotes table whole d (Some j) = Some (told table whole j d)
+
+abbrev pub told_field : List Definition → Desc → List Member → Field → Told
+told_field table whole ms f = by_presence f (value_denotes table whole f.desc (value_named ms f.name))
+
+abbrev pub told_fields : List Definition → Desc → List Member → List Field → Result (List Tree) Trouble
+told_fields table whole ms fs = all_told (λ i f. told_field table whole ms f) 0 fs
+
+abbrev pub told_struct : List Definition → Desc → List Field → Bool → List Member → Told
+told_struct table whole fs deny ms = unless_denied (denied_name deny fs ms) (as_tree Parts (told_fields table whole ms fs))
+
+abbrev pub list_row : List Definition → Desc → Desc → Option ℕ → Option ℕ → Json-F Json Member → Told
+list_row table whole d min max (Json-F.List js) = items_told (told_item table whole d) min max js
+list_row table whole d min max _ = refused WrongKind
+
+abbrev pub struct_row : List Definition → Desc → List Field → Bool → Json-F Json Member → Told
+struct_row table whole fs deny (Json-F.Object ms) = told_struct table whole fs deny ms
+struct_row table whole fs deny _ = refused WrongKind
+
+-- one row for each descriptor
+abbrev pub row : List Definition → Desc → Json → Json-F Json Member → Desc-F Desc Field → Told
+row table whole j x Desc-F.Bool = truth x
+row table whole j x (Desc-F.Int kind min max) = number kind min max x
+row table whole j x (Desc-F.Text min max format) = words min max x
+row table whole j x (Desc-F.Option d) = optional x (told table whole j d)
+row table whole j x (Desc-F.List d min max) = list_row table whole d min max x
+row table whole j x (Desc-F.Struct fs deny) = struct_row table whole fs deny x
+row table whole j x (Desc-F.Untagged ds) = first_told 0 (told table whole j) ds
+row table whole j x (Desc-F.Ref name) = at_definition (told table whole j) (definition table name)
+
+-- each of some descriptors, or of those of some fields, is a part
+abbrev pub AreParts : List Definition → Desc → List Desc → Type 0
+AreParts table whole ds = (d : Desc) → Contains ds d → IsPart table whole d
+
+abbrev pub AreFieldsOf : List Definition → Desc → List Field → Type 0
+AreFieldsOf table whole fs = (f : Field) → Contains fs f → IsPart table whole f.desc

@@ -1,0 +1,159 @@
+-- The schema of a descriptor as it stands in a document (OpenAPI 3.0.3, Schema Object).
+use Rattle.std.specs.Prelude.{ℕ, ℤ, pos, Bool, true, false, List, [], ◌∷◌, ◌++◌, map, Option, Some, None, codes}
+use Rattle.schema_values.specs.declared.json_value.Json.{Json, Bool as Truth, Int as Number, Text as Words, List as Items, Object}
+use Rattle.schema_values.specs.declared.json_value.Member.{Member}
+use Rattle.schema_values.specs.Member.{name_of}
+use Rattle.typed_values.specs.declared.desc.Desc.{Desc}
+use Rattle.typed_values.specs.declared.desc.Desc.TheOpen.{Desc-F, Field-F}
+use Rattle.typed_values.specs.declared.desc.Desc.TheFolds.{fold-Desc}
+use Rattle.typed_values.specs.declared.desc.IntKind.{IntKind}
+use Rattle.typed_values.specs.declared.desc.IntKind.TheVariants.{I8, I16, I32, I64, U8, U16, U32, U64}
+use Rattle.typed_values.specs.declared.desc.Presence.{Presence}
+use Rattle.typed_values.specs.declared.desc.Presence.TheVariants.{Required, Nullable, Skipped}
+use Rattle.typed_values.specs.Encoding.{member}
+use Rattle.typed_values.specs.Order.{sorted_by}
+
+-- a schema on the way: its annotations, and the members of its kind, which of a reference are `$ref` alone
+pub record Drawn : Type 0 where
+  pub nullable : Bool
+  pub title : Option (List ℕ)
+  pub description : Option (List ℕ)
+  pub is_reference : Bool
+  pub members : List Member
+
+abbrev pub plain : List Member → Drawn
+plain members = record { nullable = false; title = None; description = None; is_reference = false; members = members }
+
+abbrev pub reference : List ℕ → Drawn
+reference name = record {
+  nullable = false;
+  title = None;
+  description = None;
+  is_reference = true;
+  members = member (codes "$ref") (Words (codes "#/components/schemas/" ++ name)) ∷ [];
+}
+
+-- members that stand only where there is something to say
+abbrev pub if_true : Bool → List ℕ → List Member → List Member
+if_true true name rest = member name (Truth true) ∷ rest
+if_true false name rest = rest
+
+abbrev pub if_text : Option (List ℕ) → List ℕ → List Member → List Member
+if_text (Some text) name rest = member name (Words text) ∷ rest
+if_text None name rest = rest
+
+abbrev pub if_number : Option ℤ → List ℕ → List Member → List Member
+if_number (Some number) name rest = member name (Number number) ∷ rest
+if_number None name rest = rest
+
+abbrev pub if_count : Option ℕ → List ℕ → List Member → List Member
+if_count (Some count) name rest = member name (Number (pos count)) ∷ rest
+if_count None name rest = rest
+
+abbrev pub if_members : List Member → List ℕ → List Member → List Member
+if_members [] name rest = rest
+if_members (m ∷ ms) name rest = member name (Object (m ∷ ms)) ∷ rest
+
+abbrev pub if_names : List (List ℕ) → List ℕ → List Member → List Member
+if_names [] name rest = rest
+if_names (n ∷ ns) name rest = member name (Items (map Words (n ∷ ns))) ∷ rest
+
+abbrev pub if_denied : Bool → List Member
+if_denied true = member (codes "additionalProperties") (Truth false) ∷ []
+if_denied false = []
+
+abbrev pub of_type : List ℕ → List Member → List Member
+of_type name rest = member (codes "type") (Words name) ∷ rest
+
+-- a reference with annotations stands in an `allOf` of one
+abbrev pub annotated : List Member → Bool → List Member → List Member
+annotated [] is_reference members = members
+annotated (a ∷ annotations) true members = (a ∷ annotations) ++ member (codes "allOf") (Items (Object members ∷ [])) ∷ []
+annotated (a ∷ annotations) false members = (a ∷ annotations) ++ members
+
+abbrev pub drawn_json : Drawn → Json
+drawn_json s = Object (annotated (if_true s.nullable (codes "nullable") (if_text s.title (codes "title") (if_text s.description (codes "description") []))) s.is_reference s.members)
+
+abbrev pub format_of : IntKind → List ℕ
+format_of I8 = codes "int8"
+format_of I16 = codes "int16"
+format_of I32 = codes "int32"
+format_of I64 = codes "int64"
+format_of U8 = codes "uint8"
+format_of U16 = codes "uint16"
+format_of U32 = codes "uint32"
+format_of U64 = codes "uint64"
+
+-- an unsigned kind has a least number, 0 where none is given
+abbrev pub least_shown : IntKind → Option ℤ → Option ℤ
+least_shown kind (Some min) = Some min
+least_shown I8 None = None
+least_shown I16 None = None
+least_shown I32 None = None
+least_shown I64 None = None
+least_shown U8 None = Some (pos 0)
+least_shown U16 None = Some (pos 0)
+least_shown U32 None = Some (pos 0)
+least_shown U64 None = Some (pos 0)
+
+-- a field with the schema of its type
+abbrev pub DrawnField : Type 0
+DrawnField = Field-F Drawn (Unit {0})
+
+abbrev pub described : Option (List ℕ) → Drawn → Drawn
+described None s = s
+described (Some text) s = record s { description = Some text }
+
+abbrev pub property_of : DrawnField → Member
+property_of f = member f.name (drawn_json (described f.description f.desc))
+
+abbrev pub required_names : List DrawnField → List (List ℕ)
+required_names [] = []
+required_names (f ∷ fs) = with_required f.presence (required_names fs) where
+  with_required : Presence → List (List ℕ) → List (List ℕ)
+  with_required Required names = f.name ∷ names
+  with_required Nullable names = names
+  with_required Skipped names = names
+
+abbrev pub same_name : List ℕ → List ℕ
+same_name name = name
+
+-- one row for each descriptor
+abbrev pub drawn_step : Desc-F Drawn DrawnField → Drawn
+drawn_step Desc-F.Bool = plain (of_type (codes "boolean") [])
+drawn_step (Desc-F.Int kind min max) = plain (of_type (codes "integer") (member (codes "format") (Words (format_of kind))
+    ∷ if_number (least_shown kind min) (codes "minimum") (if_number max (codes "maximum") [])))
+drawn_step (Desc-F.Text min max format) =
+    plain (of_type (codes "string") (if_text format (codes "format") (if_count min (codes "minLength") (if_count max (codes "maxLength") []))))
+drawn_step (Desc-F.Option s) = record s { nullable = true }
+drawn_step (Desc-F.List s min max) =
+    plain (of_type (codes "array") (member (codes "items") (drawn_json s) ∷ if_count min (codes "minItems") (if_count max (codes "maxItems") [])))
+drawn_step (Desc-F.Struct fs deny) =
+    plain (of_type (codes "object") (if_members (sorted_by name_of (map property_of fs)) (codes "properties")
+    (if_names (sorted_by same_name (required_names fs)) (codes "required") (if_denied deny))))
+drawn_step (Desc-F.Untagged ss) = plain (member (codes "anyOf") (Items (map drawn_json ss)) ∷ [])
+drawn_step (Desc-F.Ref name) = reference name
+
+abbrev pub drawn_field : Field-F Drawn DrawnField → DrawnField
+drawn_field f = record { name = f.name; desc = f.desc; presence = f.presence; description = f.description }
+
+abbrev pub drawn : Desc → Drawn
+drawn = fold-Desc Drawn DrawnField drawn_step drawn_field
+
+-- the schema of a descriptor
+abbrev pub schema_json : Desc → Json
+schema_json d = drawn_json (drawn d)
+
+-- the schema of a type with its name, which a reference does not show
+abbrev pub titled : List ℕ → Drawn → Drawn
+titled name s = if_reference s.is_reference where
+  if_reference : Bool → Drawn
+  if_reference true = s
+  if_reference false = record s { title = Some name }
+
+abbrev pub schema_json_titled : List ℕ → Desc → Json
+schema_json_titled name d = drawn_json (titled name (drawn d))
+
+-- the schema of a definition, with its description
+abbrev pub schema_json_described : Option (List ℕ) → Desc → Json
+schema_json_described description d = drawn_json (described description (drawn d))

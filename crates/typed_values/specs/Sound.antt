@@ -1,0 +1,28 @@
+-- What checks of a table give: at one value, steps come to an end.
+use Rattle.std.specs.Prelude.{ℕ, zero, suc, ⊤, List, [], ◌∷◌, MatchOption}
+use Rattle.typed_values.specs.declared.desc.Desc.{Desc, out-Desc}
+use Rattle.typed_values.specs.declared.desc.Desc.TheOpen.{Desc-F}
+use Rattle.typed_values.specs.declared.desc.Field.{Field}
+use Rattle.typed_values.specs.declared.table.Definition.{Definition}
+use Rattle.typed_values.specs.Definitions.{definition}
+use Rattle.typed_values.specs.Denotes.{room}
+use Rattle.typed_values.specs.Parts.{IsPart}
+
+abbrev pub EachRests : (Desc → Type 0) → List Desc → Type 0
+EachRests Next [] = ⊤
+EachRests Next (d ∷ ds) = Next d × EachRests Next ds
+
+abbrev pub RestsBy : List Definition → (Desc → Type 0) → Desc-F Desc Field → Type 0
+RestsBy table Next (Desc-F.Option d) = Next d
+RestsBy table Next (Desc-F.Untagged ds) = EachRests Next ds
+RestsBy table Next (Desc-F.Ref name) = MatchOption (definition table name) ⊥ Next
+RestsBy table Next _ = ⊤
+
+-- fewer than n steps lead from a descriptor to one that is no reference, no option and no untagged choice
+unfoldable pub Rests : List Definition → ℕ → Desc → Type 0
+Rests table zero d = ⊥
+Rests table (suc n) d = RestsBy table (Rests table n) (out-Desc d)
+
+-- each descriptor of the table and of the whole one rests within the room
+abbrev pub IsSound : List Definition → Desc → Type 0
+IsSound table whole = (d : Desc) → IsPart table whole d → Rests table (room table whole) d

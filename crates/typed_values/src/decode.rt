@@ -1,0 +1,207 @@
+ghost use Rattle.std.specs.Prelude.{◌≡◌, ◌≤◌, length, IfOk, IfErr};
+ghost use Rattle.typed_values.specs.declared.tree.Tree.{Tree};
+ghost use Rattle.typed_values.specs.Answer.{Tells, IfFault, IsFaultOf};
+ghost use Rattle.typed_values.specs.Checks.{TablePasses, DescPasses};
+ghost use Rattle.typed_values.specs.Denotes.{JsonDenotes, told, as_tree, items_told, first_told, if_absent};
+ghost use Rattle.typed_values.specs.Parts.{IsPart};
+ghost use Rattle.typed_values.specs.Rows.{told_item, told_field, told_fields, told_struct, AreParts, AreFieldsOf};
+
+use crate::bounds::is_length_within;
+use crate::desc::{Desc, Field, Presence};
+use crate::fault::{DecodeError, FaultKind, Place, Stop};
+use crate::members::{denied_name, value_named};
+use crate::scalars::{decode_bool, decode_int, decode_text};
+use crate::scope::Scope;
+use crate::table::DescTable;
+use crate::tree::Tree;
+use schema_values::{Boxed, Json, List, Member};
+use std::alloc::Global;
+
+/// Decodes a value under a descriptor: the tree that it denotes, or the fault that is told first.
+pub fn decode_json(
+    alloc: Global,
+    table: &DescTable,
+    desc: &Desc,
+    json: &Json,
+) -> Result<Tree, DecodeError>
+    requires table { TablePasses table.now }
+    requires desc { DescPasses table.now desc.now }
+    ensures denotes { IfOk result (λ tree. JsonDenotes table.now desc.now json.now tree) }
+    ensures fault { IfErr result (λ error. IfFault error (IsFaultOf (told table.now desc.now json.now desc.now))) }
+    ensures refused { IfErr result (λ error. IfFault error (λ fault. (tree : Tree) → JsonDenotes table.now desc.now json.now tree → ⊥)) }
+{
+    match Scope::new(table, desc).decode_at(alloc, desc, json) {
+        Ok(tree) => Ok(tree),
+        Err(stop) => Err(stop.into_error(alloc)),
+    }
+}
+
+impl Scope<'_> {
+    /// Decodes a value under a descriptor that stands in the table or in the whole descriptor.
+    #[cycle(decode)]
+    fn decode_at(&self, alloc: Global, desc: &Desc, json: &Json) -> Result<Tree, Stop>
+        requires { IsPart self.now.table.now self.now.whole.now desc.now }
+        ensures { Tells result (told self.now.table.now self.now.whole.now json.now desc.now) }
+    {
+        match desc {
+            Desc::Bool => decode_bool(alloc, json),
+            Desc::Int { kind, min, max } => decode_int(alloc, *kind, min, max, json),
+            Desc::Text { min, max, .. } => decode_text(alloc, *min, *max, json),
+            Desc::Option(inner) => match json {
+                Json::Null => Ok(Tree::None),
+                _ => {
+                    let tree = self.decode_at(alloc, inner.get(), json)?;
+                    Ok(Tree::Some(Boxed::new(alloc, tree)?))
+                }
+            },
+            Desc::List { item, min, max } => match json {
+                Json::List(items) => self.decode_items(
+                    alloc,
+                    item.get(),
+                    *min,
+                    *max,
+                    items.as_slice(),
+                ),
+                _ => Err(Stop::refused(alloc, FaultKind::WrongKind)),
+            },
+            Desc::Struct {
+                fields,
+                deny_unknown,
+            } => match json {
+                Json::Object(members) => {
+                    self.decode_struct(alloc, fields.as_slice(), *deny_unknown, members.as_slice())
+                }
+                _ => Err(Stop::refused(alloc, FaultKind::WrongKind)),
+            },
+            Desc::Untagged { alternatives } => self.decode_untagged(
+                alloc,
+                alternatives.as_slice(),
+                json,
+            ),
+            Desc::Ref(name) => match self.table.find(name) {
+                Some(definition) => self.decode_at(alloc, definition, json),
+                None => unreachable!(),
+            },
+        }
+    }
+
+    /// Decodes each item of a list, where there are as many as the bounds allow.
+    #[cycle(decode)]
+    fn decode_items(
+        &self,
+        alloc: Global,
+        item: &Desc,
+        min: Option<u32>,
+        max: Option<u32>,
+        items: &[Json],
+    ) -> Result<Tree, Stop>
+        requires { IsPart self.now.table.now self.now.whole.now item.now }
+        ensures { Tells result (items_told (told_item self.now.table.now self.now.whole.now item.now) min max items.now) }
+    {
+        if !is_length_within(min, max, items.len()) {
+            return Err(Stop::refused(alloc, FaultKind::BadLength));
+        }
+        let mut trees = List::new(alloc);
+        for (i, json) in items.iter().enumerate() {
+            match self.decode_at(alloc, item, json) {
+                Ok(tree) => trees.push(tree)?,
+                Err(stop) => return Err(stop.below(Place::Item(i))),
+            }
+        }
+        Ok(Tree::List(trees))
+    }
+
+    /// Decodes the fields, and then looks for unknown names where they are denied.
+    #[cycle(decode)]
+    fn decode_struct(
+        &self,
+        alloc: Global,
+        fields: &[Field],
+        deny_unknown: bool,
+        members: &[Member],
+    ) -> Result<Tree, Stop>
+        requires { AreFieldsOf self.now.table.now self.now.whole.now fields.now }
+        ensures { Tells result (told_struct self.now.table.now self.now.whole.now fields.now deny_unknown members.now) }
+    {
+        let tree = self.decode_fields(alloc, fields, members)?;
+        match denied_name(deny_unknown, fields, members) {
+            Some(name) => {
+                let unknown = FaultKind::Unknown(name.copy(alloc)?);
+                Err(Stop::refused(alloc, unknown))
+            }
+            None => Ok(tree),
+        }
+    }
+
+    /// Decodes each field in order.
+    #[cycle(decode)]
+    fn decode_fields(
+        &self,
+        alloc: Global,
+        fields: &[Field],
+        members: &[Member],
+    ) -> Result<Tree, Stop>
+        requires { AreFieldsOf self.now.table.now self.now.whole.now fields.now }
+        ensures { Tells result (as_tree Tree.Fields (told_fields self.now.table.now self.now.whole.now members.now fields.now)) }
+    {
+        let mut trees = List::new(alloc);
+        for field in fields {
+            trees.push(self.decode_field(alloc, field, members)?)?;
+        }
+        Ok(Tree::Fields(trees))
+    }
+
+    /// Decodes a field by its presence.
+    #[cycle(decode)]
+    fn decode_field(&self, alloc: Global, field: &Field, members: &[Member]) -> Result<Tree, Stop>
+        requires { IsPart self.now.table.now self.now.whole.now field.now.desc }
+        ensures { Tells result (told_field self.now.table.now self.now.whole.now members.now field.now) }
+    {
+        let Some(json) = value_named(members, &field.name) else {
+            return self.absent(alloc, field);
+        };
+        let tree = match self.decode_at(alloc, &field.desc, json) {
+            Ok(tree) => tree,
+            Err(stop) => return Err(stop.below(Place::Name(field.name.copy(alloc)?))),
+        };
+        match field.presence {
+            Presence::Required | Presence::Nullable => Ok(tree),
+            Presence::Skipped => Ok(Tree::Some(Boxed::new(alloc, tree)?)),
+        }
+    }
+
+    /// What an absent field gives.
+    fn absent(&self, alloc: Global, field: &Field) -> Result<Tree, Stop>
+        ensures { Tells result (if_absent field.now.presence field.now.name) }
+    {
+        match field.presence {
+            Presence::Required => {
+                let missing = FaultKind::Missing(field.name.copy(alloc)?);
+                Err(Stop::refused(alloc, missing))
+            }
+            Presence::Nullable | Presence::Skipped => Ok(Tree::None),
+        }
+    }
+
+    /// Decodes under the first alternative that takes the value.
+    #[cycle(decode)]
+    fn decode_untagged(
+        &self,
+        alloc: Global,
+        alternatives: &[Desc],
+        json: &Json,
+    ) -> Result<Tree, Stop>
+        requires parts { AreParts self.now.table.now self.now.whole.now alternatives.now }
+        requires few { length alternatives.now ≤ 4294967296 }
+        ensures { Tells result (first_told 0 (told self.now.table.now self.now.whole.now json.now) alternatives.now) }
+    {
+        for (i, alternative) in alternatives.iter().enumerate() {
+            match self.decode_at(alloc, alternative, json) {
+                Ok(tree) => return Ok(Tree::Variant(i as u32, Boxed::new(alloc, tree)?)),
+                Err(Stop::Misfit(_)) => {}
+                Err(Stop::OutOfMemory) => return Err(Stop::OutOfMemory),
+            }
+        }
+        Err(Stop::refused(alloc, FaultKind::NoAlternative))
+    }
+}

@@ -1,0 +1,170 @@
+ghost use Rattle.std.specs.Prelude.{◌≡◌, IfOk};
+
+use schema_values::{Boxed, List, Text};
+use std::alloc::{AllocError, Global};
+
+/// A kind of whole numbers: its width in bits, and whether it has a sign.
+#[derive(Clone, Copy, Debug, PartialEq, Eq)]
+pub enum IntKind {
+    I8,
+    I16,
+    I32,
+    I64,
+    U8,
+    U16,
+    U32,
+    U64,
+}
+
+/// A descriptor of a type. Bounds are inclusive; lengths count characters or items.
+#[derive(Drop)]
+#[cycle(desc)]
+pub enum Desc {
+    Bool,
+    Int {
+        kind: IntKind,
+        min: Option<i128>,
+        max: Option<i128>,
+    },
+    Text {
+        min: Option<u32>,
+        max: Option<u32>,
+        format: Option<Text>,
+    },
+    /// `null`, or a value of the inner type.
+    Option(Boxed<Desc>),
+    List {
+        item: Boxed<Desc>,
+        min: Option<u32>,
+        max: Option<u32>,
+    },
+    Struct {
+        fields: List<Field>,
+        deny_unknown: bool,
+    },
+    /// The first alternative that takes the value.
+    Untagged {
+        alternatives: List<Desc>,
+    },
+    /// The definition of this name in the table.
+    Ref(Text),
+}
+
+/// A field of a struct.
+#[derive(Drop)]
+#[cycle(desc)]
+pub struct Field {
+    pub name: Text,
+    pub desc: Desc,
+    pub presence: Presence,
+    pub description: Option<Text>,
+}
+
+/// What stands for a field that is absent.
+#[derive(Clone, Copy, Debug, PartialEq, Eq)]
+pub enum Presence {
+    /// The field must be there.
+    Required,
+    /// An option that is absent or null is `None`, and `None` is written as null.
+    Nullable,
+    /// An absent field is `None`, one that is there is `Some`, null is refused, and `None` is not written.
+    Skipped,
+}
+
+impl Desc {
+    /// A descriptor equal to this one.
+    #[cycle(copy)]
+    pub fn copy(&self, alloc: Global) -> Result<Desc, AllocError>
+        ensures { IfOk result (λ copy. copy ≡ self.now) }
+    {
+        match self {
+            Desc::Bool => Ok(Desc::Bool),
+            Desc::Int { kind, min, max } => Ok(copy_int(*kind, min, max)),
+            Desc::Text { min, max, format } => Ok(Desc::Text {
+                min: *min,
+                max: *max,
+                format: copy_text(alloc, format)?,
+            }),
+            Desc::Option(inner) => Ok(Desc::Option(inner.get().copy_boxed(alloc)?)),
+            Desc::List { item, min, max } => Ok(Desc::List {
+                item: item.get().copy_boxed(alloc)?,
+                min: *min,
+                max: *max,
+            }),
+            Desc::Struct {
+                fields,
+                deny_unknown,
+            } => Ok(Desc::Struct {
+                fields: copy_fields(alloc, fields.as_slice())?,
+                deny_unknown: *deny_unknown,
+            }),
+            Desc::Untagged { alternatives } => Ok(Desc::Untagged {
+                alternatives: copy_descs(alloc, alternatives.as_slice())?,
+            }),
+            Desc::Ref(name) => Ok(Desc::Ref(name.copy(alloc)?)),
+        }
+    }
+
+    #[cycle(copy)]
+    fn copy_boxed(&self, alloc: Global) -> Result<Boxed<Desc>, AllocError>
+        ensures { IfOk result (λ copy. copy ≡ self.now) }
+    {
+        Boxed::new(alloc, self.copy(alloc)?)
+    }
+}
+
+impl Field {
+    /// A field equal to this one.
+    #[cycle(copy)]
+    pub fn copy(&self, alloc: Global) -> Result<Field, AllocError>
+        ensures { IfOk result (λ copy. copy ≡ self.now) }
+    {
+        Ok(Field {
+            name: self.name.copy(alloc)?,
+            desc: self.desc.copy(alloc)?,
+            presence: self.presence,
+            description: copy_text(alloc, &self.description)?,
+        })
+    }
+}
+
+#[cycle(copy)]
+fn copy_fields(alloc: Global, fields: &[Field]) -> Result<List<Field>, AllocError>
+    ensures { IfOk result (λ copies. copies ≡ fields.now) }
+{
+    let mut copies = List::new(alloc);
+    for field in fields {
+        copies.push(field.copy(alloc)?)?;
+    }
+    Ok(copies)
+}
+
+#[cycle(copy)]
+fn copy_descs(alloc: Global, descs: &[Desc]) -> Result<List<Desc>, AllocError>
+    ensures { IfOk result (λ copies. copies ≡ descs.now) }
+{
+    let mut copies = List::new(alloc);
+    for desc in descs {
+        copies.push(desc.copy(alloc)?)?;
+    }
+    Ok(copies)
+}
+
+fn copy_int(kind: IntKind, min: &Option<i128>, max: &Option<i128>) -> Desc
+    ensures { result ≡ Desc.Int kind min.now max.now }
+{
+    Desc::Int {
+        kind,
+        min: *min,
+        max: *max,
+    }
+}
+
+pub(crate) fn copy_text(alloc: Global, text: &Option<Text>) -> Result<Option<Text>, AllocError>
+    ensures { IfOk result (λ copy. copy ≡ text.now) }
+{
+    match text {
+        Some(text) => Ok(Some(text.copy(alloc)?)),
+        None => Ok(None),
+    }
+}

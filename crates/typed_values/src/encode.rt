@@ -1,0 +1,192 @@
+ghost use Rattle.std.specs.Prelude.{◌≡◌, map, IfOk};
+ghost use Rattle.typed_values.specs.declared.tree.Tree.{out-Tree};
+ghost use Rattle.typed_values.specs.Checks.{TablePasses, DescPasses};
+ghost use Rattle.typed_values.specs.Encoding as meant;
+ghost use Rattle.typed_values.specs.Encoding.{json_of_tree, written_under};
+ghost use Rattle.typed_values.specs.Fits.{Fits, field_desc};
+ghost use Rattle.typed_values.specs.Parts.{IsPart};
+ghost use Rattle.typed_values.specs.Rows.{AreParts, AreFieldsOf};
+
+use crate::desc::{Desc, Field, Presence};
+use crate::scope::Scope;
+use crate::table::DescTable;
+use crate::tree::Tree;
+use schema_values::{Json, List, Member};
+use std::alloc::{AllocError, Global};
+
+/// The JSON of a tree of a descriptor. Fields stand in the order in which they are declared.
+pub fn encode_json(
+    alloc: Global,
+    table: &DescTable,
+    desc: &Desc,
+    tree: &Tree,
+) -> Result<Json, AllocError>
+    requires table { TablePasses table.now }
+    requires desc { DescPasses table.now desc.now }
+    requires fits { Fits table.now desc.now tree.now }
+    ensures json { IfOk result (λ json. json ≡ json_of_tree table.now desc.now tree.now) }
+{
+    Scope::new(table, desc).encode_at(alloc, desc, tree)
+}
+
+fn encode_scalar(alloc: Global, tree: &Tree) -> Result<Json, AllocError>
+    ensures { IfOk result (λ json. json ≡ meant.scalar_written (out-Tree tree.now)) }
+{
+    match tree {
+        Tree::Bool(truth) => Ok(Json::Bool(*truth)),
+        Tree::Int(number) => Ok(Json::Int(*number)),
+        Tree::Text(text) => Ok(Json::Text(text.copy(alloc)?)),
+        _ => Ok(Json::Null),
+    }
+}
+
+fn is_left_out(presence: Presence, tree: &Tree) -> bool
+    ensures { result ≡ meant.is_left_out presence (meant.is_none_level (out-Tree tree.now)) }
+{
+    match presence {
+        Presence::Required | Presence::Nullable => false,
+        Presence::Skipped => is_none(tree),
+    }
+}
+
+fn is_none(tree: &Tree) -> bool
+    ensures { result ≡ meant.is_none_level (out-Tree tree.now) }
+{
+    match tree {
+        Tree::None => true,
+        _ => false,
+    }
+}
+
+// A tree that fits has the form that its descriptor asks for. Any other is written as null.
+impl Scope<'_> {
+    #[cycle(encode)]
+    fn encode_at(&self, alloc: Global, desc: &Desc, tree: &Tree) -> Result<Json, AllocError>
+        requires { IsPart self.now.table.now self.now.whole.now desc.now }
+        ensures { IfOk result (λ json. json ≡ written_under self.now.table.now self.now.whole.now tree.now desc.now) }
+    {
+        match desc {
+            Desc::Bool | Desc::Int { .. } | Desc::Text { .. } => encode_scalar(alloc, tree),
+            Desc::Option(inner) => self.encode_option(alloc, inner.get(), tree),
+            Desc::List { item, .. } => self.encode_list(alloc, item.get(), tree),
+            Desc::Struct { fields, .. } => self.encode_struct(alloc, fields.as_slice(), tree),
+            Desc::Untagged { alternatives } => {
+                self.encode_choice(alloc, alternatives.as_slice(), tree)
+            }
+            Desc::Ref(name) => match self.table.find(name) {
+                Some(definition) => self.encode_at(alloc, definition, tree),
+                None => Ok(Json::Null),
+            },
+        }
+    }
+
+    #[cycle(encode)]
+    fn encode_option(&self, alloc: Global, inner: &Desc, tree: &Tree) -> Result<Json, AllocError>
+        requires { IsPart self.now.table.now self.now.whole.now inner.now }
+        ensures { IfOk result (λ json. json ≡ meant.option_written (λ t. written_under self.now.table.now self.now.whole.now t inner.now) (out-Tree tree.now)) }
+    {
+        match tree {
+            Tree::Some(tree) => self.encode_at(alloc, inner, tree.get()),
+            _ => Ok(Json::Null),
+        }
+    }
+
+    #[cycle(encode)]
+    fn encode_list(&self, alloc: Global, item: &Desc, tree: &Tree) -> Result<Json, AllocError>
+        requires { IsPart self.now.table.now self.now.whole.now item.now }
+        ensures { IfOk result (λ json. json ≡ meant.items_written (λ t. written_under self.now.table.now self.now.whole.now t item.now) (out-Tree tree.now)) }
+    {
+        match tree {
+            Tree::List(trees) => Ok(Json::List(self.encode_each(alloc, item, trees.as_slice())?)),
+            _ => Ok(Json::Null),
+        }
+    }
+
+    #[cycle(encode)]
+    fn encode_each(
+        &self,
+        alloc: Global,
+        item: &Desc,
+        trees: &[Tree],
+    ) -> Result<List<Json>, AllocError>
+        requires { IsPart self.now.table.now self.now.whole.now item.now }
+        ensures { IfOk result (λ items. items ≡ map (λ t. written_under self.now.table.now self.now.whole.now t item.now) trees.now) }
+    {
+        let mut items = List::new(alloc);
+        for tree in trees {
+            items.push(self.encode_at(alloc, item, tree)?)?;
+        }
+        Ok(items)
+    }
+
+    #[cycle(encode)]
+    fn encode_struct(
+        &self,
+        alloc: Global,
+        fields: &[Field],
+        tree: &Tree,
+    ) -> Result<Json, AllocError>
+        requires { AreFieldsOf self.now.table.now self.now.whole.now fields.now }
+        ensures { IfOk result (λ json. json ≡ meant.parts_written (λ t. meant.is_none_level (out-Tree t)) (written_under self.now.table.now self.now.whole.now) fields.now (out-Tree tree.now)) }
+    {
+        match tree {
+            Tree::Fields(trees) => Ok(Json::Object(self.encode_fields(
+                alloc,
+                fields,
+                trees.as_slice(),
+            )?)),
+            _ => Ok(Json::Null),
+        }
+    }
+
+    #[cycle(encode)]
+    fn encode_fields(
+        &self,
+        alloc: Global,
+        fields: &[Field],
+        trees: &[Tree],
+    ) -> Result<List<Member>, AllocError>
+        requires { AreFieldsOf self.now.table.now self.now.whole.now fields.now }
+        ensures { IfOk result (λ members. members ≡ meant.members_written (λ t. meant.is_none_level (out-Tree t)) (written_under self.now.table.now self.now.whole.now) fields.now trees.now) }
+    {
+        let mut members = List::new(alloc);
+        for (field, tree) in fields.iter().zip(trees) {
+            if !is_left_out(field.presence, tree) {
+                let value = self.encode_field(alloc, field, tree)?;
+                let name = field.name.copy(alloc)?;
+                members.push(Member { name, value })?;
+            }
+        }
+        Ok(members)
+    }
+
+    #[cycle(encode)]
+    fn encode_field(&self, alloc: Global, field: &Field, tree: &Tree) -> Result<Json, AllocError>
+        requires { IsPart self.now.table.now self.now.whole.now field.now.desc }
+        ensures { IfOk result (λ json. json ≡ written_under self.now.table.now self.now.whole.now tree.now (field_desc field.now)) }
+    {
+        match field.presence {
+            Presence::Required | Presence::Nullable => self.encode_at(alloc, &field.desc, tree),
+            Presence::Skipped => self.encode_option(alloc, &field.desc, tree),
+        }
+    }
+
+    #[cycle(encode)]
+    fn encode_choice(
+        &self,
+        alloc: Global,
+        alternatives: &[Desc],
+        tree: &Tree,
+    ) -> Result<Json, AllocError>
+        requires { AreParts self.now.table.now self.now.whole.now alternatives.now }
+        ensures { IfOk result (λ json. json ≡ meant.choice_written (written_under self.now.table.now self.now.whole.now) alternatives.now (out-Tree tree.now)) }
+    {
+        match tree {
+            Tree::Variant(place, tree) => match alternatives.get(*place as usize) {
+                Some(alternative) => self.encode_at(alloc, alternative, tree.get()),
+                None => Ok(Json::Null),
+            },
+            _ => Ok(Json::Null),
+        }
+    }
+}

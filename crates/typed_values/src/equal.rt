@@ -1,0 +1,131 @@
+ghost use Rattle.std.specs.Prelude.{◌≡◌, ◌↔◌, IsTrue};
+
+use crate::desc::{Desc, Field, IntKind};
+use schema_values::Text;
+
+impl Desc {
+    /// Whether two descriptors are the same.
+    #[cycle(equals)]
+    pub fn equals(&self, other: &Desc) -> bool
+        ensures { IsTrue result ↔ (self.now ≡ other.now) }
+    {
+        match self {
+            Desc::Bool => matches!(other, Desc::Bool),
+            Desc::Int { kind, min, max } => is_int(other, *kind, min, max),
+            Desc::Text { min, max, format } => is_text(other, min, max, format),
+            Desc::Option(inner) => match other {
+                Desc::Option(other) => inner.get().equals(other.get()),
+                _ => false,
+            },
+            Desc::List { item, min, max } => match other {
+                Desc::List {
+                    item: other,
+                    min: least,
+                    max: greatest,
+                } => min == least && max == greatest && item.get().equals(other.get()),
+                _ => false,
+            },
+            Desc::Struct {
+                fields,
+                deny_unknown,
+            } => match other {
+                Desc::Struct {
+                    fields: others,
+                    deny_unknown: deny,
+                } => deny_unknown == deny && same_fields(fields.as_slice(), others.as_slice()),
+                _ => false,
+            },
+            Desc::Untagged { alternatives } => match other {
+                Desc::Untagged {
+                    alternatives: others,
+                } => same_descs(alternatives.as_slice(), others.as_slice()),
+                _ => false,
+            },
+            Desc::Ref(name) => match other {
+                Desc::Ref(other) => name.equals(other),
+                _ => false,
+            },
+        }
+    }
+}
+
+impl Field {
+    /// Whether two fields are the same.
+    #[cycle(equals)]
+    pub fn equals(&self, other: &Field) -> bool
+        ensures { IsTrue result ↔ (self.now ≡ other.now) }
+    {
+        self.name.equals(&other.name)
+            && self.presence == other.presence
+            && same_text(&self.description, &other.description)
+            && self.desc.equals(&other.desc)
+    }
+}
+
+#[cycle(equals)]
+fn same_fields(fields: &[Field], others: &[Field]) -> bool
+    ensures { IsTrue result ↔ (fields.now ≡ others.now) }
+{
+    if fields.len() != others.len() {
+        return false;
+    }
+    for (field, other) in fields.iter().zip(others) {
+        if !field.equals(other) {
+            return false;
+        }
+    }
+    true
+}
+
+#[cycle(equals)]
+fn same_descs(descs: &[Desc], others: &[Desc]) -> bool
+    ensures { IsTrue result ↔ (descs.now ≡ others.now) }
+{
+    if descs.len() != others.len() {
+        return false;
+    }
+    for (desc, other) in descs.iter().zip(others) {
+        if !desc.equals(other) {
+            return false;
+        }
+    }
+    true
+}
+
+fn is_int(desc: &Desc, kind: IntKind, min: &Option<i128>, max: &Option<i128>) -> bool
+    ensures { IsTrue result ↔ (Desc.Int kind min.now max.now ≡ desc.now) }
+{
+    match desc {
+        Desc::Int {
+            kind: other,
+            min: least,
+            max: greatest,
+        } => kind == *other && min == least && max == greatest,
+        _ => false,
+    }
+}
+
+fn is_text(desc: &Desc, min: &Option<u32>, max: &Option<u32>, format: &Option<Text>) -> bool
+    ensures { IsTrue result ↔ (Desc.Text min.now max.now format.now ≡ desc.now) }
+{
+    match desc {
+        Desc::Text {
+            min: least,
+            max: greatest,
+            format: other,
+        } => min == least && max == greatest && same_text(format, other),
+        _ => false,
+    }
+}
+
+pub(crate) fn same_text(text: &Option<Text>, other: &Option<Text>) -> bool
+    ensures { IsTrue result ↔ (text.now ≡ other.now) }
+{
+    match text {
+        Some(text) => match other {
+            Some(other) => text.equals(other),
+            None => false,
+        },
+        None => other.is_none(),
+    }
+}

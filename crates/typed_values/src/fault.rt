@@ -1,0 +1,71 @@
+use schema_values::{List, Text};
+use std::alloc::AllocError;
+
+/// Why a value is not decoded. A payload is the name of a field.
+#[derive(Drop)]
+pub enum FaultKind {
+    Missing(Text),
+    Unknown(Text),
+    WrongKind,
+    OutOfRange,
+    BadLength,
+    NoAlternative,
+    NotJson,
+}
+
+/// A fault, and the path to it: `.` at the root, else names joined by dots, with `[k]` for item k of a list.
+#[derive(Drop)]
+pub struct Fault {
+    pub path: Text,
+    pub kind: FaultKind,
+}
+
+/// Why there is no tree.
+#[derive(Drop)]
+pub enum DecodeError {
+    Fault(Fault),
+    OutOfMemory,
+}
+
+impl From<AllocError> for DecodeError {
+    ghost use Rattle.std.specs.Prelude.{◌≡◌};
+    ghost use Rattle.typed_values.specs.declared.fault.DecodeError.TheVariants.{OutOfMemory};
+
+    ghost from_gives = { λ _ e. e ≡ OutOfMemory };
+
+    fn from(_: AllocError) -> DecodeError {
+        DecodeError::OutOfMemory
+    }
+}
+
+/// A step of a path.
+#[derive(Drop)]
+pub(crate) enum Place {
+    Name(Text),
+    Item(usize),
+}
+
+/// A fault on the way out, and the places passed so far, the innermost first.
+#[derive(Drop)]
+pub(crate) struct Misfit {
+    pub kind: FaultKind,
+    pub places: List<Place>,
+}
+
+/// Why decoding stops.
+#[derive(Drop)]
+pub(crate) enum Stop {
+    Misfit(Misfit),
+    OutOfMemory,
+}
+
+impl From<AllocError> for Stop {
+    ghost use Rattle.std.specs.Prelude.{◌≡◌};
+    ghost use Rattle.typed_values.specs.declared.fault.Stop.TheVariants.{OutOfMemory};
+
+    ghost from_gives = { λ _ e. e ≡ OutOfMemory };
+
+    fn from(_: AllocError) -> Stop {
+        Stop::OutOfMemory
+    }
+}

@@ -1,0 +1,161 @@
+ghost use Rattle.std.specs.Prelude.{◌≡◌, ◌↔◌, IsTrue, length};
+ghost use Rattle.typed_values.specs.declared.tree.Tree.{out-Tree};
+ghost use Rattle.typed_values.specs.Checks.{TablePasses, DescPasses};
+ghost use Rattle.typed_values.specs.Fits as meant;
+ghost use Rattle.typed_values.specs.Fits.{Fits, fits_under, field_desc};
+ghost use Rattle.typed_values.specs.Parts.{IsPart};
+ghost use Rattle.typed_values.specs.Rows.{AreParts, AreFieldsOf};
+
+use crate::bounds::{character_count, is_length_within, is_number_of};
+use crate::desc::{Desc, Field, IntKind, Presence};
+use crate::scope::Scope;
+use crate::table::DescTable;
+use crate::tree::Tree;
+
+/// Whether a tree is a value of a descriptor.
+pub fn fits(table: &DescTable, desc: &Desc, tree: &Tree) -> bool
+    requires table { TablePasses table.now }
+    requires desc { DescPasses table.now desc.now }
+    ensures { IsTrue result ↔ Fits table.now desc.now tree.now }
+{
+    Scope::new(table, desc).fits_at(desc, tree)
+}
+
+fn truth_fits(tree: &Tree) -> bool
+    ensures { result ≡ meant.truth_fits (out-Tree tree.now) }
+{
+    match tree {
+        Tree::Bool(_) => true,
+        _ => false,
+    }
+}
+
+fn number_fits(kind: IntKind, min: &Option<i128>, max: &Option<i128>, tree: &Tree) -> bool
+    ensures { result ≡ meant.number_fits kind min.now max.now (out-Tree tree.now) }
+{
+    match tree {
+        Tree::Int(number) => is_number_of(kind, min, max, number),
+        _ => false,
+    }
+}
+
+fn words_fit(min: Option<u32>, max: Option<u32>, tree: &Tree) -> bool
+    ensures { result ≡ meant.words_fit min max (out-Tree tree.now) }
+{
+    match tree {
+        Tree::Text(text) => is_length_within(min, max, character_count(text)),
+        _ => false,
+    }
+}
+
+impl Scope<'_> {
+    #[cycle(fits)]
+    fn fits_at(&self, desc: &Desc, tree: &Tree) -> bool
+        requires { IsPart self.now.table.now self.now.whole.now desc.now }
+        ensures { result ≡ fits_under self.now.table.now self.now.whole.now tree.now desc.now }
+    {
+        match desc {
+            Desc::Bool => truth_fits(tree),
+            Desc::Int { kind, min, max } => number_fits(*kind, min, max, tree),
+            Desc::Text { min, max, .. } => words_fit(*min, *max, tree),
+            Desc::Option(inner) => self.option_fits(inner.get(), tree),
+            Desc::List { item, min, max } => self.items_fit(item.get(), *min, *max, tree),
+            Desc::Struct { fields, .. } => self.fields_fit(fields.as_slice(), tree),
+            Desc::Untagged { alternatives } => self.choice_fits(alternatives.as_slice(), tree),
+            Desc::Ref(name) => match self.table.find(name) {
+                Some(definition) => self.fits_at(definition, tree),
+                None => false,
+            },
+        }
+    }
+
+    #[cycle(fits)]
+    fn option_fits(&self, inner: &Desc, tree: &Tree) -> bool
+        requires { IsPart self.now.table.now self.now.whole.now inner.now }
+        ensures { result ≡ meant.option_fits (λ t. fits_under self.now.table.now self.now.whole.now t inner.now) (out-Tree tree.now) }
+    {
+        match tree {
+            Tree::None => true,
+            Tree::Some(tree) => self.fits_at(inner, tree.get()),
+            _ => false,
+        }
+    }
+
+    #[cycle(fits)]
+    fn items_fit(&self, item: &Desc, min: Option<u32>, max: Option<u32>, tree: &Tree) -> bool
+        requires { IsPart self.now.table.now self.now.whole.now item.now }
+        ensures { result ≡ meant.items_fit (λ t. fits_under self.now.table.now self.now.whole.now t item.now) min max (out-Tree tree.now) }
+    {
+        match tree {
+            Tree::List(trees) => {
+                is_length_within(min, max, trees.len()) && self.each_fits(item, trees.as_slice())
+            }
+            _ => false,
+        }
+    }
+
+    #[cycle(fits)]
+    fn each_fits(&self, item: &Desc, trees: &[Tree]) -> bool
+        requires { IsPart self.now.table.now self.now.whole.now item.now }
+        ensures { result ≡ meant.each_fits (λ t. fits_under self.now.table.now self.now.whole.now t item.now) trees.now }
+    {
+        for tree in trees {
+            if !self.fits_at(item, tree) {
+                return false;
+            }
+        }
+        true
+    }
+
+    #[cycle(fits)]
+    fn fields_fit(&self, fields: &[Field], tree: &Tree) -> bool
+        requires { AreFieldsOf self.now.table.now self.now.whole.now fields.now }
+        ensures { result ≡ meant.parts_fit (fits_under self.now.table.now self.now.whole.now) fields.now (out-Tree tree.now) }
+    {
+        match tree {
+            Tree::Fields(trees) => {
+                fields.len() == trees.len() && self.parts_fit(fields, trees.as_slice())
+            }
+            _ => false,
+        }
+    }
+
+    #[cycle(fits)]
+    fn parts_fit(&self, fields: &[Field], trees: &[Tree]) -> bool
+        requires parts { AreFieldsOf self.now.table.now self.now.whole.now fields.now }
+        requires paired { length fields.now ≡ length trees.now }
+        ensures { result ≡ meant.fields_fit (fits_under self.now.table.now self.now.whole.now) fields.now trees.now }
+    {
+        for (field, tree) in fields.iter().zip(trees) {
+            if !self.field_fits(field, tree) {
+                return false;
+            }
+        }
+        true
+    }
+
+    #[cycle(fits)]
+    fn field_fits(&self, field: &Field, tree: &Tree) -> bool
+        requires { IsPart self.now.table.now self.now.whole.now field.now.desc }
+        ensures { result ≡ fits_under self.now.table.now self.now.whole.now tree.now (field_desc field.now) }
+    {
+        match field.presence {
+            Presence::Required | Presence::Nullable => self.fits_at(&field.desc, tree),
+            Presence::Skipped => self.option_fits(&field.desc, tree),
+        }
+    }
+
+    #[cycle(fits)]
+    fn choice_fits(&self, alternatives: &[Desc], tree: &Tree) -> bool
+        requires { AreParts self.now.table.now self.now.whole.now alternatives.now }
+        ensures { result ≡ meant.choice_fits (fits_under self.now.table.now self.now.whole.now) alternatives.now (out-Tree tree.now) }
+    {
+        match tree {
+            Tree::Variant(place, tree) => match alternatives.get(*place as usize) {
+                Some(alternative) => self.fits_at(alternative, tree.get()),
+                None => false,
+            },
+            _ => false,
+        }
+    }
+}

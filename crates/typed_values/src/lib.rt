@@ -1,0 +1,41 @@
+//! Descriptors of types, the trees that are their values, and what of JSON denotes which tree.
+#![tactic(auto)]
+
+mod bounds;
+mod check;
+mod decode;
+#[cfg(test)]
+mod decode_tests;
+mod desc;
+mod encode;
+mod equal;
+mod fault;
+mod fault_text;
+mod fitting;
+mod flaws;
+mod members;
+mod misfit;
+mod order;
+mod parts;
+mod path;
+mod ranges;
+mod scalars;
+mod schema_parts;
+mod schema_rows;
+mod schemas;
+mod scope;
+mod search;
+mod table;
+#[cfg(test)]
+mod tests;
+mod tree;
+
+pub use check::{TableError, check_desc, check_table};
+pub use decode::decode_json;
+pub use desc::{Desc, Field, IntKind, Presence};
+pub use encode::encode_json;
+pub use fault::{DecodeError, Fault, FaultKind};
+pub use fitting::fits;
+pub use schemas::{SchemaPlace, schema_of};
+pub use table::{AddError, Added, Definition, DescTable};
+pub use tree::Tree;

@@ -1,0 +1,105 @@
+ghost use Rattle.std.specs.Prelude.{◌≡◌, IfOk};
+ghost use Rattle.schema_values.specs.declared.schema.Schema.{Object};
+ghost use Rattle.schema_values.specs.declared.schema.SchemaObject.{out-SchemaObject};
+ghost use Rattle.typed_values.specs.Schemas as meant;
+
+use schema_values::{
+    Boxed, InstanceType, InstanceTypes, LengthBounds, List, NumberBounds, Schema, SchemaObject,
+    Subschemas, Text,
+};
+use std::alloc::{AllocError, Global};
+
+pub(crate) fn object_of(alloc: Global, parts: SchemaObject) -> Result<Schema, AllocError>
+    ensures { IfOk result (λ schema. schema ≡ Object parts) }
+{
+    Ok(Schema::Object(Boxed::new(alloc, parts)?))
+}
+
+pub(crate) fn no_parts() -> SchemaObject
+    ensures { out-SchemaObject result ≡ meant.no_parts }
+{
+    SchemaObject {
+        title: None,
+        description: None,
+        nullable: false,
+        instance_type: None,
+        format: None,
+        subschemas: None,
+        number: None,
+        string: None,
+        array: None,
+        object: None,
+        reference: None,
+    }
+}
+
+pub(crate) fn of_single(instance_type: InstanceType) -> SchemaObject
+    ensures { out-SchemaObject result ≡ meant.of_single instance_type }
+{
+    let mut parts = no_parts();
+    parts.instance_type = Some(InstanceTypes::Single(instance_type));
+    parts
+}
+
+/// The parts to which annotations may be added: a reference stands in an `all_of` of one.
+fn annotatable(alloc: Global, parts: SchemaObject) -> Result<SchemaObject, AllocError>
+    ensures { IfOk result (λ annotated. out-SchemaObject annotated ≡ meant.annotatable (out-SchemaObject parts)) }
+{
+    if parts.reference.is_none() {
+        return Ok(parts);
+    }
+    let mut all_of = List::new(alloc);
+    all_of.push(object_of(alloc, parts)?)?;
+    let mut annotated = no_parts();
+    annotated.subschemas = Some(Subschemas {
+        all_of: Some(all_of),
+        any_of: None,
+    });
+    Ok(annotated)
+}
+
+pub(crate) fn with_null(alloc: Global, parts: SchemaObject) -> Result<SchemaObject, AllocError>
+    ensures { IfOk result (λ nullable. out-SchemaObject nullable ≡ meant.with_null (out-SchemaObject parts)) }
+{
+    let mut parts = annotatable(alloc, parts)?;
+    parts.nullable = true;
+    Ok(parts)
+}
+
+pub(crate) fn with_description(
+    alloc: Global,
+    description: &Option<Text>,
+    parts: SchemaObject,
+) -> Result<SchemaObject, AllocError>
+    ensures { IfOk result (λ described. out-SchemaObject described ≡ meant.with_description description.now (out-SchemaObject parts)) }
+{
+    match description {
+        None => Ok(parts),
+        Some(text) => {
+            let mut parts = annotatable(alloc, parts)?;
+            parts.description = Some(text.copy(alloc)?);
+            Ok(parts)
+        }
+    }
+}
+
+pub(crate) fn number_bounds(min: Option<i128>, max: Option<i128>) -> Option<NumberBounds>
+    ensures { result ≡ meant.number_bounds min max }
+{
+    if min.is_none() && max.is_none() {
+        return None;
+    }
+    Some(NumberBounds {
+        minimum: min,
+        maximum: max,
+    })
+}
+
+pub(crate) fn length_bounds(min: Option<u32>, max: Option<u32>) -> Option<LengthBounds>
+    ensures { result ≡ meant.length_bounds min max }
+{
+    if min.is_none() && max.is_none() {
+        return None;
+    }
+    Some(LengthBounds { min, max })
+}

@@ -1,0 +1,125 @@
+ghost use Rattle.std.specs.Prelude.{◌≡◌, IfOk};
+ghost use Rattle.schema_values.specs.declared.schema.SchemaObject.{out-SchemaObject};
+ghost use Rattle.typed_values.specs.SchemaTable as table;
+ghost use Rattle.typed_values.specs.Schemas as meant;
+ghost use Rattle.typed_values.specs.declared.desc.Desc.TheOpen.{Desc-F};
+
+use crate::desc::{IntKind, copy_text};
+use crate::schema_parts::{length_bounds, no_parts, number_bounds, of_single};
+use schema_values::{
+    ArrayParts, InstanceType, Items, List, ObjectParts, Property, Schema, SchemaObject, Subschemas,
+    Text,
+};
+use std::alloc::{AllocError, Global};
+
+fn format_of(kind: IntKind) -> &'static str
+    ensures { result.now ≡ table.format_of kind }
+{
+    match kind {
+        IntKind::I8 => "int8",
+        IntKind::I16 => "int16",
+        IntKind::I32 => "int32",
+        IntKind::I64 => "int64",
+        IntKind::U8 => "uint8",
+        IntKind::U16 => "uint16",
+        IntKind::U32 => "uint32",
+        IntKind::U64 => "uint64",
+    }
+}
+
+/// The least number that is shown: 0 on an unsigned kind where none is given.
+fn least_shown(kind: IntKind, min: &Option<i128>) -> Option<i128>
+    ensures { result ≡ table.least_shown kind min.now }
+{
+    match min {
+        Some(min) => Some(*min),
+        None => match kind {
+            IntKind::I8 | IntKind::I16 | IntKind::I32 | IntKind::I64 => None,
+            IntKind::U8 | IntKind::U16 | IntKind::U32 | IntKind::U64 => Some(0),
+        },
+    }
+}
+
+pub(crate) fn int_parts(
+    alloc: Global,
+    kind: IntKind,
+    min: &Option<i128>,
+    max: &Option<i128>,
+) -> Result<SchemaObject, AllocError>
+    ensures { IfOk result (λ parts. out-SchemaObject parts ≡ meant.schema_step (Desc-F.Int kind min.now max.now)) }
+{
+    let mut format = Text::new(alloc);
+    format.push_ascii(format_of(kind))?;
+    let mut parts = of_single(InstanceType::Integer);
+    parts.format = Some(format);
+    parts.number = number_bounds(least_shown(kind, min), *max);
+    Ok(parts)
+}
+
+pub(crate) fn text_parts(
+    alloc: Global,
+    min: Option<u32>,
+    max: Option<u32>,
+    format: &Option<Text>,
+) -> Result<SchemaObject, AllocError>
+    ensures { IfOk result (λ parts. out-SchemaObject parts ≡ meant.schema_step (Desc-F.Text min max format.now)) }
+{
+    let mut parts = of_single(InstanceType::String);
+    parts.format = copy_text(alloc, format)?;
+    parts.string = length_bounds(min, max);
+    Ok(parts)
+}
+
+pub(crate) fn list_parts(item: Schema, min: Option<u32>, max: Option<u32>) -> SchemaObject
+    ensures { out-SchemaObject result ≡ meant.list_of item min max }
+{
+    let mut parts = of_single(InstanceType::Array);
+    parts.array = Some(ArrayParts {
+        items: Some(Items::One(item)),
+        min,
+        max,
+    });
+    parts
+}
+
+pub(crate) fn struct_parts(
+    properties: List<Property>,
+    required: List<Text>,
+    deny_unknown: bool,
+) -> SchemaObject
+    ensures { out-SchemaObject result ≡ meant.struct_of properties required deny_unknown }
+{
+    let mut parts = of_single(InstanceType::Object);
+    parts.object = Some(ObjectParts {
+        properties,
+        required,
+        additional: if deny_unknown {
+            Some(Schema::Bool(false))
+        } else {
+            None
+        },
+    });
+    parts
+}
+
+pub(crate) fn choice_parts(alternatives: List<Schema>) -> SchemaObject
+    ensures { out-SchemaObject result ≡ meant.choice_of alternatives }
+{
+    let mut parts = no_parts();
+    parts.subschemas = Some(Subschemas {
+        all_of: None,
+        any_of: Some(alternatives),
+    });
+    parts
+}
+
+pub(crate) fn ref_parts(alloc: Global, name: &Text) -> Result<SchemaObject, AllocError>
+    ensures { IfOk result (λ parts. out-SchemaObject parts ≡ meant.schema_step (Desc-F.Ref name.now)) }
+{
+    let mut reference = Text::new(alloc);
+    reference.push_ascii("#/components/schemas/")?;
+    reference.push_text(name)?;
+    let mut parts = no_parts();
+    parts.reference = Some(reference);
+    Ok(parts)
+}

@@ -1,0 +1,127 @@
+ghost use Rattle.std.specs.Prelude.{◌≡◌, map, IfOk};
+ghost use Rattle.schema_values.specs.declared.schema.SchemaObject.{out-SchemaObject};
+ghost use Rattle.typed_values.specs.declared.schemas.SchemaPlace.TheVariants.{Plain, Header};
+ghost use Rattle.typed_values.specs.Checks.{TablePasses, DescPasses};
+ghost use Rattle.typed_values.specs.Order.{sorted_by};
+ghost use Rattle.typed_values.specs.SchemaTable.{same_name};
+ghost use Rattle.typed_values.specs.Schemas as meant;
+ghost use Rattle.typed_values.specs.Schemas.{schema_value, schema_parts, in_header};
+
+use crate::desc::{Desc, Field, Presence};
+use crate::order::insert_by_name;
+use crate::schema_parts::{object_of, of_single, with_description, with_null};
+use crate::schema_rows::{
+    choice_parts, int_parts, list_parts, ref_parts, struct_parts, text_parts,
+};
+use crate::table::DescTable;
+use schema_values::{InstanceType, List, Property, Schema, SchemaObject, Text};
+use std::alloc::{AllocError, Global};
+
+/// Where a schema stands in a document.
+#[derive(Clone, Copy, Debug, PartialEq, Eq)]
+pub enum SchemaPlace {
+    Plain,
+    /// In a header an option is written as the schema of what it is over.
+    Header,
+}
+
+/// The schema of a descriptor.
+pub fn schema_of(
+    alloc: Global,
+    table: &DescTable,
+    desc: &Desc,
+    place: SchemaPlace,
+) -> Result<Schema, AllocError>
+    requires table { TablePasses table.now }
+    requires desc { DescPasses table.now desc.now }
+    ensures plain { place ≡ Plain → IfOk result (λ schema. schema ≡ schema_value desc.now) }
+    ensures header { place ≡ Header → IfOk result (λ schema. schema ≡ schema_value (in_header desc.now)) }
+{
+    // A reference stands as its name, so that no definition is looked up.
+    let _ = table;
+    match (place, desc) {
+        (SchemaPlace::Header, Desc::Option(inner)) => schema_at(alloc, inner.get()),
+        _ => schema_at(alloc, desc),
+    }
+}
+
+fn schema_at(alloc: Global, desc: &Desc) -> Result<Schema, AllocError>
+    ensures { IfOk result (λ schema. schema ≡ schema_value desc.now) }
+{
+    object_of(alloc, parts_of(alloc, desc)?)
+}
+
+#[cycle(schema)]
+fn parts_of(alloc: Global, desc: &Desc) -> Result<SchemaObject, AllocError>
+    ensures { IfOk result (λ parts. out-SchemaObject parts ≡ schema_parts desc.now) }
+{
+    match desc {
+        Desc::Bool => Ok(of_single(InstanceType::Boolean)),
+        Desc::Int { kind, min, max } => int_parts(alloc, *kind, min, max),
+        Desc::Text { min, max, format } => text_parts(alloc, *min, *max, format),
+        Desc::Option(inner) => with_null(alloc, parts_of(alloc, inner.get())?),
+        Desc::List { item, min, max } => {
+            let item = object_of(alloc, parts_of(alloc, item.get())?)?;
+            Ok(list_parts(item, *min, *max))
+        }
+        Desc::Struct {
+            fields,
+            deny_unknown,
+        } => {
+            let properties = properties_of(alloc, fields.as_slice())?;
+            let required = required_names(alloc, fields.as_slice())?;
+            Ok(struct_parts(properties, required, *deny_unknown))
+        }
+        Desc::Untagged { alternatives } => {
+            Ok(choice_parts(schemas_of(alloc, alternatives.as_slice())?))
+        }
+        Desc::Ref(name) => ref_parts(alloc, name),
+    }
+}
+
+#[cycle(schema)]
+fn schemas_of(alloc: Global, descs: &[Desc]) -> Result<List<Schema>, AllocError>
+    ensures { IfOk result (λ schemas. schemas ≡ map (λ d. meant.object_of (schema_parts d)) descs.now) }
+{
+    let mut schemas = List::new(alloc);
+    for desc in descs {
+        schemas.push(object_of(alloc, parts_of(alloc, desc)?)?)?;
+    }
+    Ok(schemas)
+}
+
+/// The properties of fields, in the order of their names.
+#[cycle(schema)]
+fn properties_of(alloc: Global, fields: &[Field]) -> Result<List<Property>, AllocError>
+    ensures { IfOk result (λ properties. properties ≡ sorted_by meant.property_name (map meant.property_of (map meant.parts_of_field fields.now))) }
+{
+    let mut properties = Vec::new(alloc);
+    for field in fields {
+        let parts = parts_of(alloc, &field.desc)?;
+        insert_by_name(&mut properties, property_of(alloc, field, parts)?)?;
+    }
+    Ok(List::from_vec(properties))
+}
+
+fn property_of(alloc: Global, field: &Field, parts: SchemaObject) -> Result<Property, AllocError>
+    ensures { out-SchemaObject parts ≡ schema_parts field.now.desc → IfOk result (λ property. property ≡ meant.property_of (meant.parts_of_field field.now)) }
+{
+    let parts = with_description(alloc, &field.description, parts)?;
+    Ok(Property {
+        name: field.name.copy(alloc)?,
+        schema: object_of(alloc, parts)?,
+    })
+}
+
+/// The names of the fields that must be there, in order.
+fn required_names(alloc: Global, fields: &[Field]) -> Result<List<Text>, AllocError>
+    ensures { IfOk result (λ names. names ≡ sorted_by same_name (meant.required_names (map meant.parts_of_field fields.now))) }
+{
+    let mut names = Vec::new(alloc);
+    for field in fields {
+        if field.presence == Presence::Required {
+            insert_by_name(&mut names, field.name.copy(alloc)?)?;
+        }
+    }
+    Ok(List::from_vec(names))
+}

@@ -1,0 +1,28 @@
+ghost use Rattle.std.specs.Prelude.{◌≡◌};
+ghost use Rattle.typed_values.specs.Checks.{TablePasses, DescPasses};
+ghost use Rattle.typed_values.specs.Once.{once_sound};
+ghost use Rattle.typed_values.specs.Ranged.{AreRangesRight};
+ghost use Rattle.typed_values.specs.Sound.{IsSound};
+
+use crate::desc::Desc;
+use crate::table::DescTable;
+
+/// A whole descriptor, and the table in which its references are looked up.
+#[derive(Clone, Copy)]
+pub(crate) struct Scope<'a> {
+    pub table: &'a DescTable,
+    pub whole: &'a Desc,
+    ghost sound: { IsSound table.now whole.now } by { once_sound table.now whole.now },
+    ghost ranged: { AreRangesRight table.now whole.now },
+}
+
+impl<'a> Scope<'a> {
+    pub(crate) fn new(table: &'a DescTable, whole: &'a Desc) -> Scope<'a>
+        requires table { TablePasses table.now }
+        requires whole { DescPasses table.now whole.now }
+        ensures table { result.table.now ≡ table.now }
+        ensures whole { result.whole.now ≡ whole.now }
+    {
+        Scope { table, whole }
+    }
+}

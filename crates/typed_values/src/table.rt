@@ -1,0 +1,218 @@
+ghost use Rattle.std.specs.Prelude.{◌≡◌, ◌≤◌, ◌↔◌, [], length, map, Some, None, IsNone, IfSome, IfOk, IfErr, OnErr, IsTrue, slice_get};
+ghost use Rattle.std.specs.Option.{option_copied};
+ghost use Rattle.std.specs.Str.{chars};
+ghost use Rattle.schema_values.specs.Sound.{AreDistinct};
+ghost use Rattle.typed_values.specs.Definitions.{definition, definition_with, entry_of, definition_name};
+ghost use Rattle.typed_values.specs.Adding.{Adds, IsRefused};
+
+use crate::desc::{Desc, copy_text};
+use crate::equal::same_text;
+use schema_values::{List, Text};
+use std::alloc::{AllocError, Global};
+use std::marker::Model;
+
+/// A named descriptor.
+#[derive(Drop)]
+pub struct Definition {
+    pub name: Text,
+    pub description: Option<Text>,
+    pub desc: Desc,
+}
+
+/// Definitions by name, in order of insertion. No two have one name.
+#[derive(Drop)]
+pub struct DescTable {
+    definitions: List<Definition>,
+    alloc: Global,
+}
+
+/// What `add` found.
+#[derive(Clone, Copy, Debug, PartialEq, Eq)]
+pub enum Added {
+    New,
+    /// The name stands there with the same descriptor and description.
+    Same,
+}
+
+/// Why a definition was not added.
+#[derive(Drop)]
+pub enum AddError {
+    /// The name stands there with another descriptor or description.
+    Clash(Text),
+    OutOfMemory,
+}
+
+impl From<AllocError> for AddError {
+    ghost use Rattle.std.specs.Prelude.{◌≡◌};
+    ghost use Rattle.typed_values.specs.declared.table.AddError.TheVariants.{OutOfMemory};
+
+    ghost from_gives = { λ _ e. e ≡ OutOfMemory };
+
+    fn from(_: AllocError) -> AddError {
+        AddError::OutOfMemory
+    }
+}
+
+impl Model for DescTable {
+    ghost use Rattle.std.specs.Prelude.{List, map};
+    ghost use Rattle.std.specs.Coded.{coded_list};
+    ghost use Rattle.schema_values.specs.Sound.{AreDistinct};
+    ghost use Rattle.typed_values.specs.Definitions.{definition_name};
+    ghost use Rattle.typed_values.specs.declared.table.Definition.{Definition};
+    ghost use Rattle.typed_values.specs.contracts.table.Definition as stored;
+
+    ghost Value = { List Definition };
+
+    ghost coded = { coded_list stored.the_row.coded };
+
+    ghost view = { λ table. table.definitions };
+
+    ghost invariant = { λ table. AreDistinct (map definition_name table.definitions) };
+}
+
+impl Definition {
+    /// A definition equal to this one.
+    pub fn copy(&self, alloc: Global) -> Result<Definition, AllocError>
+        ensures { IfOk result (λ copy. copy ≡ self.now) }
+    {
+        Ok(Definition {
+            name: self.name.copy(alloc)?,
+            description: copy_text(alloc, &self.description)?,
+            desc: self.desc.copy(alloc)?,
+        })
+    }
+
+    fn says(&self, description: &Option<Text>, desc: &Desc) -> bool
+        ensures { IsTrue result ↔ (self.now ≡ definition_with self.now.name description.now desc.now) }
+    {
+        same_text(&self.description, description) && self.desc.equals(desc)
+    }
+}
+
+impl DescTable {
+    /// A table without definitions.
+    pub fn new(alloc: Global) -> DescTable
+        ensures { result ≡ [] }
+    {
+        DescTable {
+            definitions: List::new(alloc),
+            alloc,
+        }
+    }
+
+    /// The number of definitions.
+    pub fn len(&self) -> usize
+        ensures { result ≡ length self.now }
+    {
+        self.definitions.len()
+    }
+
+    pub fn is_empty(&self) -> bool
+        ensures { IsTrue result ↔ (length self.now ≡ 0) }
+    {
+        self.definitions.len() == 0
+    }
+
+    /// The definitions in order of insertion.
+    pub fn definitions(&self) -> &[Definition]
+        ensures items { result.now ≡ self.now }
+        ensures distinct { AreDistinct (map definition_name self.now) }
+    {
+        self.definitions.as_slice()
+    }
+
+    /// The name, the description and the descriptor of the definition at a place in order of insertion.
+    pub fn entry(&self, place: usize) -> Option<(&Text, Option<&Text>, &Desc)>
+        ensures found { IfSome result (λ entry.
+            slice_get self.now place ≡ Some (definition_with entry.0.now (option_copied entry.1) entry.2.now)) }
+        ensures past { IsNone result ↔ (length self.now ≤ place) }
+    {
+        match self.definitions().get(place) {
+            Some(entry) => Some((&entry.name, entry.description.as_ref(), &entry.desc)),
+            None => None,
+        }
+    }
+
+    /// The descriptor that a name is defined as.
+    pub fn get(&self, name: &str) -> Option<&Desc>
+        ensures { option_copied result ≡ definition self.now (chars name.now) }
+    {
+        match self.entry_named(name) {
+            Some(entry) => Some(&entry.desc),
+            None => None,
+        }
+    }
+
+    /// The descriptor that a name is defined as, for a name that is a text.
+    pub fn find(&self, name: &Text) -> Option<&Desc>
+        ensures { option_copied result ≡ definition self.now name.now }
+    {
+        self.get(name.as_str())
+    }
+
+    fn entry_named(&self, name: &str) -> Option<&Definition>
+        ensures { option_copied result ≡ entry_of self.now (chars name.now) }
+    {
+        for entry in self.definitions() {
+            if entry.name.equals_str(name) {
+                return Some(entry);
+            }
+        }
+        None
+    }
+
+    /// Adds a descriptor by a name, with no description.
+    pub fn add(&mut self, name: &str, desc: Desc) -> Result<Added, AddError>
+        ensures added { IfOk result (Adds self.old self.new (definition_with (chars name.now) None desc)) }
+        ensures same { entry_of self.old (chars name.now) ≡ Some (definition_with (chars name.now) None desc)
+            → result ≡ Ok Added.Same }
+        ensures refused { IfErr result (IsRefused self.old (definition_with (chars name.now) None desc)) }
+        ensures err { OnErr result (self.new ≡ self.old) }
+    {
+        self.add_described(name, None, desc)
+    }
+
+    /// Adds a descriptor by a name. Memory is taken for a new name, and to tell the name that clashes.
+    pub fn add_described(
+        &mut self,
+        name: &str,
+        description: Option<Text>,
+        desc: Desc,
+    ) -> Result<Added, AddError>
+        ensures added { IfOk result (Adds self.old self.new (definition_with (chars name.now) description desc)) }
+        ensures same { entry_of self.old (chars name.now) ≡ Some (definition_with (chars name.now) description desc)
+            → result ≡ Ok Added.Same }
+        ensures refused { IfErr result (IsRefused self.old (definition_with (chars name.now) description desc)) }
+        ensures err { OnErr result (self.new ≡ self.old) }
+    {
+        match self.entry_named(name) {
+            Some(entry) => {
+                if entry.says(&description, &desc) {
+                    Ok(Added::Same)
+                } else {
+                    Err(AddError::Clash(Text::from_str(self.alloc, name)?))
+                }
+            }
+            None => {
+                let name = Text::from_str(self.alloc, name)?;
+                self.definitions.push(Definition {
+                    name,
+                    description,
+                    desc,
+                })?;
+                Ok(Added::New)
+            }
+        }
+    }
+
+    /// A table of the same definitions.
+    pub fn copy(&self, alloc: Global) -> Result<DescTable, AllocError>
+        ensures { IfOk result (λ copy. copy ≡ self.now) }
+    {
+        let mut definitions = List::new(alloc);
+        for definition in self.definitions() {
+            definitions.push(definition.copy(alloc)?)?;
+        }
+        Ok(DescTable { definitions, alloc })
+    }
+}
