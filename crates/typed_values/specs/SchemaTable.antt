@@ -3,9 +3,10 @@ use Rattle.std.specs.Prelude.{ℕ, ℤ, pos, Bool, true, false, List, [], ◌∷
 use Rattle.schema_values.specs.declared.json_value.Json.{Json, Bool as Truth, Int as Number, Text as Words, List as Items, Object}
 use Rattle.schema_values.specs.declared.json_value.Member.{Member}
 use Rattle.schema_values.specs.Member.{name_of}
-use Rattle.typed_values.specs.declared.desc.Desc.{Desc}
+use Rattle.typed_values.specs.declared.desc.Desc.{Desc, out-Desc}
 use Rattle.typed_values.specs.declared.desc.Desc.TheOpen.{Desc-F, Field-F}
 use Rattle.typed_values.specs.declared.desc.Desc.TheFolds.{fold-Desc}
+use Rattle.typed_values.specs.declared.desc.Field.{Field}
 use Rattle.typed_values.specs.declared.desc.IntKind.{IntKind}
 use Rattle.typed_values.specs.declared.desc.IntKind.TheVariants.{I8, I16, I32, I64, U8, U16, U32, U64}
 use Rattle.typed_values.specs.declared.desc.Presence.{Presence}
@@ -145,14 +146,14 @@ abbrev pub schema_json : Desc → Json
 schema_json d = drawn_json (drawn d)
 
 -- the schema of a type with its name, which a reference does not show
-abbrev pub titled : List ℕ → Drawn → Drawn
-titled name s = if_reference s.is_reference where
-  if_reference : Bool → Drawn
-  if_reference true = s
-  if_reference false = record s { title = Some name }
+abbrev pub titled : List ℕ → Desc → Drawn
+titled name d = by_form (out-Desc d) where
+  by_form : Desc-F Desc Field → Drawn
+  by_form (Desc-F.Ref other) = drawn d
+  by_form _ = record (drawn d) { title = Some name }
 
 abbrev pub schema_json_titled : List ℕ → Desc → Json
-schema_json_titled name d = drawn_json (titled name (drawn d))
+schema_json_titled name d = drawn_json (titled name d)
 
 -- the schema of a definition, with its description
 abbrev pub schema_json_described : Option (List ℕ) → Desc → Json

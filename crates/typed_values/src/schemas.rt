@@ -1,7 +1,6 @@
 ghost use Rattle.std.specs.Prelude.{◌≡◌, map, IfOk};
 ghost use Rattle.schema_values.specs.declared.schema.SchemaObject.{out-SchemaObject};
 ghost use Rattle.typed_values.specs.declared.schemas.SchemaPlace.TheVariants.{Plain, Header};
-ghost use Rattle.typed_values.specs.Checks.{TablePasses, DescPasses};
 ghost use Rattle.typed_values.specs.Order.{sorted_by};
 ghost use Rattle.typed_values.specs.SchemaTable.{same_name};
 ghost use Rattle.typed_values.specs.Schemas as meant;
@@ -32,8 +31,6 @@ pub fn schema_of(
     desc: &Desc,
     place: SchemaPlace,
 ) -> Result<Schema, AllocError>
-    requires table { TablePasses table.now }
-    requires desc { DescPasses table.now desc.now }
     ensures plain { place ≡ Plain → IfOk result (λ schema. schema ≡ schema_value desc.now) }
     ensures header { place ≡ Header → IfOk result (λ schema. schema ≡ schema_value (in_header desc.now)) }
 {
