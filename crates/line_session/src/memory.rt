@@ -49,7 +49,12 @@ impl Model for MemorySource {
 
     ghost Value = { MemoryState };
 
-    ghost view = { λ s. record { bytes = drop s.at s.content; failing = s.failing; calls = s.calls; faults = s.faults } };
+    ghost view = { λ s. record {
+      bytes = drop s.at s.content;
+      failing = s.failing;
+      calls = s.calls;
+      faults = s.faults;
+    } };
 
     ghost invariant = { λ s. s.at ≤ length s.content };
 }
@@ -69,7 +74,12 @@ impl Model for MemorySink {
 
     ghost Value = { MemoryState };
 
-    ghost view = { λ s. record { bytes = s.content.items; failing = s.failing; calls = s.calls; faults = s.faults } };
+    ghost view = { λ s. record {
+      bytes = s.content.items;
+      failing = s.failing;
+      calls = s.calls;
+      faults = s.faults;
+    } };
 }
 
 impl Model for SafeSink {
@@ -216,7 +226,8 @@ impl Sink for MemorySink {
         ensures failed { IsErrOf result SinkError.Failed → Rose self.old.faults self.new.faults }
 
         // It fails at these calls and at no other, and the count rises by each.
-        ensures exactly { IsErrOf result SinkError.Failed ↔ IsTrue (is_failing self.old.failing self.old.calls) }
+        ensures exactly { IsErrOf result SinkError.Failed
+            ↔ IsTrue (is_failing self.old.failing self.old.calls) }
         ensures counts { self.new ≡ after_call self.old self.new.bytes }
     {
         if is_failing(self.failing.as_slice(), &mut self.calls) {

@@ -1,5 +1,6 @@
 //! A session over any answering of lines: a front is written, and then the reply to each line.
-ghost use Rattle.std.specs.Prelude.{◌≡◌, ◌⊎◌, Some, ◌+◌, ◌-◌, ◌^◌, ◌<◌, ◌≤◌, List as ListOf, ℕ, take, IfOk, OnOk, OnErr, IsErrOf};
+ghost use Rattle.std.specs.Prelude.{◌≡◌, ◌⊎◌, Some, ◌+◌, ◌-◌, ◌^◌, ◌<◌, ◌≤◌, List as ListOf, ℕ, take, IfOk};
+ghost use Rattle.std.specs.Prelude.{OnOk, OnErr, IsErrOf};
 ghost use Rattle.line_session.specs.Causes.{Rose};
 ghost use Rattle.line_session.specs.Lines.{HasLongLine, IsTooMuch, PassesNoLimit};
 ghost use Rattle.line_session.specs.Session.{Replied, PartReplied, IsAnswered};
@@ -32,7 +33,8 @@ pub trait Answering {
     ) -> Result<List<u8>, AllocError>
         requires { can_answer self.now }
         ensures ok { IfOk result (λ reply. answers self.now state.old line.now reply state.new) }
-        ensures err { OnErr result ((state.new ≡ state.old) ⊎ ((reply : ListOf ℕ) × answers self.now state.old line.now reply state.new)) };
+        ensures err { OnErr result ((state.new ≡ state.old)
+            ⊎ ((reply : ListOf ℕ) × answers self.now state.old line.now reply state.new)) };
 }
 
 /// How a session ended.
@@ -61,8 +63,10 @@ fn answer<A: Answering, K: Sink>(
     sink: &mut K,
 ) -> Result<(), SinkError>
     requires { A.can_answer answering.now }
-    ensures ok { OnOk result (Replied (A.answers answering.now) (K.taken sink.old) (K.taken sink.new) state.old line.now state.new) }
-    ensures part { OnErr result (PartReplied (A.answers answering.now) (K.taken sink.old) (K.taken sink.new) state.old line.now state.new) }
+    ensures ok { OnOk result (Replied (A.answers answering.now) (K.taken sink.old)
+        (K.taken sink.new) state.old line.now state.new) }
+    ensures part { OnErr result (PartReplied (A.answers answering.now) (K.taken sink.old)
+        (K.taken sink.new) state.old line.now state.new) }
     ensures later { K.faults sink.old ≤ K.faults sink.new }
     ensures failed { IsErrOf result SinkError.Failed → Rose (K.faults sink.old) (K.faults sink.new) }
 {
@@ -96,7 +100,8 @@ fn serve_lines<A: Answering, S: Source, K: Sink>(
     requires ready { A.can_answer answering.now }
     requires most { most_input < 2 ^ 64 - 1 }
     requires longest { longest_line < 2 ^ 64 - 1 }
-    ensures served { IsServed (A.answers answering.now) front.now most_input longest_line (S.left source.old) (S.left source.new)
+    ensures served { IsServed (A.answers answering.now) front.now most_input longest_line (S.left source.old)
+        (S.left source.new)
         (K.taken sink.old) (K.taken sink.new) state.old state.new result }
     ensures source_later { S.faults source.old ≤ S.faults source.new }
     ensures sink_later { K.faults sink.old ≤ K.faults sink.new }
@@ -151,22 +156,27 @@ pub fn serve<A: Answering, S: Source, K: Sink>(
     requires ready { A.can_answer answering.now }
     requires most { most_input < 2 ^ 64 - 1 }
     requires longest { longest_line < 2 ^ 64 - 1 }
-    ensures served { IsServed (A.answers answering.now) front.now most_input longest_line (S.left source.old) (S.left source.new)
+    ensures served { IsServed (A.answers answering.now) front.now most_input longest_line (S.left source.old)
+        (S.left source.new)
         (K.taken sink.old) (K.taken sink.new) state.old state.new result }
     // Of a source and a sink that tell their bytes.
     ensures session { result ≡ SessionEnd.Done → (all before : ListOf ℕ) →
         S.left source.old ≡ Some all → K.taken sink.old ≡ Some before →
         IsAnswered (A.answers answering.now) front.now all before (S.left source.new) (K.taken sink.new) state.old state.new }
     // Of a source that tells its bytes.
-    ensures limits { (all : ListOf ℕ) → S.left source.old ≡ Some all → MeetsLimits most_input longest_line all result }
+    ensures limits { (all : ListOf ℕ) → S.left source.old ≡ Some all
+        → MeetsLimits most_input longest_line all result }
     // Where nothing fails, the end is the one that the bytes call for, or memory runs out.
-    ensures complete { (all : ListOf ℕ) → S.left source.old ≡ Some all → PassesNoLimit most_input longest_line all →
+    ensures complete { (all : ListOf ℕ) → S.left source.old ≡ Some all
+        → PassesNoLimit most_input longest_line all →
         ¬ Rose (S.faults source.old) (S.faults source.new) → ¬ Rose (K.faults sink.old) (K.faults sink.new) →
         (result ≡ SessionEnd.Done) ⊎ (result ≡ SessionEnd.OutOfMemory) }
-    ensures too_long { (all : ListOf ℕ) → S.left source.old ≡ Some all → HasLongLine longest_line (take most_input all) →
+    ensures too_long { (all : ListOf ℕ) → S.left source.old ≡ Some all
+        → HasLongLine longest_line (take most_input all) →
         ¬ Rose (S.faults source.old) (S.faults source.new) → ¬ Rose (K.faults sink.old) (K.faults sink.new) →
         (result ≡ SessionEnd.LineTooLong (longest_line + 1)) ⊎ (result ≡ SessionEnd.OutOfMemory) }
-    ensures too_much { (all : ListOf ℕ) → S.left source.old ≡ Some all → IsTooMuch most_input longest_line all →
+    ensures too_much { (all : ListOf ℕ) → S.left source.old ≡ Some all
+        → IsTooMuch most_input longest_line all →
         ¬ Rose (S.faults source.old) (S.faults source.new) → ¬ Rose (K.faults sink.old) (K.faults sink.new) →
         (result ≡ SessionEnd.TooMuchInput (most_input + 1)) ⊎ (result ≡ SessionEnd.OutOfMemory) }
     ensures source_later { S.faults source.old ≤ S.faults source.new }

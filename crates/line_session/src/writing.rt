@@ -1,5 +1,5 @@
 //! Whole texts to a sink, which may take them in parts.
-ghost use Rattle.std.specs.Prelude.{◌≡◌, ◌≤◌, OnOk, OnErr, IsErrOf};
+ghost use Rattle.std.specs.Prelude.{◌≤◌, OnOk, OnErr, IsErrOf};
 ghost use Rattle.std.specs.Io.KnownBytes.{Appends};
 ghost use Rattle.line_session.specs.Causes.{Rose};
 ghost use Rattle.line_session.specs.Lines.{end_line};

@@ -2,7 +2,7 @@
 use Rattle.std.proofs.Common.{◌≡◌, ℕ, List, [], ◌∷◌, ◌++◌, Option, Some, None, append_assoc, refl, sym, ap, ◌∙◌}
 use Rattle.schema_values.specs.declared.json_value.Json.{Json, Object}
 use Rattle.schema_values.specs.declared.json_value.Member.{Member}
-use Rattle.openapi_values.specs.Objects.{Entry, member, present, members_of, object_of}
+use Rattle.openapi_values.specs.Objects.{Entry, present, members_of, object_of}
 
 present-append : (name : List ℕ) (value : Option Json) (ms rest : List Member) → present name value ms ++ rest ≡ present name value (ms ++ rest)
 present-append name None ms rest = refl

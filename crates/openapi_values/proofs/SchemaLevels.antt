@@ -1,7 +1,7 @@
 -- One level of a schema, as it is written.
 use Rattle.std.proofs.Common.{◌≡◌, ℕ, List, [], ◌∷◌, ◌++◌, Bool, Option, Some, None, option_map, unwrap_or, map, codes, refl, ◌∙◌, ap}
 use Rattle.std.specs.Option.{option_map_or}
-use Rattle.schema_values.specs.declared.json_value.Json.{Json, List as ListOf}
+use Rattle.schema_values.specs.declared.json_value.Json.{Json}
 use Rattle.schema_values.specs.declared.schema.ArrayParts.{ArrayParts, fold_out-ArrayParts}
 use Rattle.schema_values.specs.declared.schema.Items.{Items, One, fold_out-Items}
 use Rattle.schema_values.specs.declared.schema.ObjectParts.{ObjectParts, out-ObjectParts, fold_out-ObjectParts}

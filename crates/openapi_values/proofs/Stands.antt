@@ -1,9 +1,9 @@
 -- What is found in a written document.
-use Rattle.std.proofs.Common.{◌≡◌, ◌↔◌, ℕ, Bool, true, false, ◌&&◌, not, cond, IsTrue, List, [], ◌∷◌, Option, Some, None, IfSome, option_map, option_and_then, find, bytes_eq, codes, refl, sym, ◌∙◌, ap, subst, true≢false}
+use Rattle.std.proofs.Common.{◌≡◌, ◌↔◌, ℕ, Bool, true, false, ◌&&◌, not, cond, List, [], ◌∷◌, Option, Some, None, IfSome, option_map, option_and_then, bytes_eq, codes, refl, sym, ◌∙◌, ap, subst}
 use Rattle.std.specs.List.{list_all}
 use Rattle.std.proofs.lemmas.Bool.{and_parts}
 use Rattle.std.proofs.lemmas.Slice.Eq.{bytes_eq-Decides}
-use Rattle.schema_values.specs.declared.json_value.Json.{Json, Object, out-Json}
+use Rattle.schema_values.specs.declared.json_value.Json.{Json, Object}
 use Rattle.schema_values.specs.declared.json_value.Json.TheVariants.{outs-Object}
 use Rattle.schema_values.specs.declared.json_value.Member.{Member}
 use Rattle.schema_values.specs.Get.{get_of, first_named}

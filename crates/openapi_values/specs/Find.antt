@@ -1,5 +1,5 @@
 -- What a document's types hold, by names: the first of each name.
-use Rattle.std.specs.Prelude.{ℕ, List, [], ◌∷◌, Option, None, option_map, option_and_then, find, bytes_eq, codes, if◌then◌else◌}
+use Rattle.std.specs.Prelude.{ℕ, List, Option, None, option_map, option_and_then, find, bytes_eq, codes, if◌then◌else◌}
 use Rattle.openapi_values.specs.declared.document.OpenApi.{OpenApi}
 use Rattle.openapi_values.specs.declared.operation.Operation.{Operation}
 use Rattle.openapi_values.specs.declared.operation.PathItem.{PathItem}

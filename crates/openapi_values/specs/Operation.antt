@@ -1,5 +1,5 @@
 -- How an operation and its parts are written (OpenAPI 3.0.3, from Path Item Object on).
-use Rattle.std.specs.Prelude.{ℕ, List, [], ◌∷◌, Option, Some, None, option_map, codes}
+use Rattle.std.specs.Prelude.{ℕ, List, [], ◌∷◌, Option, Some, option_map, codes}
 use Rattle.std.specs.Option.{option_map_or}
 use Rattle.schema_values.specs.declared.json_value.Json.{Json, Text}
 use Rattle.openapi_values.specs.declared.media.MediaType.{MediaType}

@@ -1,7 +1,7 @@
 -- How a schema is written (OpenAPI 3.0.3, Schema Object).
-use Rattle.std.specs.Prelude.{ℕ, ℤ, pos, Bool, true, false, List, [], ◌∷◌, ◌++◌, map, Option, Some, None, option_map, option_and_then, unwrap_or, if◌then◌else◌, codes}
+use Rattle.std.specs.Prelude.{ℕ, pos, Bool, true, false, List, [], ◌∷◌, ◌++◌, map, Option, Some, None, option_map, option_and_then, unwrap_or, if◌then◌else◌, codes}
 use Rattle.std.specs.Option.{option_map_or, option_or}
-use Rattle.schema_values.specs.declared.json_value.Json.{Json, Bool as Truth, Int, Text, List as ListOf, Object as ObjectOf}
+use Rattle.schema_values.specs.declared.json_value.Json.{Json, Bool as Truth, Int, Text, List as ListOf}
 use Rattle.schema_values.specs.declared.schema.ArrayParts.{ArrayParts, ArrayParts-F, fold-ArrayParts}
 use Rattle.schema_values.specs.declared.schema.InstanceType.{InstanceType}
 use Rattle.schema_values.specs.declared.schema.InstanceType.TheVariants.{Boolean, Object, Array, String, Integer}

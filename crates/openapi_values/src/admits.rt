@@ -6,7 +6,8 @@ ghost use Rattle.openapi_values.specs.Keywords.{keyword_of};
 ghost use Rattle.openapi_values.specs.Levels.{as_list, as_object};
 ghost use Rattle.openapi_values.specs.Options.{is_none_or};
 ghost use Rattle.openapi_values.specs.JsonAdmits.{admits_within, object_admits, members_admit, JsonAdmits};
-ghost use Rattle.openapi_values.specs.Rows.{row, members_hold, property_admitted, properties_admitted, other_admitted, every_admits, some_admits, one_admits};
+ghost use Rattle.openapi_values.specs.Rows.{row, members_hold, property_admitted, properties_admitted};
+ghost use Rattle.openapi_values.specs.Rows.{other_admitted, every_admits, some_admits, one_admits};
 ghost use Rattle.openapi_values.specs.Smaller.{smaller_admits};
 
 use crate::find::{definition_named, find_member, is_set_true, reference_of};
@@ -41,7 +42,8 @@ impl Admitter<'_> {
     #[cycle(admits)]
     fn members_admit(&self, next: u64, schema: &[Member], value: &Json) -> bool
         requires { next < self.now.room }
-        ensures { result ≡ members_admit self.now.doc.now (smaller_admits self.now.doc.now self.now.room) (admits_within self.now.doc.now self.now.room value.now next) (out-Json value.now) schema.now }
+        ensures { result ≡ members_admit self.now.doc.now (smaller_admits self.now.doc.now self.now.room)
+            (admits_within self.now.doc.now self.now.room value.now next) (out-Json value.now) schema.now }
     {
         match reference_of(schema) {
             Some(name) => match definition_named(self.doc, name) {
@@ -55,7 +57,8 @@ impl Admitter<'_> {
     #[cycle(admits)]
     fn object_admits(&self, next: u64, schema: &[Member], value: &Json) -> bool
         requires { next < self.now.room }
-        ensures { result ≡ object_admits (smaller_admits self.now.doc.now self.now.room) (admits_within self.now.doc.now self.now.room value.now next) (out-Json value.now) schema.now }
+        ensures { result ≡ object_admits (smaller_admits self.now.doc.now self.now.room)
+            (admits_within self.now.doc.now self.now.room value.now next) (out-Json value.now) schema.now }
     {
         if !rows::all_read(schema) {
             return false;
@@ -68,7 +71,8 @@ impl Admitter<'_> {
     #[cycle(admits)]
     fn members_hold(&self, next: u64, schema: &[Member], value: &Json) -> bool
         requires { next < self.now.room }
-        ensures { result ≡ members_hold (smaller_admits self.now.doc.now self.now.room) (admits_within self.now.doc.now self.now.room value.now next) (out-Json value.now) schema.now }
+        ensures { result ≡ members_hold (smaller_admits self.now.doc.now self.now.room)
+            (admits_within self.now.doc.now self.now.room value.now next) (out-Json value.now) schema.now }
     {
         for member in schema {
             if !self.member_holds(next, schema, member, value) {
@@ -82,7 +86,9 @@ impl Admitter<'_> {
     #[cycle(admits)]
     fn member_holds(&self, next: u64, schema: &[Member], member: &Member, value: &Json) -> bool
         requires { next < self.now.room }
-        ensures { result ≡ row (smaller_admits self.now.doc.now self.now.room) (admits_within self.now.doc.now self.now.room value.now next) (out-Json value.now) schema.now (keyword_of member.now.name) member.now.value }
+        ensures { result ≡ row (smaller_admits self.now.doc.now self.now.room)
+            (admits_within self.now.doc.now self.now.room value.now next) (out-Json value.now) schema.now
+            (keyword_of member.now.name) member.now.value }
     {
         let asked = &member.value;
         match keyword_named(&member.name) {
@@ -120,7 +126,8 @@ impl Admitter<'_> {
     #[cycle(admits)]
     fn every_admits(&self, next: u64, schemas: &Json, value: &Json) -> bool
         requires { next < self.now.room }
-        ensures { result ≡ every_admits (admits_within self.now.doc.now self.now.room value.now next) schemas.now }
+        ensures { result ≡ every_admits
+            (admits_within self.now.doc.now self.now.room value.now next) schemas.now }
     {
         match schemas {
             Json::List(schemas) => self.all_admit(next, schemas.as_slice(), value),
@@ -131,7 +138,8 @@ impl Admitter<'_> {
     #[cycle(admits)]
     fn all_admit(&self, next: u64, schemas: &[Json], value: &Json) -> bool
         requires { next < self.now.room }
-        ensures { result ≡ list_all (admits_within self.now.doc.now self.now.room value.now next) schemas.now }
+        ensures { result ≡ list_all
+            (admits_within self.now.doc.now self.now.room value.now next) schemas.now }
     {
         for schema in schemas {
             if !self.admits(next, schema, value) {
@@ -144,7 +152,8 @@ impl Admitter<'_> {
     #[cycle(admits)]
     fn some_admits(&self, next: u64, schemas: &Json, value: &Json) -> bool
         requires { next < self.now.room }
-        ensures { result ≡ some_admits (admits_within self.now.doc.now self.now.room value.now next) schemas.now }
+        ensures { result ≡ some_admits
+            (admits_within self.now.doc.now self.now.room value.now next) schemas.now }
     {
         match schemas {
             Json::List(schemas) => self.any_admits(next, schemas.as_slice(), value),
@@ -155,7 +164,8 @@ impl Admitter<'_> {
     #[cycle(admits)]
     fn any_admits(&self, next: u64, schemas: &[Json], value: &Json) -> bool
         requires { next < self.now.room }
-        ensures { result ≡ list_any (admits_within self.now.doc.now self.now.room value.now next) schemas.now }
+        ensures { result ≡ list_any
+            (admits_within self.now.doc.now self.now.room value.now next) schemas.now }
     {
         for schema in schemas {
             if self.admits(next, schema, value) {
@@ -168,7 +178,8 @@ impl Admitter<'_> {
     #[cycle(admits)]
     fn one_admits(&self, next: u64, schemas: &Json, value: &Json) -> bool
         requires { next < self.now.room }
-        ensures { result ≡ one_admits (admits_within self.now.doc.now self.now.room value.now next) schemas.now }
+        ensures { result ≡ one_admits
+            (admits_within self.now.doc.now self.now.room value.now next) schemas.now }
     {
         match schemas {
             Json::List(schemas) => self.count_admitting(next, schemas.as_slice(), value) == 1,
@@ -179,7 +190,8 @@ impl Admitter<'_> {
     #[cycle(admits)]
     fn count_admitting(&self, next: u64, schemas: &[Json], value: &Json) -> usize
         requires { next < self.now.room }
-        ensures { result ≡ count_by (admits_within self.now.doc.now self.now.room value.now next) schemas.now }
+        ensures { result ≡ count_by
+            (admits_within self.now.doc.now self.now.room value.now next) schemas.now }
     {
         let mut count = 0;
         for schema in schemas {
@@ -192,7 +204,8 @@ impl Admitter<'_> {
 
     #[cycle(admits)]
     fn items_hold(&self, schema: &Json, value: &Json) -> bool
-        ensures { result ≡ is_none_or (as_list (out-Json value.now)) (list_all (λ x. smaller_admits self.now.doc.now self.now.room x schema.now)) }
+        ensures { result ≡ is_none_or (as_list (out-Json value.now))
+            (list_all (λ x. smaller_admits self.now.doc.now self.now.room x schema.now)) }
     {
         match value {
             Json::List(items) => self.items_admitted(schema, items.as_slice()),
@@ -202,7 +215,8 @@ impl Admitter<'_> {
 
     #[cycle(admits)]
     fn items_admitted(&self, schema: &Json, items: &[Json]) -> bool
-        ensures { result ≡ list_all (λ x. smaller_admits self.now.doc.now self.now.room x schema.now) items.now }
+        ensures { result ≡ list_all
+            (λ x. smaller_admits self.now.doc.now self.now.room x schema.now) items.now }
     {
         for item in items {
             if !self.admits(self.room, schema, item) {
@@ -214,7 +228,8 @@ impl Admitter<'_> {
 
     #[cycle(admits)]
     fn properties_hold(&self, properties: &Json, value: &Json) -> bool
-        ensures { result ≡ is_none_or (as_object (out-Json value.now)) (properties_admitted (smaller_admits self.now.doc.now self.now.room) properties.now) }
+        ensures { result ≡ is_none_or (as_object (out-Json value.now))
+            (properties_admitted (smaller_admits self.now.doc.now self.now.room) properties.now) }
     {
         match value {
             Json::Object(members) => self.properties_admitted(properties, members.as_slice()),
@@ -224,7 +239,8 @@ impl Admitter<'_> {
 
     #[cycle(admits)]
     fn properties_admitted(&self, properties: &Json, members: &[Member]) -> bool
-        ensures { result ≡ properties_admitted (smaller_admits self.now.doc.now self.now.room) properties.now members.now }
+        ensures { result ≡ properties_admitted
+            (smaller_admits self.now.doc.now self.now.room) properties.now members.now }
     {
         match properties {
             Json::Object(properties) => self.members_admitted(properties.as_slice(), members),
@@ -234,7 +250,8 @@ impl Admitter<'_> {
 
     #[cycle(admits)]
     fn members_admitted(&self, properties: &[Member], members: &[Member]) -> bool
-        ensures { result ≡ list_all (λ (m : MemberValue). property_admitted (smaller_admits self.now.doc.now self.now.room) properties.now m) members.now }
+        ensures { result ≡ list_all (λ (m : MemberValue). property_admitted
+            (smaller_admits self.now.doc.now self.now.room) properties.now m) members.now }
     {
         for member in members {
             if !self.property_admitted(properties, member) {
@@ -246,7 +263,8 @@ impl Admitter<'_> {
 
     #[cycle(admits)]
     fn property_admitted(&self, properties: &[Member], member: &Member) -> bool
-        ensures { result ≡ property_admitted (smaller_admits self.now.doc.now self.now.room) properties.now member.now }
+        ensures { result ≡ property_admitted
+            (smaller_admits self.now.doc.now self.now.room) properties.now member.now }
     {
         match find_member(properties, &member.name) {
             Some(schema) => self.admits(self.room, schema, &member.value),
@@ -256,7 +274,9 @@ impl Admitter<'_> {
 
     #[cycle(admits)]
     fn others_hold(&self, schema: &[Member], allowed: &Json, value: &Json) -> bool
-        ensures { result ≡ is_none_or (as_object (out-Json value.now)) (list_all (λ (m : MemberValue). other_admitted (smaller_admits self.now.doc.now self.now.room) schema.now allowed.now m)) }
+        ensures { result ≡ is_none_or (as_object (out-Json value.now))
+            (list_all (λ (m : MemberValue). other_admitted
+            (smaller_admits self.now.doc.now self.now.room) schema.now allowed.now m)) }
     {
         match value {
             Json::Object(members) => self.others_admitted(schema, allowed, members.as_slice()),
@@ -266,7 +286,8 @@ impl Admitter<'_> {
 
     #[cycle(admits)]
     fn others_admitted(&self, schema: &[Member], allowed: &Json, members: &[Member]) -> bool
-        ensures { result ≡ list_all (λ (m : MemberValue). other_admitted (smaller_admits self.now.doc.now self.now.room) schema.now allowed.now m) members.now }
+        ensures { result ≡ list_all (λ (m : MemberValue). other_admitted
+            (smaller_admits self.now.doc.now self.now.room) schema.now allowed.now m) members.now }
     {
         for member in members {
             if !self.other_admitted(schema, allowed, member) {
@@ -278,7 +299,8 @@ impl Admitter<'_> {
 
     #[cycle(admits)]
     fn other_admitted(&self, schema: &[Member], allowed: &Json, member: &Member) -> bool
-        ensures { result ≡ other_admitted (smaller_admits self.now.doc.now self.now.room) schema.now allowed.now member.now }
+        ensures { result ≡ other_admitted
+            (smaller_admits self.now.doc.now self.now.room) schema.now allowed.now member.now }
     {
         rows::names_property(schema, &member.name)
             || rows::is_true_value(allowed)

@@ -1,4 +1,4 @@
-ghost use Rattle.std.specs.Prelude.{◌≡◌, IsTrue, option_map, bytes_eq, [], ◌∷◌, codes};
+ghost use Rattle.std.specs.Prelude.{◌≡◌, IsTrue, option_map, [], ◌∷◌};
 ghost use Rattle.std.specs.Str.{chars};
 ghost use Rattle.schema_values.specs.Ascii.{all_ascii};
 ghost use Rattle.schema_values.specs.Get.{first_named, get_of};

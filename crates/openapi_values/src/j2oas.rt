@@ -20,7 +20,8 @@ pub enum J2oasError {
 
 /// A schema as it stands in the document, with the given name as its title, if there is one.
 pub fn j2oas_schema(alloc: Global, name: Option<&str>, schema: &Schema) -> Result<Json, J2oasError>
-    ensures ok { IfOk result (λ json. json ≡ schema_json (option_map (λ name. chars name.now) name.entry) schema.now) }
+    ensures ok { IfOk result (λ json. json ≡ schema_json
+        (option_map (λ name. chars name.now) name.entry) schema.now) }
     ensures refused { IfSome (refusal_of schema.now) (λ refusal. result ≡ Err refusal) }
     ensures memory { IfNone (refusal_of schema.now) (IfErr result (λ e. e ≡ J2oasError.OutOfMemory)) }
 {
@@ -34,7 +35,8 @@ pub fn j2oas_schema(alloc: Global, name: Option<&str>, schema: &Schema) -> Resul
 }
 
 fn titled(alloc: Global, name: Option<&str>, schema: &Schema) -> Result<Json, AllocError>
-    ensures { IfOk result (λ json. json ≡ schema_json (option_map (λ name. chars name.now) name.entry) schema.now) }
+    ensures { IfOk result (λ json. json ≡ schema_json
+        (option_map (λ name. chars name.now) name.entry) schema.now) }
 {
     let title = match name {
         Some(name) => Some(Text::from_str(alloc, name)?),

@@ -1,6 +1,5 @@
-ghost use Rattle.std.specs.Prelude.{◌≡◌, ◌↔◌, ℕ, suc, false, List, [], Some, option_map, codes};
+ghost use Rattle.std.specs.Prelude.{◌≡◌, ◌↔◌, ℕ, suc, false, List, Some, option_map, codes};
 ghost use Rattle.schema_values.specs.declared.json_value.Json.{Json as JsonValue, out-Json};
-ghost use Rattle.schema_values.specs.Get.{get_of};
 ghost use Rattle.schema_values.specs.Reading.{Reads};
 ghost use Rattle.openapi_values.specs.declared.document.OpenApi.{OpenApi as Document};
 ghost use Rattle.openapi_values.specs.declared.media.MediaType.{MediaType as Media};
@@ -17,21 +16,32 @@ ghost use Rattle.openapi_values.specs.Smaller.{smaller_admits};
 
 /// With no step left nothing is admitted. One step asks a schema of the value, and of smaller values with all steps.
 pub fn admits_by_steps()
-    ensures none { (doc : JsonValue) (room : ℕ) (json schema : JsonValue) → admits_within doc room json 0 schema ≡ false }
-    ensures step { (doc : JsonValue) (room : ℕ) (json : JsonValue) (steps : ℕ) (schema : JsonValue) → admits_within doc room json (suc steps) schema ≡ schema_admits doc (smaller_admits doc room) (admits_within doc room json steps) (out-Json json) schema }
+    ensures none { (doc : JsonValue) (room : ℕ) (json schema : JsonValue)
+        → admits_within doc room json 0 schema ≡ false }
+    ensures step { (doc : JsonValue) (room : ℕ) (json : JsonValue) (steps : ℕ) (schema : JsonValue)
+        → admits_within doc room json (suc steps) schema ≡ schema_admits doc (smaller_admits doc room)
+        (admits_within doc room json steps) (out-Json json) schema }
 {}
 
 /// A written document has the operations of its paths.
 pub fn operations_stand()
-    ensures { (document : Document) (path method : List ℕ) → operation_at (open_api_json document) path method ≡ option_map operation_json (operation_in document path method) }
+    ensures { (document : Document) (path method : List ℕ)
+        → operation_at (open_api_json document) path method ≡ option_map operation_json
+        (operation_in document path method) }
 {}
 
 /// A written document has the schemas of its components.
 pub fn definitions_stand()
-    ensures { (document : Document) (name : List ℕ) → definition (open_api_json document) name ≡ definition_in document name }
+    ensures { (document : Document) (name : List ℕ)
+        → definition (open_api_json document) name ≡ definition_in document name }
 {}
 
 /// A written document admits the bodies that the schema of the operation's body admits.
 pub fn bodies_admitted()
-    ensures { (document : Document) (path method : List ℕ) (listed : Listed) (body : Body) (media : Media) (request : Request) → operation_in document path method ≡ Some listed → listed.request_body ≡ Some body → value_at (codes "application/json") body.content ≡ Some media → Admits (open_api_json document) path method request ↔ ((json : JsonValue) × Reads request.body json × JsonAdmits (open_api_json document) media.schema json) }
+    ensures { (document : Document) (path method : List ℕ) (listed : Listed) (body : Body) (media : Media)
+        (request : Request) → operation_in document path method ≡ Some listed
+        → listed.request_body ≡ Some body → value_at (codes "application/json") body.content ≡ Some media
+        → Admits (open_api_json document) path method request
+        ↔ ((json : JsonValue) × Reads request.body json
+        × JsonAdmits (open_api_json document) media.schema json) }
 {}

@@ -1,4 +1,4 @@
-ghost use Rattle.std.specs.Prelude.{◌≡◌, IfOk, OnOk, IsTrue, [], ◌∷◌, ◌++◌};
+ghost use Rattle.std.specs.Prelude.{◌≡◌, IfOk, OnOk, IsTrue, [], ◌++◌};
 ghost use Rattle.schema_values.specs.Ascii.{all_ascii};
 ghost use Rattle.openapi_values.specs.Objects.{present, reference_json};
 

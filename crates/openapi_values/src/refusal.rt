@@ -1,7 +1,14 @@
 ghost use Rattle.std.specs.Prelude.{◌≡◌, [], map, option_map, unwrap_or, None};
 ghost use Rattle.schema_values.specs.declared.schema.ObjectParts.{out-ObjectParts};
 ghost use Rattle.schema_values.specs.declared.schema.SchemaObject.{out-SchemaObject};
-ghost use Rattle.openapi_values.specs.Refusal.{first_of, is_one_kind, kind_refusal as refusal_of_kind, untyped_refusal as refusal_without_type, inner_refusal as refusal_inside, refusal_of, items_refusal as refusal_of_items, array_refusal as refusal_of_array, object_parts_refusal as refusal_of_parts, property_refusal as refusal_of_property, object_refusal as refusal_of_object, subschemas_inner};
+ghost use Rattle.openapi_values.specs.Refusal.{first_of, is_one_kind, kind_refusal as refusal_of_kind};
+ghost use Rattle.openapi_values.specs.Refusal.{untyped_refusal as refusal_without_type};
+ghost use Rattle.openapi_values.specs.Refusal.{inner_refusal as refusal_inside, refusal_of};
+ghost use Rattle.openapi_values.specs.Refusal.{items_refusal as refusal_of_items};
+ghost use Rattle.openapi_values.specs.Refusal.{array_refusal as refusal_of_array};
+ghost use Rattle.openapi_values.specs.Refusal.{object_parts_refusal as refusal_of_parts};
+ghost use Rattle.openapi_values.specs.Refusal.{property_refusal as refusal_of_property};
+ghost use Rattle.openapi_values.specs.Refusal.{object_refusal as refusal_of_object, subschemas_inner};
 
 use crate::j2oas::J2oasError;
 use schema_values::{
@@ -38,7 +45,8 @@ fn object_refusal(schema: &SchemaObject) -> Option<J2oasError>
 
 #[cycle(refusal)]
 fn untyped_refusal(schema: &SchemaObject) -> Option<J2oasError>
-    ensures { result ≡ refusal_without_type (option_map subschemas_inner (out-SchemaObject schema.now).subschemas) }
+    ensures { result ≡ refusal_without_type (option_map subschemas_inner
+        (out-SchemaObject schema.now).subschemas) }
 {
     match &schema.subschemas {
         None => None,
@@ -55,7 +63,8 @@ fn has_one_kind(subschemas: &Subschemas) -> bool
 
 #[cycle(refusal)]
 fn kind_refusal(kind: InstanceType, schema: &SchemaObject) -> Option<J2oasError>
-    ensures { result ≡ refusal_of_kind kind (option_map refusal_of_array (out-SchemaObject schema.now).array) (option_map refusal_of_parts (out-SchemaObject schema.now).object) }
+    ensures { result ≡ refusal_of_kind kind (option_map refusal_of_array (out-SchemaObject schema.now).array)
+        (option_map refusal_of_parts (out-SchemaObject schema.now).object) }
 {
     match kind {
         InstanceType::Array => match &schema.array {

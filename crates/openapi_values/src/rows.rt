@@ -1,11 +1,14 @@
-ghost use Rattle.std.specs.Prelude.{◌≡◌, pos, length, ◌||◌, not, ℕ, List};
+ghost use Rattle.std.specs.Prelude.{◌≡◌, length, ◌||◌, not, List};
 ghost use Rattle.std.specs.List.{list_all};
 ghost use Rattle.schema_values.specs.declared.json_value.Json.{Json as JsonValue, out-Json};
 ghost use Rattle.openapi_values.specs.Keywords.{keyword_of};
-ghost use Rattle.openapi_values.specs.Levels.{is_null, is_true, has_type, has_member, as_number, as_text, as_list, as_object};
+ghost use Rattle.openapi_values.specs.Levels.{is_null, is_true, has_type, has_member, as_number, as_text};
+ghost use Rattle.openapi_values.specs.Levels.{as_list, as_object};
 ghost use Rattle.openapi_values.specs.Lookup.{is_integer};
 ghost use Rattle.openapi_values.specs.Options.{is_some_and, is_none_or};
-ghost use Rattle.openapi_values.specs.Rows.{in_format, is_between, is_under, is_least, is_greatest, is_enough, is_not_too_many, is_property, names_stand, is_read, in_subset};
+ghost use Rattle.openapi_values.specs.Rows.{in_format, is_between, is_under, is_least, is_greatest};
+ghost use Rattle.openapi_values.specs.Rows.{is_enough, is_not_too_many, is_property, names_stand, is_read};
+ghost use Rattle.openapi_values.specs.Rows.{in_subset};
 
 use crate::find::{find_word, has_integer_type, stands};
 use crate::keywords::{Keyword, is_word, keyword_named};
@@ -59,7 +62,8 @@ fn is_member_read(member: &Member) -> bool
 }
 
 pub fn is_of_type(name: &Json, value: &Json) -> bool
-    ensures { result ≡ is_some_and (as_text (out-Json name.now)) (λ name. has_type name (out-Json value.now)) }
+    ensures { result ≡ is_some_and (as_text (out-Json name.now))
+        (λ name. has_type name (out-Json value.now)) }
 {
     match name {
         Json::Text(name) => is_type(name, value),
@@ -82,7 +86,9 @@ fn is_type(name: &Text, value: &Json) -> bool
 
 /// Whether a number is of the format that stands beside the type integer.
 pub fn is_of_format(schema: &[Member], format: &Json, value: &Json) -> bool
-    ensures { result ≡ is_none_or (as_number (out-Json value.now)) (λ n. not (is_integer schema.now) || is_some_and (as_text (out-Json format.now)) (λ name. in_format name n)) }
+    ensures { result ≡ is_none_or (as_number (out-Json value.now))
+        (λ n. not (is_integer schema.now) || is_some_and (as_text (out-Json format.now))
+        (λ name. in_format name n)) }
 {
     match value {
         Json::Int(number) => !has_integer_type(schema) || is_in_format(format, number),
@@ -146,7 +152,8 @@ pub fn is_at_least(strictly: bool, least: &Json, value: &Json) -> bool
 
 /// Whether a number is at most the greatest one, or below it.
 pub fn is_at_most(strictly: bool, greatest: &Json, value: &Json) -> bool
-    ensures { result ≡ is_none_or (as_number (out-Json value.now)) (λ n. is_greatest strictly n greatest.now) }
+    ensures { result ≡ is_none_or (as_number (out-Json value.now))
+        (λ n. is_greatest strictly n greatest.now) }
 {
     match value {
         Json::Int(number) => not_above(strictly, greatest, number),
@@ -210,7 +217,8 @@ pub fn is_long_enough(least: &Json, value: &Json) -> bool
 }
 
 pub fn is_short_enough(greatest: &Json, value: &Json) -> bool
-    ensures { result ≡ is_none_or (as_text (out-Json value.now)) (λ t. is_not_too_many (length t) greatest.now) }
+    ensures { result ≡ is_none_or (as_text (out-Json value.now))
+        (λ t. is_not_too_many (length t) greatest.now) }
 {
     match value {
         Json::Text(text) => has_not_too_many(characters(text), greatest),
@@ -219,7 +227,8 @@ pub fn is_short_enough(greatest: &Json, value: &Json) -> bool
 }
 
 pub fn has_enough_items(least: &Json, value: &Json) -> bool
-    ensures { result ≡ is_none_or (as_list (out-Json value.now)) (λ (xs : List JsonValue). is_enough (length xs) least.now) }
+    ensures { result ≡ is_none_or (as_list (out-Json value.now))
+        (λ (xs : List JsonValue). is_enough (length xs) least.now) }
 {
     match value {
         Json::List(items) => has_enough(items.len(), least),
@@ -228,7 +237,8 @@ pub fn has_enough_items(least: &Json, value: &Json) -> bool
 }
 
 pub fn has_few_items(greatest: &Json, value: &Json) -> bool
-    ensures { result ≡ is_none_or (as_list (out-Json value.now)) (λ (xs : List JsonValue). is_not_too_many (length xs) greatest.now) }
+    ensures { result ≡ is_none_or (as_list (out-Json value.now))
+        (λ (xs : List JsonValue). is_not_too_many (length xs) greatest.now) }
 {
     match value {
         Json::List(items) => has_not_too_many(items.len(), greatest),
@@ -246,7 +256,8 @@ pub fn has_enough_members(least: &Json, value: &Json) -> bool
 }
 
 pub fn has_few_members(greatest: &Json, value: &Json) -> bool
-    ensures { result ≡ is_none_or (as_object (out-Json value.now)) (λ ms. is_not_too_many (length ms) greatest.now) }
+    ensures { result ≡ is_none_or (as_object (out-Json value.now))
+        (λ ms. is_not_too_many (length ms) greatest.now) }
 {
     match value {
         Json::Object(members) => has_not_too_many(members.len(), greatest),
@@ -273,7 +284,8 @@ fn all_named(names: &Json, members: &[Member]) -> bool
 }
 
 fn all_stand(names: &[Json], members: &[Member]) -> bool
-    ensures { result ≡ list_all (λ name. is_some_and (as_text (out-Json name)) (λ t. has_member t members.now)) names.now }
+    ensures { result ≡ list_all (λ name. is_some_and (as_text (out-Json name))
+        (λ t. has_member t members.now)) names.now }
 {
     for name in names {
         if !is_name(name, members) {

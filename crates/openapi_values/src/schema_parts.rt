@@ -3,7 +3,9 @@ ghost use Rattle.std.specs.Option.{option_or};
 ghost use Rattle.schema_values.specs.declared.json_value.Json.{Text as TextOf, Int as IntOf};
 ghost use Rattle.schema_values.specs.declared.schema.SchemaObject.{out-SchemaObject};
 ghost use Rattle.openapi_values.specs.Objects.{members_of};
-ghost use Rattle.openapi_values.specs.SchemaJson.{annotations, number_entries, text_entries, count_json as count_of, names_json, truth_json as json_of_truth, type_name};
+ghost use Rattle.openapi_values.specs.SchemaJson.{annotations, number_entries, text_entries};
+ghost use Rattle.openapi_values.specs.SchemaJson.{count_json as count_of, names_json};
+ghost use Rattle.openapi_values.specs.SchemaJson.{truth_json as json_of_truth, type_name};
 
 use crate::media::true_json;
 use crate::objects::{add, ascii};
@@ -69,7 +71,9 @@ pub fn add_annotations(
     given: &Option<Text>,
     schema: &SchemaObject,
 ) -> Result<(), AllocError>
-    ensures { OnOk result (members.new ≡ members.old ++ members_of (annotations given.now (out-SchemaObject schema.now).title (out-SchemaObject schema.now).description (out-SchemaObject schema.now).nullable)) }
+    ensures { OnOk result (members.new ≡ members.old ++ members_of
+        (annotations given.now (out-SchemaObject schema.now).title (out-SchemaObject schema.now).description
+        (out-SchemaObject schema.now).nullable)) }
 {
     add(alloc, members, "nullable", true_json(schema.nullable))?;
     let title = title_json(alloc, given, &schema.title)?;

@@ -2,7 +2,11 @@ ghost use Rattle.std.specs.Prelude.{◌≡◌, ◌++◌, IfOk, OnOk, [], map, op
 ghost use Rattle.schema_values.specs.declared.schema.ObjectParts.{out-ObjectParts};
 ghost use Rattle.schema_values.specs.declared.schema.SchemaObject.{out-SchemaObject};
 ghost use Rattle.openapi_values.specs.Objects.{members_of, unless_empty, pair_member};
-ghost use Rattle.openapi_values.specs.SchemaJson.{untitled, additional_json as json_of_additional, schemas_json as json_of_schemas, kind_entries, type_entries, schema_json, schema_written, object_written, items_written, array_written, object_parts_written, property_written, subschemas_written};
+ghost use Rattle.openapi_values.specs.SchemaJson.{untitled, additional_json as json_of_additional};
+ghost use Rattle.openapi_values.specs.SchemaJson.{schemas_json as json_of_schemas, kind_entries};
+ghost use Rattle.openapi_values.specs.SchemaJson.{type_entries, schema_json, schema_written, object_written};
+ghost use Rattle.openapi_values.specs.SchemaJson.{items_written, array_written, object_parts_written};
+ghost use Rattle.openapi_values.specs.SchemaJson.{property_written, subschemas_written};
 
 use crate::objects::{add, reference};
 use crate::schema_parts::{
@@ -49,7 +53,11 @@ fn add_type(
     members: &mut List<Member>,
     schema: &SchemaObject,
 ) -> Result<(), AllocError>
-    ensures { OnOk result (members.new ≡ members.old ++ members_of (type_entries (out-SchemaObject schema.now).instance_type (out-SchemaObject schema.now).format (out-SchemaObject schema.now).number (out-SchemaObject schema.now).string (option_map array_written (out-SchemaObject schema.now).array) (option_map object_parts_written (out-SchemaObject schema.now).object))) }
+    ensures { OnOk result (members.new ≡ members.old ++ members_of
+        (type_entries (out-SchemaObject schema.now).instance_type (out-SchemaObject schema.now).format
+        (out-SchemaObject schema.now).number (out-SchemaObject schema.now).string
+        (option_map array_written (out-SchemaObject schema.now).array)
+        (option_map object_parts_written (out-SchemaObject schema.now).object))) }
 {
     match &schema.instance_type {
         None => Ok(()),
@@ -69,7 +77,10 @@ fn add_kind(
     kind: InstanceType,
     schema: &SchemaObject,
 ) -> Result<(), AllocError>
-    ensures { OnOk result (members.new ≡ members.old ++ members_of (kind_entries kind (out-SchemaObject schema.now).format (out-SchemaObject schema.now).number (out-SchemaObject schema.now).string (option_map array_written (out-SchemaObject schema.now).array) (option_map object_parts_written (out-SchemaObject schema.now).object))) }
+    ensures { OnOk result (members.new ≡ members.old ++ members_of
+        (kind_entries kind (out-SchemaObject schema.now).format (out-SchemaObject schema.now).number
+        (out-SchemaObject schema.now).string (option_map array_written (out-SchemaObject schema.now).array)
+        (option_map object_parts_written (out-SchemaObject schema.now).object))) }
 {
     match kind {
         InstanceType::Boolean => Ok(()),
@@ -139,7 +150,8 @@ fn add_object_parts(
 
 #[cycle(written)]
 fn properties_json(alloc: Global, object: &ObjectParts) -> Result<Option<Json>, AllocError>
-    ensures { IfOk result (λ json. json ≡ unless_empty (map pair_member (map property_written (out-ObjectParts object.now).properties))) }
+    ensures { IfOk result (λ json. json ≡ unless_empty
+        (map pair_member (map property_written (out-ObjectParts object.now).properties))) }
 {
     let properties = object.properties.as_slice();
     if properties.is_empty() {
@@ -170,7 +182,8 @@ fn property_member(alloc: Global, property: &Property) -> Result<Member, AllocEr
 
 #[cycle(written)]
 fn additional_json(alloc: Global, object: &ObjectParts) -> Result<Option<Json>, AllocError>
-    ensures { IfOk result (λ json. json ≡ option_map json_of_additional (option_map schema_written (out-ObjectParts object.now).additional)) }
+    ensures { IfOk result (λ json. json ≡ option_map json_of_additional
+        (option_map schema_written (out-ObjectParts object.now).additional)) }
 {
     match &object.additional {
         Some(schema) => Ok(Some(truth_or_schema(alloc, schema)?)),
@@ -195,7 +208,8 @@ fn add_subschemas(
     members: &mut List<Member>,
     schema: &SchemaObject,
 ) -> Result<(), AllocError>
-    ensures { OnOk result (members.new ≡ members.old ++ members_of (unwrap_or (option_map subschemas_written (out-SchemaObject schema.now).subschemas) [])) }
+    ensures { OnOk result (members.new ≡ members.old ++ members_of
+        (unwrap_or (option_map subschemas_written (out-SchemaObject schema.now).subschemas) [])) }
 {
     match &schema.subschemas {
         Some(subschemas) => add_schemas(alloc, members, subschemas),
@@ -220,7 +234,8 @@ fn add_schemas(
 
 #[cycle(written)]
 fn all_of_json(alloc: Global, subschemas: &Subschemas) -> Result<Option<Json>, AllocError>
-    ensures { IfOk result (λ json. json ≡ json_of_schemas (option_map (map schema_written) subschemas.now.all_of)) }
+    ensures { IfOk result (λ json. json ≡ json_of_schemas
+        (option_map (map schema_written) subschemas.now.all_of)) }
 {
     match &subschemas.all_of {
         Some(schemas) => Ok(Some(Json::List(list_json(alloc, schemas.as_slice())?))),
@@ -230,7 +245,8 @@ fn all_of_json(alloc: Global, subschemas: &Subschemas) -> Result<Option<Json>, A
 
 #[cycle(written)]
 fn any_of_json(alloc: Global, subschemas: &Subschemas) -> Result<Option<Json>, AllocError>
-    ensures { IfOk result (λ json. json ≡ json_of_schemas (option_map (map schema_written) subschemas.now.any_of)) }
+    ensures { IfOk result (λ json. json ≡ json_of_schemas
+        (option_map (map schema_written) subschemas.now.any_of)) }
 {
     match &subschemas.any_of {
         Some(schemas) => Ok(Some(Json::List(list_json(alloc, schemas.as_slice())?))),

@@ -1,4 +1,4 @@
-ghost use Rattle.std.specs.Prelude.{◌≡◌, ◌≢◌, ◌↔◌, IsTrue, length, map};
+ghost use Rattle.std.specs.Prelude.{◌≢◌, ◌↔◌, IsTrue, length, map};
 ghost use Rattle.std.specs.List.{AllAdjacentBelow, AllByRecursion};
 ghost use Rattle.schema_values.specs.AscendingMembers.{Precedes};
 ghost use Rattle.schema_values.specs.Member.{name_of, value_of};

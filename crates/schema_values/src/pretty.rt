@@ -1,4 +1,4 @@
-ghost use Rattle.std.specs.Prelude.{◌≡◌, ◌≤◌, ◌++◌, ◌∷◌, [], IfOk, OnOk, map, suc};
+ghost use Rattle.std.specs.Prelude.{◌≡◌, ◌≤◌, ◌++◌, [], IfOk, OnOk, map, suc};
 ghost use Rattle.std.specs.Str.{encode_utf8_all};
 ghost use Rattle.schema_values.specs.Depth.{depth};
 ghost use Rattle.schema_values.specs.Pretty.{new_line, on_line, grouped, pretty_at, pretty_member, pretty_of};
@@ -16,7 +16,8 @@ impl Json {
     /// The value's text with a line for each item and member.
     pub fn pretty(&self, alloc: Global) -> Result<Text, AllocError>
         ensures text { IfOk result (λ text. text ≡ pretty_of self.now) }
-        ensures reads_back { IfOk result (λ text. IsSound self.now → depth self.now ≤ 127 → Reads (encode_utf8_all text) (sorted_members self.now)) }
+        ensures reads_back { IfOk result (λ text. IsSound self.now → depth self.now ≤ 127
+            → Reads (encode_utf8_all text) (sorted_members self.now)) }
     {
         let mut out = Text::new(alloc);
         self.write_pretty(alloc, 0, &mut out)?;
@@ -95,7 +96,8 @@ fn write_member_lines(
     depth: usize,
     out: &mut Text,
 ) -> Result<(), AllocError>
-    ensures { OnOk result (out.new ≡ out.old ++ joined (map (on_line depth) (map pretty_member members.now))) }
+    ensures { OnOk result (out.new ≡ out.old ++ joined
+        (map (on_line depth) (map pretty_member members.now))) }
 {
     for (index, member) in members.iter().enumerate() {
         write_comma(index, out)?;

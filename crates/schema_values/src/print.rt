@@ -1,4 +1,4 @@
-ghost use Rattle.std.specs.Prelude.{◌≡◌, ◌<◌, ◌≤◌, ◌++◌, ◌∷◌, [], IfOk, OnOk, map, codes, if◌then◌else◌};
+ghost use Rattle.std.specs.Prelude.{◌≡◌, ◌<◌, ◌≤◌, ◌++◌, IfOk, OnOk, map, codes, if◌then◌else◌};
 ghost use Rattle.std.specs.Str.{encode_utf8_all};
 ghost use Rattle.schema_values.specs.Depth.{depth};
 ghost use Rattle.schema_values.specs.Print.{escape, hex_digit, quoted, joined, comma_before, compact_of};
@@ -15,7 +15,8 @@ impl Json {
     /// The value's text with no white space.
     pub fn compact(&self, alloc: Global) -> Result<Text, AllocError>
         ensures text { IfOk result (λ text. text ≡ compact_of self.now) }
-        ensures reads_back { IfOk result (λ text. IsSound self.now → depth self.now ≤ 127 → Reads (encode_utf8_all text) (sorted_members self.now)) }
+        ensures reads_back { IfOk result (λ text. IsSound self.now → depth self.now ≤ 127
+            → Reads (encode_utf8_all text) (sorted_members self.now)) }
     {
         let mut out = Text::new(alloc);
         self.write_compact(alloc, &mut out)?;

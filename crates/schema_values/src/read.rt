@@ -32,8 +32,10 @@ impl Json {
         ensures sound { IfOk result (λ json. IsSound json) }
         ensures ascending { IfOk result (λ json. IsAscending json) }
         ensures nested { IfOk result (λ json. depth json ≤ 127) }
-        ensures complete { (json : JsonValue) → Reads bytes.now json → IsOkUnless result ReadError.OutOfMemory }
-        ensures unreadable { IfErr result (λ e. e ≡ ReadError.Unreadable → (json : JsonValue) → Reads bytes.now json → ⊥) }
+        ensures complete { (json : JsonValue) → Reads bytes.now json
+            → IsOkUnless result ReadError.OutOfMemory }
+        ensures unreadable { IfErr result (λ e. e ≡ ReadError.Unreadable → (json : JsonValue)
+            → Reads bytes.now json → ⊥) }
     {
         let value = match Value::from_slice(alloc, bytes) {
             Ok(value) => value,

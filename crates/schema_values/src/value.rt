@@ -65,7 +65,8 @@ fn items_of_values(alloc: Global, values: &Vec<Value>) -> Result<List<Json>, Val
     ensures ok { IfOk result (λ items. items_of (items_view values.now.items) ≡ Some items) }
     ensures sound { IfOk result (λ items. AllByRecursion IsSound items) }
     ensures ascending { IfOk result (λ items. AllByRecursion IsAscending items) }
-    ensures err { IfErr result (λ e. e ≡ ValueError.HoldsFloat → items_of (items_view values.now.items) ≡ None) }
+    ensures err { IfErr result (λ e. e ≡ ValueError.HoldsFloat
+        → items_of (items_view values.now.items) ≡ None) }
 {
     let mut items = List::new(alloc);
     for value in values {
@@ -79,7 +80,8 @@ fn members_of_map(alloc: Global, map: &Map<String, Value>) -> Result<List<Member
     ensures ok { IfOk result (λ members. members_of (members_view map.now.entries) ≡ Some members) }
     ensures sound { IfOk result (λ members. HasSoundMembers members) }
     ensures ascending { IfOk result (λ members. HasAscendingMembers members) }
-    ensures err { IfErr result (λ e. e ≡ ValueError.HoldsFloat → members_of (members_view map.now.entries) ≡ None) }
+    ensures err { IfErr result (λ e. e ≡ ValueError.HoldsFloat
+        → members_of (members_view map.now.entries) ≡ None) }
 {
     let mut members = List::new(alloc);
     for (key, value) in map.iter() {

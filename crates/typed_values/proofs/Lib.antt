@@ -10,6 +10,7 @@ pub mod JsonSizes
 pub mod TreeSizes
 pub mod FitSteps
 pub mod FitRows
+pub mod DenotedFits
 pub mod EncodeSteps
 pub mod EncodeRows
 pub mod SchemaRows

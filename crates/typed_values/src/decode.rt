@@ -1,10 +1,12 @@
-ghost use Rattle.std.specs.Prelude.{◌≡◌, ◌≤◌, length, IfOk, IfErr};
+ghost use Rattle.std.specs.Prelude.{◌≤◌, length, IfOk, IfErr};
 ghost use Rattle.typed_values.specs.declared.tree.Tree.{Tree};
 ghost use Rattle.typed_values.specs.Answer.{Tells, IfFault, IsFaultOf};
 ghost use Rattle.typed_values.specs.Checks.{TablePasses, DescPasses};
 ghost use Rattle.typed_values.specs.Denotes.{JsonDenotes, told, as_tree, items_told, first_told, if_absent};
+ghost use Rattle.typed_values.specs.Fits.{Fits};
 ghost use Rattle.typed_values.specs.Parts.{IsPart};
-ghost use Rattle.typed_values.specs.Rows.{told_item, told_field, told_fields, told_struct, AreParts, AreFieldsOf};
+ghost use Rattle.typed_values.specs.Rows.{told_item, told_field, told_fields, told_struct};
+ghost use Rattle.typed_values.specs.Rows.{AreFieldsOf, AreParts};
 
 use crate::bounds::is_length_within;
 use crate::desc::{Desc, Field, Presence};
@@ -27,8 +29,11 @@ pub fn decode_json(
     requires table { TablePasses table.now }
     requires desc { DescPasses table.now desc.now }
     ensures denotes { IfOk result (λ tree. JsonDenotes table.now desc.now json.now tree) }
-    ensures fault { IfErr result (λ error. IfFault error (IsFaultOf (told table.now desc.now json.now desc.now))) }
-    ensures refused { IfErr result (λ error. IfFault error (λ fault. (tree : Tree) → JsonDenotes table.now desc.now json.now tree → ⊥)) }
+    ensures fits { IfOk result (λ tree. Fits table.now desc.now tree) }
+    ensures fault { IfErr result (λ error. IfFault error
+        (IsFaultOf (told table.now desc.now json.now desc.now))) }
+    ensures refused { IfErr result (λ error. IfFault error
+        (λ fault. (tree : Tree) → JsonDenotes table.now desc.now json.now tree → ⊥)) }
 {
     match Scope::new(table, desc).decode_at(alloc, desc, json) {
         Ok(tree) => Ok(tree),
@@ -96,7 +101,8 @@ impl Scope<'_> {
         items: &[Json],
     ) -> Result<Tree, Stop>
         requires { IsPart self.now.table.now self.now.whole.now item.now }
-        ensures { Tells result (items_told (told_item self.now.table.now self.now.whole.now item.now) min max items.now) }
+        ensures { Tells result
+            (items_told (told_item self.now.table.now self.now.whole.now item.now) min max items.now) }
     {
         if !is_length_within(min, max, items.len()) {
             return Err(Stop::refused(alloc, FaultKind::BadLength));
@@ -121,7 +127,8 @@ impl Scope<'_> {
         members: &[Member],
     ) -> Result<Tree, Stop>
         requires { AreFieldsOf self.now.table.now self.now.whole.now fields.now }
-        ensures { Tells result (told_struct self.now.table.now self.now.whole.now fields.now deny_unknown members.now) }
+        ensures { Tells result
+            (told_struct self.now.table.now self.now.whole.now fields.now deny_unknown members.now) }
     {
         let tree = self.decode_fields(alloc, fields, members)?;
         match denied_name(deny_unknown, fields, members) {
@@ -142,7 +149,8 @@ impl Scope<'_> {
         members: &[Member],
     ) -> Result<Tree, Stop>
         requires { AreFieldsOf self.now.table.now self.now.whole.now fields.now }
-        ensures { Tells result (as_tree Tree.Fields (told_fields self.now.table.now self.now.whole.now members.now fields.now)) }
+        ensures { Tells result (as_tree Tree.Fields
+            (told_fields self.now.table.now self.now.whole.now members.now fields.now)) }
     {
         let mut trees = List::new(alloc);
         for field in fields {
@@ -193,7 +201,8 @@ impl Scope<'_> {
     ) -> Result<Tree, Stop>
         requires parts { AreParts self.now.table.now self.now.whole.now alternatives.now }
         requires few { length alternatives.now ≤ 4294967296 }
-        ensures { Tells result (first_told 0 (told self.now.table.now self.now.whole.now json.now) alternatives.now) }
+        ensures { Tells result
+            (first_told 0 (told self.now.table.now self.now.whole.now json.now) alternatives.now) }
     {
         for (i, alternative) in alternatives.iter().enumerate() {
             match self.decode_at(alloc, alternative, json) {

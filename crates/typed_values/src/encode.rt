@@ -63,7 +63,8 @@ impl Scope<'_> {
     #[cycle(encode)]
     fn encode_at(&self, alloc: Global, desc: &Desc, tree: &Tree) -> Result<Json, AllocError>
         requires { IsPart self.now.table.now self.now.whole.now desc.now }
-        ensures { IfOk result (λ json. json ≡ written_under self.now.table.now self.now.whole.now tree.now desc.now) }
+        ensures { IfOk result
+            (λ json. json ≡ written_under self.now.table.now self.now.whole.now tree.now desc.now) }
     {
         match desc {
             Desc::Bool | Desc::Int { .. } | Desc::Text { .. } => encode_scalar(alloc, tree),
@@ -83,7 +84,8 @@ impl Scope<'_> {
     #[cycle(encode)]
     fn encode_option(&self, alloc: Global, inner: &Desc, tree: &Tree) -> Result<Json, AllocError>
         requires { IsPart self.now.table.now self.now.whole.now inner.now }
-        ensures { IfOk result (λ json. json ≡ meant.option_written (λ t. written_under self.now.table.now self.now.whole.now t inner.now) (out-Tree tree.now)) }
+        ensures { IfOk result (λ json. json ≡ meant.option_written
+            (λ t. written_under self.now.table.now self.now.whole.now t inner.now) (out-Tree tree.now)) }
     {
         match tree {
             Tree::Some(tree) => self.encode_at(alloc, inner, tree.get()),
@@ -94,7 +96,8 @@ impl Scope<'_> {
     #[cycle(encode)]
     fn encode_list(&self, alloc: Global, item: &Desc, tree: &Tree) -> Result<Json, AllocError>
         requires { IsPart self.now.table.now self.now.whole.now item.now }
-        ensures { IfOk result (λ json. json ≡ meant.items_written (λ t. written_under self.now.table.now self.now.whole.now t item.now) (out-Tree tree.now)) }
+        ensures { IfOk result (λ json. json ≡ meant.items_written
+            (λ t. written_under self.now.table.now self.now.whole.now t item.now) (out-Tree tree.now)) }
     {
         match tree {
             Tree::List(trees) => Ok(Json::List(self.encode_each(alloc, item, trees.as_slice())?)),
@@ -110,7 +113,8 @@ impl Scope<'_> {
         trees: &[Tree],
     ) -> Result<List<Json>, AllocError>
         requires { IsPart self.now.table.now self.now.whole.now item.now }
-        ensures { IfOk result (λ items. items ≡ map (λ t. written_under self.now.table.now self.now.whole.now t item.now) trees.now) }
+        ensures { IfOk result (λ items. items ≡ map
+            (λ t. written_under self.now.table.now self.now.whole.now t item.now) trees.now) }
     {
         let mut items = List::new(alloc);
         for tree in trees {
@@ -127,7 +131,8 @@ impl Scope<'_> {
         tree: &Tree,
     ) -> Result<Json, AllocError>
         requires { AreFieldsOf self.now.table.now self.now.whole.now fields.now }
-        ensures { IfOk result (λ json. json ≡ meant.parts_written (λ t. meant.is_none_level (out-Tree t)) (written_under self.now.table.now self.now.whole.now) fields.now (out-Tree tree.now)) }
+        ensures { IfOk result (λ json. json ≡ meant.parts_written (λ t. meant.is_none_level (out-Tree t))
+            (written_under self.now.table.now self.now.whole.now) fields.now (out-Tree tree.now)) }
     {
         match tree {
             Tree::Fields(trees) => Ok(Json::Object(self.encode_fields(
@@ -147,7 +152,9 @@ impl Scope<'_> {
         trees: &[Tree],
     ) -> Result<List<Member>, AllocError>
         requires { AreFieldsOf self.now.table.now self.now.whole.now fields.now }
-        ensures { IfOk result (λ members. members ≡ meant.members_written (λ t. meant.is_none_level (out-Tree t)) (written_under self.now.table.now self.now.whole.now) fields.now trees.now) }
+        ensures { IfOk result (λ members. members ≡ meant.members_written
+            (λ t. meant.is_none_level (out-Tree t))
+            (written_under self.now.table.now self.now.whole.now) fields.now trees.now) }
     {
         let mut members = List::new(alloc);
         for (field, tree) in fields.iter().zip(trees) {
@@ -163,7 +170,8 @@ impl Scope<'_> {
     #[cycle(encode)]
     fn encode_field(&self, alloc: Global, field: &Field, tree: &Tree) -> Result<Json, AllocError>
         requires { IsPart self.now.table.now self.now.whole.now field.now.desc }
-        ensures { IfOk result (λ json. json ≡ written_under self.now.table.now self.now.whole.now tree.now (field_desc field.now)) }
+        ensures { IfOk result (λ json. json ≡ written_under self.now.table.now self.now.whole.now tree.now
+            (field_desc field.now)) }
     {
         match field.presence {
             Presence::Required | Presence::Nullable => self.encode_at(alloc, &field.desc, tree),
@@ -179,7 +187,8 @@ impl Scope<'_> {
         tree: &Tree,
     ) -> Result<Json, AllocError>
         requires { AreParts self.now.table.now self.now.whole.now alternatives.now }
-        ensures { IfOk result (λ json. json ≡ meant.choice_written (written_under self.now.table.now self.now.whole.now) alternatives.now (out-Tree tree.now)) }
+        ensures { IfOk result (λ json. json ≡ meant.choice_written
+            (written_under self.now.table.now self.now.whole.now) alternatives.now (out-Tree tree.now)) }
     {
         match tree {
             Tree::Variant(place, tree) => match alternatives.get(*place as usize) {

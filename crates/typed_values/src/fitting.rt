@@ -72,7 +72,8 @@ impl Scope<'_> {
     #[cycle(fits)]
     fn option_fits(&self, inner: &Desc, tree: &Tree) -> bool
         requires { IsPart self.now.table.now self.now.whole.now inner.now }
-        ensures { result ≡ meant.option_fits (λ t. fits_under self.now.table.now self.now.whole.now t inner.now) (out-Tree tree.now) }
+        ensures { result ≡ meant.option_fits
+            (λ t. fits_under self.now.table.now self.now.whole.now t inner.now) (out-Tree tree.now) }
     {
         match tree {
             Tree::None => true,
@@ -84,7 +85,8 @@ impl Scope<'_> {
     #[cycle(fits)]
     fn items_fit(&self, item: &Desc, min: Option<u32>, max: Option<u32>, tree: &Tree) -> bool
         requires { IsPart self.now.table.now self.now.whole.now item.now }
-        ensures { result ≡ meant.items_fit (λ t. fits_under self.now.table.now self.now.whole.now t item.now) min max (out-Tree tree.now) }
+        ensures { result ≡ meant.items_fit
+            (λ t. fits_under self.now.table.now self.now.whole.now t item.now) min max (out-Tree tree.now) }
     {
         match tree {
             Tree::List(trees) => {
@@ -97,7 +99,8 @@ impl Scope<'_> {
     #[cycle(fits)]
     fn each_fits(&self, item: &Desc, trees: &[Tree]) -> bool
         requires { IsPart self.now.table.now self.now.whole.now item.now }
-        ensures { result ≡ meant.each_fits (λ t. fits_under self.now.table.now self.now.whole.now t item.now) trees.now }
+        ensures { result ≡ meant.each_fits
+            (λ t. fits_under self.now.table.now self.now.whole.now t item.now) trees.now }
     {
         for tree in trees {
             if !self.fits_at(item, tree) {
@@ -110,7 +113,8 @@ impl Scope<'_> {
     #[cycle(fits)]
     fn fields_fit(&self, fields: &[Field], tree: &Tree) -> bool
         requires { AreFieldsOf self.now.table.now self.now.whole.now fields.now }
-        ensures { result ≡ meant.parts_fit (fits_under self.now.table.now self.now.whole.now) fields.now (out-Tree tree.now) }
+        ensures { result ≡ meant.parts_fit (fits_under self.now.table.now self.now.whole.now) fields.now
+            (out-Tree tree.now) }
     {
         match tree {
             Tree::Fields(trees) => {
@@ -124,7 +128,8 @@ impl Scope<'_> {
     fn parts_fit(&self, fields: &[Field], trees: &[Tree]) -> bool
         requires parts { AreFieldsOf self.now.table.now self.now.whole.now fields.now }
         requires paired { length fields.now ≡ length trees.now }
-        ensures { result ≡ meant.fields_fit (fits_under self.now.table.now self.now.whole.now) fields.now trees.now }
+        ensures { result ≡ meant.fields_fit
+            (fits_under self.now.table.now self.now.whole.now) fields.now trees.now }
     {
         for (field, tree) in fields.iter().zip(trees) {
             if !self.field_fits(field, tree) {
@@ -148,7 +153,8 @@ impl Scope<'_> {
     #[cycle(fits)]
     fn choice_fits(&self, alternatives: &[Desc], tree: &Tree) -> bool
         requires { AreParts self.now.table.now self.now.whole.now alternatives.now }
-        ensures { result ≡ meant.choice_fits (fits_under self.now.table.now self.now.whole.now) alternatives.now (out-Tree tree.now) }
+        ensures { result ≡ meant.choice_fits
+            (fits_under self.now.table.now self.now.whole.now) alternatives.now (out-Tree tree.now) }
     {
         match tree {
             Tree::Variant(place, tree) => match alternatives.get(*place as usize) {

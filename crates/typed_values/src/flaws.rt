@@ -1,11 +1,12 @@
 // What an error tells of a single descriptor.
-ghost use Rattle.std.specs.Prelude.{◌≡◌, ◌≢◌, ◌↔◌, IsTrue, map, Contains};
+ghost use Rattle.std.specs.Prelude.{◌≢◌, ◌↔◌, IsTrue, map, Contains};
 ghost use Rattle.std.specs.List.{AllByRecursion};
 ghost use Rattle.schema_values.specs.Sound.{AreDistinct};
 ghost use Rattle.typed_values.specs.declared.desc.Field.{Field};
 ghost use Rattle.typed_values.specs.Definitions.{field_name};
 ghost use Rattle.typed_values.specs.Causes.{Tells};
-ghost use Rattle.typed_values.specs.Checks.{HasDoubledName, IsDangling, IsEmptyChoice, IsNullOfNull, HasBadRange, IsOption, IsBadField, HasBadPresence};
+ghost use Rattle.typed_values.specs.Checks.{HasDoubledName, IsDangling, IsEmptyChoice, IsNullOfNull};
+ghost use Rattle.typed_values.specs.Checks.{IsOption, IsBadField, HasBadPresence};
 
 use crate::check::TableError;
 use crate::desc::{Desc, Field, Presence};

@@ -46,7 +46,8 @@ pub(crate) fn insert_by_name<T: Named + Drop>(items: &mut Vec<T>, item: T) -> Re
 /// The place of the first item whose name is not lesser than that of another, else the end.
 fn place_of<T: Named>(items: &[T], item: &T) -> usize
     ensures within { result ≤ length items.now }
-    ensures place { inserted_by T.name_of item.now items.now ≡ take result items.now ++ item.now ∷ drop result items.now }
+    ensures place { inserted_by T.name_of item.now items.now ≡ take result items.now ++ item.now ∷ drop result
+        items.now }
 {
     for (place, other) in items.iter().enumerate() {
         if item.name() <= other.name() {

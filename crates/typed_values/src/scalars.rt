@@ -1,4 +1,3 @@
-ghost use Rattle.std.specs.Prelude.{◌≡◌};
 ghost use Rattle.schema_values.specs.declared.json_value.Json.{out-Json};
 ghost use Rattle.typed_values.specs.Answer.{Tells};
 ghost use Rattle.typed_values.specs.Denotes.{truth, number, words};

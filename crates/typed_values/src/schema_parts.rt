@@ -43,7 +43,8 @@ pub(crate) fn of_single(instance_type: InstanceType) -> SchemaObject
 
 /// The parts to which annotations may be added: a reference stands in an `all_of` of one.
 fn annotatable(alloc: Global, parts: SchemaObject) -> Result<SchemaObject, AllocError>
-    ensures { IfOk result (λ annotated. out-SchemaObject annotated ≡ meant.annotatable (out-SchemaObject parts)) }
+    ensures { IfOk result (λ annotated. out-SchemaObject annotated ≡ meant.annotatable
+        (out-SchemaObject parts)) }
 {
     if parts.reference.is_none() {
         return Ok(parts);
@@ -71,7 +72,8 @@ pub(crate) fn with_description(
     description: &Option<Text>,
     parts: SchemaObject,
 ) -> Result<SchemaObject, AllocError>
-    ensures { IfOk result (λ described. out-SchemaObject described ≡ meant.with_description description.now (out-SchemaObject parts)) }
+    ensures { IfOk result (λ described. out-SchemaObject described ≡ meant.with_description description.now
+        (out-SchemaObject parts)) }
 {
     match description {
         None => Ok(parts),

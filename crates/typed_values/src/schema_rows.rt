@@ -46,7 +46,8 @@ pub(crate) fn int_parts(
     min: &Option<i128>,
     max: &Option<i128>,
 ) -> Result<SchemaObject, AllocError>
-    ensures { IfOk result (λ parts. out-SchemaObject parts ≡ meant.schema_step (Desc-F.Int kind min.now max.now)) }
+    ensures { IfOk result (λ parts. out-SchemaObject parts ≡ meant.schema_step
+        (Desc-F.Int kind min.now max.now)) }
 {
     let mut format = Text::new(alloc);
     format.push_ascii(format_of(kind))?;
@@ -62,7 +63,8 @@ pub(crate) fn text_parts(
     max: Option<u32>,
     format: &Option<Text>,
 ) -> Result<SchemaObject, AllocError>
-    ensures { IfOk result (λ parts. out-SchemaObject parts ≡ meant.schema_step (Desc-F.Text min max format.now)) }
+    ensures { IfOk result (λ parts. out-SchemaObject parts ≡ meant.schema_step
+        (Desc-F.Text min max format.now)) }
 {
     let mut parts = of_single(InstanceType::String);
     parts.format = copy_text(alloc, format)?;

@@ -90,7 +90,8 @@ fn schemas_of(alloc: Global, descs: &[Desc]) -> Result<List<Schema>, AllocError>
 /// The properties of fields, in the order of their names.
 #[cycle(schema)]
 fn properties_of(alloc: Global, fields: &[Field]) -> Result<List<Property>, AllocError>
-    ensures { IfOk result (λ properties. properties ≡ sorted_by meant.property_name (map meant.property_of (map meant.parts_of_field fields.now))) }
+    ensures { IfOk result (λ properties. properties ≡ sorted_by meant.property_name
+        (map meant.property_of (map meant.parts_of_field fields.now))) }
 {
     let mut properties = Vec::new(alloc);
     for field in fields {
@@ -101,7 +102,8 @@ fn properties_of(alloc: Global, fields: &[Field]) -> Result<List<Property>, Allo
 }
 
 fn property_of(alloc: Global, field: &Field, parts: SchemaObject) -> Result<Property, AllocError>
-    ensures { out-SchemaObject parts ≡ schema_parts field.now.desc → IfOk result (λ property. property ≡ meant.property_of (meant.parts_of_field field.now)) }
+    ensures { out-SchemaObject parts ≡ schema_parts field.now.desc
+        → IfOk result (λ property. property ≡ meant.property_of (meant.parts_of_field field.now)) }
 {
     let parts = with_description(alloc, &field.description, parts)?;
     Ok(Property {
@@ -112,7 +114,8 @@ fn property_of(alloc: Global, field: &Field, parts: SchemaObject) -> Result<Prop
 
 /// The names of the fields that must be there, in order.
 fn required_names(alloc: Global, fields: &[Field]) -> Result<List<Text>, AllocError>
-    ensures { IfOk result (λ names. names ≡ sorted_by same_name (meant.required_names (map meant.parts_of_field fields.now))) }
+    ensures { IfOk result (λ names. names ≡ sorted_by same_name
+        (meant.required_names (map meant.parts_of_field fields.now))) }
 {
     let mut names = Vec::new(alloc);
     for field in fields {

@@ -1,10 +1,11 @@
 // Searches along references. A search meets each definition once, and its lists are frames of its own recursion.
-ghost use Rattle.std.specs.Prelude.{◌≡◌, ◌↔◌, IsTrue, IfNone, IfSome, Contains};
+ghost use Rattle.std.specs.Prelude.{◌↔◌, IsTrue, IfNone, IfSome, Contains};
 ghost use Rattle.std.specs.Option.{option_copied};
 ghost use Rattle.typed_values.specs.declared.desc.Desc.{Desc};
 ghost use Rattle.typed_values.specs.Checks.{TakesNull};
 ghost use Rattle.typed_values.specs.Guarded.{Names, LiesOnCycle};
-ghost use Rattle.typed_values.specs.Search.{HoldsOption, Meets, all_met, on_path, IsMet, IsDone, IsNext, IsSearch, SomeLeads};
+ghost use Rattle.typed_values.specs.Search.{HoldsOption, Meets, all_met, on_path, IsMet, IsDone, IsNext};
+ghost use Rattle.typed_values.specs.Search.{IsSearch, SomeLeads};
 
 use crate::desc::Desc;
 use crate::table::{Definition, DescTable};

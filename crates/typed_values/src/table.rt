@@ -1,4 +1,5 @@
-ghost use Rattle.std.specs.Prelude.{◌≡◌, ◌≤◌, ◌↔◌, [], length, map, Some, None, IsNone, IfSome, IfOk, IfErr, OnErr, IsTrue, slice_get};
+ghost use Rattle.std.specs.Prelude.{◌≡◌, ◌≤◌, ◌↔◌, [], length, map, Some, None, IsNone, IfSome, IfOk, IfErr};
+ghost use Rattle.std.specs.Prelude.{OnErr, IsTrue, slice_get};
 ghost use Rattle.std.specs.Option.{option_copied};
 ghost use Rattle.std.specs.Str.{chars};
 ghost use Rattle.schema_values.specs.Sound.{AreDistinct};
@@ -124,7 +125,8 @@ impl DescTable {
     /// The name, the description and the descriptor of the definition at a place in order of insertion.
     pub fn entry(&self, place: usize) -> Option<(&Text, Option<&Text>, &Desc)>
         ensures found { IfSome result (λ entry.
-            slice_get self.now place ≡ Some (definition_with entry.0.now (option_copied entry.1) entry.2.now)) }
+            slice_get self.now place ≡ Some (definition_with entry.0.now
+            (option_copied entry.1) entry.2.now)) }
         ensures past { IsNone result ↔ (length self.now ≤ place) }
     {
         match self.definitions().get(place) {
@@ -179,10 +181,13 @@ impl DescTable {
         description: Option<Text>,
         desc: Desc,
     ) -> Result<Added, AddError>
-        ensures added { IfOk result (Adds self.old self.new (definition_with (chars name.now) description desc)) }
-        ensures same { entry_of self.old (chars name.now) ≡ Some (definition_with (chars name.now) description desc)
+        ensures added { IfOk result (Adds self.old self.new
+            (definition_with (chars name.now) description desc)) }
+        ensures same { entry_of self.old (chars name.now) ≡ Some
+            (definition_with (chars name.now) description desc)
             → result ≡ Ok Added.Same }
-        ensures refused { IfErr result (IsRefused self.old (definition_with (chars name.now) description desc)) }
+        ensures refused { IfErr result (IsRefused self.old
+            (definition_with (chars name.now) description desc)) }
         ensures err { OnErr result (self.new ≡ self.old) }
     {
         match self.entry_named(name) {

@@ -1,4 +1,4 @@
-use Rattle.std.proofs.Common.{rules, sym, ap, ◌∙◌, refl}
+use Rattle.std.proofs.Common.{rules, sym, ap, ◌∙◌}
 use Rattle.openapi_values.specs.Refusal.{refusal_of, object_refusal}
 use Rattle.openapi_values.proofs.OneVariant.{bound-is}
 use Rattle.openapi_values.proofs.RefusalLevels.{truth-is, object-is, items-are, property-is, array-is, object_parts-are, one_kind-is, inner-is, parts-are}

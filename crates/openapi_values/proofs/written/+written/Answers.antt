@@ -1,8 +1,7 @@
 use Rattle.std.proofs.Common.{◌≡◌, None, [], IfOk, map, option_map, unwrap_or, codes, sym, subst, ap, ◌∙◌}
-use Rattle.std.specs.Option.{option_map_or}
 use Rattle.schema_values.specs.declared.schema.ObjectParts.{out-ObjectParts}
 use Rattle.schema_values.specs.declared.schema.SchemaObject.{out-SchemaObject}
-use Rattle.openapi_values.specs.Objects.{unless_empty, pair_member, reference_json}
+use Rattle.openapi_values.specs.Objects.{unless_empty, pair_member}
 use Rattle.openapi_values.specs.SchemaJson.{untitled, annotations, type_entries, additional_json, schemas_json, names_json, count_json, schema_written, object_written, items_written, array_written, object_parts_written, property_written, subschemas_written}
 use Rattle.openapi_values.proofs.ObjectLemmas.{Adds, first, added, joined, object}
 use Rattle.openapi_values.proofs.OneVariant.{bound-is}
