@@ -13,10 +13,10 @@ use Rattle.typed_values.proofs.Rows.{two_maps}
 abbrev folded_field : Field → FieldParts
 folded_field = fold-Field Parts FieldParts schema_step field_parts
 
-parts_row : (d : Desc) (y : Desc-F Desc Field) → out-Desc d ≡ y → schema_parts d ≡ schema_step (map-Desc Desc Field Parts FieldParts schema_parts folded_field y)
+pub parts_row : (d : Desc) (y : Desc-F Desc Field) → out-Desc d ≡ y → schema_parts d ≡ schema_step (map-Desc Desc Field Parts FieldParts schema_parts folded_field y)
 parts_row d y e = fold_out-Desc Parts FieldParts schema_step field_parts d ∙ ap (λ (z : Desc-F Desc Field). schema_step (map-Desc Desc Field Parts FieldParts schema_parts folded_field z)) e
 
-same_fields : (fs : List Field) → map folded_field fs ≡ map parts_of_field fs
+pub same_fields : (fs : List Field) → map folded_field fs ≡ map parts_of_field fs
 same_fields [] = refl
 same_fields (f ∷ fs) = ap (λ (x : FieldParts). x ∷ map folded_field fs) (fold_out-Field Parts FieldParts schema_step field_parts f) ∙ ap (λ (xs : List FieldParts). parts_of_field f ∷ xs) (same_fields fs)
 

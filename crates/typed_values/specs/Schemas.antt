@@ -18,6 +18,7 @@ use Rattle.typed_values.specs.declared.desc.Desc.TheFolds.{fold-Desc}
 use Rattle.typed_values.specs.declared.desc.Field.{Field}
 use Rattle.typed_values.specs.declared.desc.Presence.{Presence}
 use Rattle.typed_values.specs.declared.desc.Presence.TheVariants.{Required, Nullable, Skipped}
+use Rattle.typed_values.specs.declared.table.Definition.{Definition}
 use Rattle.typed_values.specs.Order.{sorted_by}
 use Rattle.typed_values.specs.SchemaTable.{format_of, least_shown, same_name}
 
@@ -127,6 +128,10 @@ parts_of_field f = record { name = f.name; desc = schema_parts f.desc; presence 
 -- the schema of a descriptor
 abbrev pub schema_value : Desc → Schema
 schema_value d = object_of (schema_parts d)
+
+-- the schema of a definition, with its description
+abbrev pub definition_value : Definition → Schema
+definition_value e = object_of (with_description e.description (schema_parts e.desc))
 
 -- what stands in a header for a descriptor: an option is written as the schema of what it is over
 abbrev pub in_header : Desc → Desc

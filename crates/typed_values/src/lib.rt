@@ -36,6 +36,6 @@ pub use desc::{Desc, Field, IntKind, Presence};
 pub use encode::encode_json;
 pub use fault::{DecodeError, Fault, FaultKind};
 pub use fitting::fits;
-pub use schemas::{SchemaPlace, schema_of};
+pub use schemas::{SchemaPlace, schema_of, schema_of_definition};
 pub use table::{AddError, Added, Definition, DescTable};
 pub use tree::Tree;

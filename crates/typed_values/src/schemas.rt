@@ -4,7 +4,7 @@ ghost use Rattle.typed_values.specs.declared.schemas.SchemaPlace.TheVariants.{Pl
 ghost use Rattle.typed_values.specs.Order.{sorted_by};
 ghost use Rattle.typed_values.specs.SchemaTable.{same_name};
 ghost use Rattle.typed_values.specs.Schemas as meant;
-ghost use Rattle.typed_values.specs.Schemas.{schema_value, schema_parts, in_header};
+ghost use Rattle.typed_values.specs.Schemas.{schema_value, schema_parts, definition_value, in_header};
 
 use crate::desc::{Desc, Field, Presence};
 use crate::order::insert_by_name;
@@ -12,7 +12,7 @@ use crate::schema_parts::{object_of, of_single, with_description, with_null};
 use crate::schema_rows::{
     choice_parts, int_parts, list_parts, ref_parts, struct_parts, text_parts,
 };
-use crate::table::DescTable;
+use crate::table::{Definition, DescTable};
 use schema_values::{InstanceType, List, Property, Schema, SchemaObject, Text};
 use std::alloc::{AllocError, Global};
 
@@ -24,22 +24,31 @@ pub enum SchemaPlace {
     Header,
 }
 
-/// The schema of a descriptor.
+/// The schema of a descriptor. A reference stands as its name, so that no definition is looked up.
 pub fn schema_of(
     alloc: Global,
-    table: &DescTable,
+    _table: &DescTable,
     desc: &Desc,
     place: SchemaPlace,
 ) -> Result<Schema, AllocError>
     ensures plain { place ≡ Plain → IfOk result (λ schema. schema ≡ schema_value desc.now) }
     ensures header { place ≡ Header → IfOk result (λ schema. schema ≡ schema_value (in_header desc.now)) }
 {
-    // A reference stands as its name, so that no definition is looked up.
-    let _ = table;
     match (place, desc) {
         (SchemaPlace::Header, Desc::Option(inner)) => schema_at(alloc, inner.get()),
         _ => schema_at(alloc, desc),
     }
+}
+
+/// The schema of a definition, with its description.
+pub fn schema_of_definition(alloc: Global, definition: &Definition) -> Result<Schema, AllocError>
+    ensures { IfOk result (λ schema. schema ≡ definition_value definition.now) }
+{
+    let parts = parts_of(alloc, &definition.desc)?;
+    object_of(
+        alloc,
+        with_description(alloc, &definition.description, parts)?,
+    )
 }
 
 fn schema_at(alloc: Global, desc: &Desc) -> Result<Schema, AllocError>
