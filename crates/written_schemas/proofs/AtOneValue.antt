@@ -1,0 +1,175 @@
+-- At one value whose smaller values agree: each form of descriptor agrees with its schema.
+use Rattle.std.proofs.Common.{◌≡◌, ℕ, zero, suc, ◌≤◌, Bool, true, false, ◌&&◌, ◌||◌, List, [], ◌∷◌, ◌++◌, map, length, Option, Some, None, is_ok, codes, refl, sym, ◌∙◌, ap, arith}
+use Rattle.std.proofs.Math.Bool.{and-true, or-false, or-true}
+use Rattle.std.specs.List.{list_all, list_any, AllByRecursion}
+use Rattle.std.specs.Prelude.{Contains, ⊤}
+use Rattle.schema_values.specs.declared.json_value.Json.{Json, out-Json, Bool as Truth, List as Items, Object}
+use Rattle.schema_values.specs.declared.json_value.Json.TheOpen.{Json-F}
+use Rattle.schema_values.specs.declared.json_value.Json.TheVariants as json
+use Rattle.schema_values.specs.declared.json_value.Member.{Member}
+use Rattle.schema_values.specs.Member.{name_of}
+use Rattle.schema_values.specs.Sound.{AreDistinct}
+use Rattle.openapi_values.specs.Levels.{Level, is_null, as_object}
+use Rattle.openapi_values.specs.Lookup.{definition as schema_of_name}
+use Rattle.openapi_values.specs.Options.{is_some_and}
+use Rattle.openapi_values.specs.JsonAdmits.{members_admit, schema_admits, admits_within}
+use Rattle.openapi_values.specs.Smaller.{smaller_admits}
+use Rattle.openapi_values.proofs.Steps.{admits-zero, admits-suc}
+use Rattle.typed_values.specs.declared.desc.Desc.{Desc}
+use Rattle.typed_values.specs.declared.desc.Field.{Field}
+use Rattle.typed_values.specs.declared.table.Definition.{Definition}
+use Rattle.typed_values.specs.Bounds.{is_length_within}
+use Rattle.typed_values.specs.Definitions.{field_name}
+use Rattle.typed_values.specs.Encoding.{member}
+use Rattle.typed_values.specs.Denotes.{Told, told, optional, first_told}
+use Rattle.typed_values.specs.Order.{sorted_by}
+use Rattle.typed_values.specs.Rows.{told_item, list_row, struct_row}
+use Rattle.typed_values.specs.SchemaTable.{Drawn, plain, reference, drawn, drawn_json, property_of, required_names, same_name, schema_json, schema_json_described}
+use Rattle.typed_values.proofs.Found.{contains_first, contains_later}
+use Rattle.typed_values.proofs.Rows.{two_maps}
+use Rattle.written_schemas.proofs.Notes.{noted, notes}
+use Rattle.written_schemas.proofs.Composites.{is_list_of, wrapped_admits, reference_admits, choice_admits}
+use Rattle.written_schemas.proofs.Structs.{is_struct_of}
+use Rattle.written_schemas.proofs.Denoted.{ok_below, ok_just, ok_items, ok_first}
+use Rattle.written_schemas.proofs.Fields.{drawn_of, property, AgreesOn, struct_agrees}
+use Rattle.written_schemas.proofs.Needed.{IsNeeded}
+use Rattle.written_schemas.proofs.Forms.{noted_plain}
+
+module _ (table : List Definition) (whole : Desc) (doc : Json) (q : ℕ) where
+  -- a schema admits null beside where an annotation says so, and else what denotes a tree
+  abbrev pub AgreesAt : Json → ℕ → Desc → Type 0
+  AgreesAt j m d = (extra : Bool) (t s : Option (List ℕ))
+      → admits_within doc q j m (drawn_json (noted (extra || (drawn d).nullable) t s (drawn d))) ≡ (extra && is_null (out-Json j) || is_ok (told table whole j d))
+
+  abbrev pub Agrees : Json → Type 0
+  Agrees j = (d : Desc) → IsNeeded table whole d → AgreesAt j q d
+
+  -- the smaller values agree
+  abbrev pub Below : Json-F Json Member → Type 0
+  Below (Json-F.List js) = AllByRecursion Agrees js
+  Below (Json-F.Object ms) = AllByRecursion (λ m. Agrees m.value) ms × AreDistinct (map name_of ms)
+  Below _ = ⊤
+
+  pub plainly : (j : Json) (m : ℕ) (d : Desc) → AgreesAt j m d → admits_within doc q j m (schema_json d) ≡ is_ok (told table whole j d)
+  plainly j m d agree = agree false (drawn d).title (drawn d).description
+
+  pub under_description : (j : Json) (m : ℕ) (d : Desc) (text : Option (List ℕ)) → AgreesAt j m d → admits_within doc q j m (schema_json_described text d) ≡ is_ok (told table whole j d)
+  under_description j m d None agree = plainly j m d agree
+  under_description j m d (Some text) agree = agree false (drawn d).title (Some text)
+
+  nothing_admitted : (j : Json) (m : ℕ) → admits_within doc q j m (Truth false) ≡ false
+  nothing_admitted j zero = admits-zero doc q j (Truth false)
+  nothing_admitted j (suc m) =
+      admits-suc doc q j m (Truth false)
+      ∙ ap (λ (x : Level Json). is_some_and (as_object x) (members_admit doc (smaller_admits doc q) (admits_within doc q j m) (out-Json j))) (json.outs-Bool false)
+
+  module _ (j : Json) where
+    -- a schema whose members say nothing of other schemas at this value
+    pub leaf : (d : Desc) (ms : List Member) (row : Bool) → drawn d ≡ plain ms
+        → ((next : Json → Bool) (extra : Bool) (t s : Option (List ℕ)) → schema_admits doc (smaller_admits doc q) next (out-Json j) (Object (notes extra t s ++ ms)) ≡ (extra && is_null (out-Json j) || row))
+        → row ≡ is_ok (told table whole j d) → (m : ℕ) → 1 ≤ m → AgreesAt j m d
+    leaf d ms row e rows same zero le = absurd (omega arith)
+    leaf d ms row e rows same (suc k) le = λ extra t s.
+        ap (admits_within doc q j (suc k)) (noted_plain d extra t s ms e)
+        ∙ admits-suc doc q j k (Object (notes extra t s ++ ms))
+        ∙ rows (admits_within doc q j k) extra t s
+        ∙ ap (λ (b : Bool). extra && is_null (out-Json j) || b) same
+
+    items_agree : (x : Desc) → IsNeeded table whole x → (js : List Json) → AllByRecursion Agrees js
+        → list_all (λ v. smaller_admits doc q v (schema_json x)) js ≡ list_all (λ v. is_ok (told table whole v x)) js
+    items_agree x need [] h = refl
+    items_agree x need (v ∷ js) h =
+        ap (λ (b : Bool). b && list_all (λ v. smaller_admits doc q v (schema_json x)) js) (plainly v q x (h.0 x need))
+        ∙ ap (λ (b : Bool). is_ok (told table whole v x) && b) (items_agree x need js h.1)
+
+    pub list_agrees : (x : Desc) (min max : Option ℕ) → IsNeeded table whole x → (y : Json-F Json Member) → Below y
+        → is_list_of (λ v. smaller_admits doc q v (schema_json x)) min max y ≡ is_ok (list_row table whole x min max y)
+    list_agrees x min max need Json-F.Null h = refl
+    list_agrees x min max need (Json-F.Bool b) h = refl
+    list_agrees x min max need (Json-F.Int i) h = refl
+    list_agrees x min max need (Json-F.Text w) h = refl
+    list_agrees x min max need (Json-F.List js) h =
+        ap (λ (b : Bool). b && is_length_within min max (length js)) (items_agree x need js h)
+        ∙ sym (ok_items (told_item table whole x) (λ v. is_ok (told table whole v x)) (λ i v. ok_below _ (told table whole v x)) min max js)
+    list_agrees x min max need (Json-F.Object ms) h = refl
+
+    values_agree : (fs : List Field) → ((f : Field) → Contains fs f → IsNeeded table whole f.desc) → (ms : List Member) → AllByRecursion (λ m. Agrees m.value) ms → AllByRecursion (λ m. AgreesOn table whole (smaller_admits doc q) fs m.value) ms
+    values_agree fs need [] h = tt
+    values_agree fs need (m ∷ ms) h = (λ f c. under_description m.value q f.desc f.description (h.0 f.desc (need f c)), values_agree fs need ms h.1)
+
+    pub object_agrees : (fs : List Field) (deny : Bool) → AreDistinct (map field_name fs) → ((f : Field) → Contains fs f → IsNeeded table whole f.desc) → (y : Json-F Json Member) → Below y
+        → is_struct_of (smaller_admits doc q) (sorted_by name_of (map property_of (map drawn_of fs))) (sorted_by same_name (required_names (map drawn_of fs))) deny y ≡ is_ok (struct_row table whole fs deny y)
+    object_agrees fs deny once need Json-F.Null h = refl
+    object_agrees fs deny once need (Json-F.Bool b) h = refl
+    object_agrees fs deny once need (Json-F.Int i) h = refl
+    object_agrees fs deny once need (Json-F.Text w) h = refl
+    object_agrees fs deny once need (Json-F.List js) h = refl
+    object_agrees fs deny once need (Json-F.Object ms) h =
+        ap (λ (ps : List Member). is_struct_of (smaller_admits doc q) (sorted_by name_of ps) (sorted_by same_name (required_names (map drawn_of fs))) deny (Json-F.Object ms)) (two_maps property_of drawn_of property (λ f. refl) fs)
+        ∙ struct_agrees table whole (smaller_admits doc q) fs deny ms once h.1 (values_agree fs need ms h.0) (λ v. nothing_admitted v q)
+
+    some_agree : (next : Json → Bool) (ds : List Desc) → ((x : Desc) → Contains ds x → next (schema_json x) ≡ is_ok (told table whole j x))
+        → list_any next (map drawn_json (map drawn ds)) ≡ list_any (λ x. is_ok (told table whole j x)) ds
+    some_agree next [] h = refl
+    some_agree next (x ∷ ds) h =
+        ap (λ (b : Bool). b || list_any next (map drawn_json (map drawn ds))) (h x (contains_first x ds))
+        ∙ ap (λ (b : Bool). is_ok (told table whole j x) || b) (some_agree next ds (λ y c. h y (contains_later x ds y c)))
+
+    pub choice_agrees : (d : Desc) (ds : List Desc) (k : ℕ) → drawn d ≡ plain (member (codes "anyOf") (Items (map drawn_json (map drawn ds))) ∷ []) → told table whole j d ≡ first_told 0 (told table whole j) ds
+        → ((x : Desc) → Contains ds x → AgreesAt j k x) → AgreesAt j (suc k) d
+    choice_agrees d ds k e f each extra t s =
+        ap (admits_within doc q j (suc k)) (noted_plain d extra t s _ e)
+        ∙ admits-suc doc q j k _
+        ∙ choice_admits doc (smaller_admits doc q) (admits_within doc q j k) extra t s (out-Json j) (map drawn_json (map drawn ds))
+        ∙ ap (λ (b : Bool). extra && is_null (out-Json j) || b)
+        (and-true (list_any (admits_within doc q j k) (map drawn_json (map drawn ds))) ∙ some_agree (admits_within doc q j k) ds (λ x c. plainly j k x (each x c)) ∙ sym (ok_first (told table whole j) 0 ds) ∙ ap (λ (o : Told). is_ok o) (sym f))
+
+    null_or : (y : Json-F Json Member) (o : Told) → is_ok (optional y o) ≡ (is_null y || is_ok o)
+    null_or Json-F.Null o = refl
+    null_or (Json-F.Bool b) o = ok_just o
+    null_or (Json-F.Int i) o = ok_just o
+    null_or (Json-F.Text w) o = ok_just o
+    null_or (Json-F.List js) o = ok_just o
+    null_or (Json-F.Object ms) o = ok_just o
+
+    null_twice : (a n k : Bool) → (n || k) ≡ (a && n || (n || k))
+    null_twice true true k = refl
+    null_twice true false k = refl
+    null_twice false n k = refl
+
+    pub option_agrees : (d x : Desc) (m : ℕ) → drawn d ≡ record (drawn x) { nullable = true } → told table whole j d ≡ optional (out-Json j) (told table whole j x) → AgreesAt j m x → AgreesAt j m d
+    option_agrees d x m e f agree extra t s =
+        ap (λ (y : Drawn). admits_within doc q j m (drawn_json (noted (extra || y.nullable) t s y))) e
+        ∙ ap (λ (n : Bool). admits_within doc q j m (drawn_json (noted n t s (drawn x)))) (or-true extra)
+        ∙ agree true t s
+        ∙ null_twice extra (is_null (out-Json j)) (is_ok (told table whole j x))
+        ∙ ap (λ (b : Bool). extra && is_null (out-Json j) || b) (sym (null_or (out-Json j) (told table whole j x)) ∙ ap (λ (o : Told). is_ok o) (sym f))
+
+    module _ (d : Desc) (name : List ℕ) (e : Definition) (refers : drawn d ≡ reference name) (defined : schema_of_name doc name ≡ Some (schema_json_described e.description e.desc)) (same : told table whole j d ≡ told table whole j e.desc) where
+      alone : (k : ℕ) → AgreesAt j k e.desc → admits_within doc q j (suc k) (Object (reference name).members) ≡ is_ok (told table whole j d)
+      alone k agree =
+          admits-suc doc q j k (Object (reference name).members)
+          ∙ reference_admits doc (smaller_admits doc q) (admits_within doc q j k) (out-Json j) name
+          ∙ ap (λ (o : Option Json). is_some_and o (admits_within doc q j k)) defined
+          ∙ under_description j k e.desc e.description agree
+          ∙ ap (λ (o : Told). is_ok o) (sym same)
+
+      wrapped : (k : ℕ) → AgreesAt j k e.desc → (n : Bool) (t s : Option (List ℕ))
+          → admits_within doc q j (suc (suc k)) (Object (notes n t s ++ member (codes "allOf") (Items (Object (reference name).members ∷ [])) ∷ [])) ≡ (n && is_null (out-Json j) || is_ok (told table whole j d))
+      wrapped k agree n t s =
+          admits-suc doc q j (suc k) _
+          ∙ wrapped_admits doc (smaller_admits doc q) (admits_within doc q j (suc k)) n t s (out-Json j) (Object (reference name).members)
+          ∙ ap (λ (b : Bool). n && is_null (out-Json j) || b) (and-true _ ∙ and-true _ ∙ alone k agree)
+
+      by_notes : (k : ℕ) → AgreesAt j k e.desc → AgreesAt j (suc k) e.desc → (n : Bool) (t s : Option (List ℕ))
+          → admits_within doc q j (suc (suc k)) (drawn_json (noted n t s (reference name))) ≡ (n && is_null (out-Json j) || is_ok (told table whole j d))
+      by_notes k agree more true t s = wrapped k agree true t s
+      by_notes k agree more false (Some title) s = wrapped k agree false (Some title) s
+      by_notes k agree more false None (Some text) = wrapped k agree false None (Some text)
+      by_notes k agree more false None None = alone (suc k) more
+
+      pub reference_agrees : (k : ℕ) → AgreesAt j k e.desc → AgreesAt j (suc k) e.desc → AgreesAt j (suc (suc k)) d
+      reference_agrees k agree more extra t s =
+          ap (λ (y : Drawn). admits_within doc q j (suc (suc k)) (drawn_json (noted (extra || y.nullable) t s y))) refers
+          ∙ ap (λ (n : Bool). admits_within doc q j (suc (suc k)) (drawn_json (noted n t s (reference name)))) (or-false extra)
+          ∙ by_notes k agree more extra t s

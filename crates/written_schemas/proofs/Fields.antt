@@ -1,0 +1,162 @@
+-- A struct's schema admits an object exactly where the fields denote trees and no name is denied.
+use Rattle.std.proofs.Common.{◌≡◌, ℕ, Bool, true, false, ◌&&◌, ◌||◌, not, List, [], ◌∷◌, map, Option, Some, None, is_some, is_ok, bytes_eq, cond, refl, sym, ◌∙◌, ap, MatchOption}
+use Rattle.std.proofs.Math.Bool.{and-true, and_assoc, or-false}
+use Rattle.std.specs.List.{list_all, AllByRecursion}
+use Rattle.std.specs.Prelude.{◌≢◌, Contains, ⊤}
+use Rattle.std.proofs.lemmas.Slice.Eq.{bytes_eq-Decides}
+use Rattle.schema_values.specs.declared.json_value.Json.{Json, Bool as Truth}
+use Rattle.schema_values.specs.declared.json_value.Json.TheOpen.{Json-F}
+use Rattle.schema_values.specs.declared.json_value.Member.{Member}
+use Rattle.schema_values.specs.Get.{first_named}
+use Rattle.schema_values.specs.Member.{name_of}
+use Rattle.schema_values.specs.Sound.{AreDistinct}
+use Rattle.openapi_values.specs.Levels.{has_member}
+use Rattle.openapi_values.specs.Options.{is_none_or}
+use Rattle.openapi_values.specs.Rows.{property_admitted}
+use Rattle.typed_values.specs.declared.desc.Desc.{Desc}
+use Rattle.typed_values.specs.declared.desc.Field.{Field}
+use Rattle.typed_values.specs.declared.desc.Presence.{Presence}
+use Rattle.typed_values.specs.declared.desc.Presence.TheVariants.{Required, Nullable, Skipped}
+use Rattle.typed_values.specs.declared.table.Definition.{Definition}
+use Rattle.typed_values.specs.Definitions.{field_name}
+use Rattle.typed_values.specs.Denotes.{value_named, is_declared, told, by_presence}
+use Rattle.typed_values.specs.Order.{sorted_by}
+use Rattle.typed_values.specs.Rows.{value_denotes, told_field, told_fields, told_struct}
+use Rattle.typed_values.specs.SchemaTable.{DrawnField, drawn, property_of, required_names, same_name}
+use Rattle.typed_values.proofs.Found.{contains_first, contains_later, other_name}
+use Rattle.written_schemas.proofs.Structs.{all_same, is_struct_of, other_passes}
+use Rattle.written_schemas.proofs.Sorted.{all_sorted, any_sorted, first_sorted, absent, and_swapped}
+use Rattle.written_schemas.proofs.Denoted.{ok_below, ok_just, ok_all, ok_struct}
+
+-- a field with the schema of its type
+abbrev pub drawn_of : Field → DrawnField
+drawn_of f = record { name = f.name; desc = drawn f.desc; presence = f.presence; description = f.description }
+
+abbrev pub property : Field → Member
+property f = property_of (drawn_of f)
+
+no_value : (name : List ℕ) (ms : List Member) → AllByRecursion (λ other. name ≢ other) (map name_of ms) → value_named ms name ≡ None
+no_value name [] h = refl
+no_value name (m ∷ ms) h = rw (other_name m.name name (λ e. h.0 (sym e))) (no_value name ms h.1)
+
+module _ (smaller : Json → Json → Bool) where
+  -- what a property asks of the member of its name
+  abbrev asks : Member → List Member → Bool
+  asks p ms = is_none_or (value_named ms p.name) (λ v. smaller v p.value)
+
+  one_member : (b : Bool) (p m : Member) (ps ms : List Member) → bytes_eq m.name p.name ≡ b → first_named p.name ps ≡ None → AllByRecursion (λ other. m.name ≢ other) (map name_of ms)
+      → list_all (property_admitted smaller (p ∷ ps)) ms ≡ (asks p ms && list_all (property_admitted smaller ps) ms)
+      → (is_none_or (cond b (Some p.value) (first_named m.name ps)) (smaller m.value) && list_all (property_admitted smaller (p ∷ ps)) ms)
+      ≡ (is_none_or (cond b (Some m.value) (value_named ms p.name)) (λ v. smaller v p.value) && (property_admitted smaller ps m && list_all (property_admitted smaller ps) ms))
+  one_member true p m ps ms e none new later =
+      let same : m.name ≡ p.name = (bytes_eq-Decides m.name p.name).0 e in
+      let gone : value_named ms p.name ≡ None = ap (value_named ms) (sym same) ∙ no_value m.name ms new in
+      let unknown : first_named m.name ps ≡ None = ap (λ n. first_named n ps) same ∙ none in
+      ap (λ (b : Bool). smaller m.value p.value && b) (later ∙ ap (λ (o : Option Json). is_none_or o (λ v. smaller v p.value) && list_all (property_admitted smaller ps) ms) gone
+      ∙ sym (ap (λ (o : Option Json). is_none_or o (smaller m.value) && list_all (property_admitted smaller ps) ms) unknown))
+  one_member false p m ps ms e none new later =
+      ap (λ (b : Bool). property_admitted smaller ps m && b) later ∙ and_swapped (property_admitted smaller ps m) (asks p ms) (list_all (property_admitted smaller ps) ms)
+
+  one_property : (p : Member) (ps ms : List Member) → first_named p.name ps ≡ None → AreDistinct (map name_of ms)
+      → list_all (property_admitted smaller (p ∷ ps)) ms ≡ (asks p ms && list_all (property_admitted smaller ps) ms)
+  one_property p ps [] none distinct = refl
+  one_property p ps (m ∷ ms) none distinct = one_member (bytes_eq m.name p.name) p m ps ms refl none distinct.0 (one_property p ps ms none distinct.1)
+
+has_by : (b : Bool) (v : Json) (o : Option Json) (rest : Bool) → rest ≡ is_some o → (b || rest) ≡ is_some (cond b (Some v) o)
+has_by true v o rest e = refl
+has_by false v o rest e = e
+
+has_value : (name : List ℕ) (ms : List Member) → has_member name ms ≡ is_some (value_named ms name)
+has_value name [] = refl
+has_value name (m ∷ ms) = has_by (bytes_eq m.name name) m.value (value_named ms name) (has_member name ms) (has_value name ms)
+
+abbrev if_required : Presence → Bool → Bool
+if_required Required b = b
+if_required Nullable b = true
+if_required Skipped b = true
+
+required_row : (p : Presence) (q : List ℕ → Bool) (f : Field) (fs : List Field) → f.presence ≡ p
+    → list_all q (required_names (map drawn_of (f ∷ fs))) ≡ (if_required p (q f.name) && list_all q (required_names (map drawn_of fs)))
+required_row Required q f fs e = rw e refl
+required_row Nullable q f fs e = rw e refl
+required_row Skipped q f fs e = rw e refl
+
+module _ (table : List Definition) (whole : Desc) (smaller : Json → Json → Bool) where
+  -- each field's schema admits the value exactly where it denotes a tree
+  abbrev pub AgreesOn : List Field → Json → Type 0
+  AgreesOn fs v = (f : Field) → Contains fs f → smaller v (property f).value ≡ is_ok (told table whole v f.desc)
+
+  found_agrees : (fs : List Field) (name : List ℕ) (ms : List Member) → AllByRecursion (λ m. AgreesOn fs m.value) ms → MatchOption (value_named ms name) ⊤ (AgreesOn fs)
+  found_agrees fs name [] h = tt
+  found_agrees fs name (m ∷ ms) h = by_name (bytes_eq m.name name) (value_named ms name) (found_agrees fs name ms h.1)
+    where
+      by_name : (b : Bool) (o : Option Json) → MatchOption o ⊤ (AgreesOn fs) → MatchOption (cond b (Some m.value) o) ⊤ (AgreesOn fs)
+      by_name true o k = h.0
+      by_name false o k = k
+
+  field_row : (p : Presence) (f : Field) (fs : List Field) (o : Option Json) → f.presence ≡ p → MatchOption o ⊤ (AgreesOn (f ∷ fs))
+      → (is_none_or o (λ v. smaller v (property f).value) && if_required p (is_some o)) ≡ is_ok (by_presence f (value_denotes table whole f.desc o))
+  field_row Required f fs None e h = rw e refl
+  field_row Nullable f fs None e h = rw e refl
+  field_row Skipped f fs None e h = rw e refl
+  field_row Required f fs (Some v) e h = rw e (and-true _ ∙ h f (contains_first f fs) ∙ sym (ok_below _ (told table whole v f.desc)))
+  field_row Nullable f fs (Some v) e h = rw e (and-true _ ∙ h f (contains_first f fs) ∙ sym (ok_below _ (told table whole v f.desc)))
+  field_row Skipped f fs (Some v) e h = rw e (and-true _ ∙ h f (contains_first f fs) ∙ sym (ok_below _ (told table whole v f.desc)) ∙ sym (ok_just _))
+
+  both_rows : (v p r names : Bool) → ((v && p) && (r && names)) ≡ ((v && r) && (p && names))
+  both_rows true true r names = refl
+  both_rows true false true names = refl
+  both_rows true false false names = refl
+  both_rows false p r names = refl
+
+  later_agree : (f : Field) (fs : List Field) (ms : List Member) → AllByRecursion (λ m. AgreesOn (f ∷ fs) m.value) ms → AllByRecursion (λ m. AgreesOn fs m.value) ms
+  later_agree f fs [] h = tt
+  later_agree f fs (m ∷ ms) h = (λ g c. h.0 g (contains_later f fs g c), later_agree f fs ms h.1)
+
+  new_property : (name : List ℕ) (fs : List Field) → AllByRecursion (λ other. name ≢ other) (map field_name fs) → AllByRecursion (λ other. name ≢ other) (map name_of (map property fs))
+  new_property name [] h = tt
+  new_property name (f ∷ fs) h = (h.0, new_property name fs h.1)
+
+  distinct_properties : (fs : List Field) → AreDistinct (map field_name fs) → AreDistinct (map name_of (map property fs))
+  distinct_properties [] h = tt
+  distinct_properties (f ∷ fs) h = (new_property f.name fs h.0, distinct_properties fs h.1)
+
+  fields_agree : (fs : List Field) (ms : List Member) → AreDistinct (map field_name fs) → AreDistinct (map name_of ms) → AllByRecursion (λ m. AgreesOn fs m.value) ms
+      → (list_all (property_admitted smaller (map property fs)) ms && list_all (λ name. has_member name ms) (required_names (map drawn_of fs))) ≡ list_all (λ f. is_ok (told_field table whole ms f)) fs
+  fields_agree [] ms h k agree = none_asked ms
+    where
+      none_asked : (ms : List Member) → (list_all (property_admitted smaller []) ms && true) ≡ true
+      none_asked [] = refl
+      none_asked (m ∷ ms) = none_asked ms
+  fields_agree (f ∷ fs) ms h k agree =
+      let rest = list_all (property_admitted smaller (map property fs)) ms in
+      let names = list_all (λ name. has_member name ms) (required_names (map drawn_of fs)) in
+      ap (λ (b : Bool). b && list_all (λ name. has_member name ms) (required_names (map drawn_of (f ∷ fs)))) (one_property smaller (property f) (map property fs) ms (absent f.name (map property fs) (new_property f.name fs h.0)) k)
+      ∙ ap (λ (b : Bool). (asks smaller (property f) ms && rest) && b) (required_row f.presence (λ name. has_member name ms) f fs refl ∙ ap (λ (b : Bool). if_required f.presence b && names) (has_value f.name ms))
+      ∙ both_rows (asks smaller (property f) ms) rest (if_required f.presence (is_some (value_named ms f.name))) names
+      ∙ ap (λ (b : Bool). b && (rest && names)) (field_row f.presence f fs (value_named ms f.name) refl (found_agrees (f ∷ fs) f.name ms agree))
+      ∙ ap (λ (b : Bool). is_ok (told_field table whole ms f) && b) (fields_agree fs ms h.1 k (later_agree f fs ms agree))
+
+  declared_is : (fs : List Field) (name : List ℕ) → has_member name (map property fs) ≡ is_declared fs name
+  declared_is [] name = refl
+  declared_is (f ∷ fs) name = by_name (bytes_eq f.name name) (declared_is fs name)
+    where
+      by_name : (b : Bool) → has_member name (map property fs) ≡ is_declared fs name → (b || has_member name (map property fs)) ≡ cond b true (is_declared fs name)
+      by_name true e = refl
+      by_name false e = e
+
+  pub struct_agrees : (fs : List Field) (deny : Bool) (ms : List Member) → AreDistinct (map field_name fs) → AreDistinct (map name_of ms) → AllByRecursion (λ m. AgreesOn fs m.value) ms
+      → ((v : Json) → smaller v (Truth false) ≡ false)
+      → is_struct_of smaller (sorted_by name_of (map property fs)) (sorted_by same_name (required_names (map drawn_of fs))) deny (Json-F.Object ms) ≡ is_ok (told_struct table whole fs deny ms)
+  struct_agrees fs deny ms h k agree nothing =
+      let properties = sorted_by name_of (map property fs) in
+      let names = sorted_by same_name (required_names (map drawn_of fs)) in
+      ap (λ (b : Bool). b && (list_all (λ name. has_member name ms) names && (not deny || list_all (other_passes smaller properties) ms)))
+      (all_same (property_admitted smaller properties) (property_admitted smaller (map property fs)) (λ m. ap (λ (o : Option Json). is_none_or o (smaller m.value)) (first_sorted m.name (map property fs) (distinct_properties fs h))) ms)
+      ∙ ap (λ (b : Bool). list_all (property_admitted smaller (map property fs)) ms && (b && (not deny || list_all (other_passes smaller properties) ms))) (all_sorted same_name (λ name. has_member name ms) (required_names (map drawn_of fs)))
+      ∙ sym (and_assoc (list_all (property_admitted smaller (map property fs)) ms) (list_all (λ name. has_member name ms) (required_names (map drawn_of fs))) (not deny || list_all (other_passes smaller properties) ms))
+      ∙ ap (λ (b : Bool). b && (not deny || list_all (other_passes smaller properties) ms)) (fields_agree fs ms h k agree ∙ sym (ok_all (λ i f. told_field table whole ms f) (λ f. is_ok (told_field table whole ms f)) (λ i f. refl) 0 fs))
+      ∙ ap (λ (b : Bool). is_ok (told_fields table whole ms fs) && (not deny || b))
+      (all_same (other_passes smaller properties) (λ m. is_declared fs m.name) (λ m.
+      ap (λ (b : Bool). has_member m.name properties || b) (nothing m.value) ∙ or-false (has_member m.name properties) ∙ any_sorted name_of (λ p. bytes_eq p.name m.name) (map property fs) ∙ declared_is fs m.name) ms)
+      ∙ sym (ok_struct deny fs ms (told_fields table whole ms fs))

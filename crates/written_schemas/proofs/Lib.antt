@@ -1,0 +1,32 @@
+mod SortedLemmas
+mod SchemaForms
+mod SchemaMembers
+mod NotRefused
+mod DrawnParts
+mod Written
+pub mod Notes
+pub mod Scalars
+pub mod Composites
+pub mod Structs
+pub mod Sorted
+pub mod Denoted
+pub mod Fields
+pub mod Needed
+pub mod Forms
+pub mod AtOneValue
+pub mod Agreement
+pub mod Parts
+pub mod EachValue
+pub mod Sizes
+pub mod Inside
+pub mod Budget
+pub mod Rooms
+pub mod Whole
+pub mod MoreSteps
+pub mod BodyLemmas
+pub mod TreeParts
+pub mod NullTaken
+pub mod WrittenMembers
+pub mod ToldTrees
+pub mod ScalarsBack
+pub mod WrittenBack

@@ -1,0 +1,78 @@
+-- The descriptors that a descriptor's schema needs, and how many steps of a document each of them takes.
+use Rattle.std.proofs.Common.{◌≡◌, ℕ, zero, suc, Bool, true, false, List, [], ◌∷◌, Option, Some, None, option_map, bytes_eq, cond, refl, sym, ◌∙◌, ap, subst}
+use Rattle.std.specs.Prelude.{Contains}
+use denote.Param.Weighed.{most}
+use Rattle.typed_values.specs.declared.desc.Desc.{Desc, out-Desc}
+use Rattle.typed_values.specs.declared.desc.Desc.TheOpen.{Desc-F}
+use Rattle.typed_values.specs.declared.desc.Field.{Field}
+use Rattle.typed_values.specs.declared.table.Definition.{Definition}
+use Rattle.typed_values.specs.Definitions.{definition, entry_of}
+use Rattle.typed_values.specs.Parts.{StandsIn, the_whole, in_option, in_list, in_field, in_alternative, IsPart, of_whole as part_of_whole, of_table}
+use Rattle.typed_values.proofs.Found.{contains_first, contains_later, definition_is}
+use Rattle.written_schemas.specs.Reached.{IsReached, directly, through}
+
+-- it stands in the whole descriptor, or in a definition that this reaches
+pub data IsNeeded (table : List Definition) (whole d : Desc) : Type 0 where
+  of_whole : StandsIn whole d → IsNeeded table whole d
+  of_reached : (name : List ℕ) (e : Definition) → IsReached table whole name → entry_of table name ≡ Some e → StandsIn e.desc d → IsNeeded table whole d
+
+pub entry_inside : (table : List Definition) (name : List ℕ) (e : Definition) → entry_of table name ≡ Some e → Contains table e
+entry_inside [] name e f = absurd (cc f)
+entry_inside (x ∷ table) name e f = by_name (bytes_eq x.name name) f (entry_inside table name e)
+  where
+    by_name : (b : Bool) → cond b (Some x) (entry_of table name) ≡ Some e → (entry_of table name ≡ Some e → Contains table e) → Contains (x ∷ table) e
+    by_name true f later = let same : x ≡ e = cc f in subst (Contains (x ∷ table)) same (contains_first x table)
+    by_name false f later = contains_later x table e (later f)
+
+module _ (table : List Definition) (whole d : Desc) where
+  pub needed_part : IsNeeded table whole d → IsPart table whole d
+  needed_part (of_whole s) = part_of_whole s
+  needed_part (of_reached name e r f s) = of_table e (entry_inside table name e f) s
+
+  pub option_needed : (x : Desc) → out-Desc d ≡ Desc-F.Option x → IsNeeded table whole d → IsNeeded table whole x
+  option_needed x e (of_whole s) = of_whole (in_option x s e)
+  option_needed x e (of_reached name y r f s) = of_reached name y r f (in_option x s e)
+
+  pub list_needed : (x : Desc) (min max : Option ℕ) → out-Desc d ≡ Desc-F.List x min max → IsNeeded table whole d → IsNeeded table whole x
+  list_needed x min max e (of_whole s) = of_whole (in_list x min max s e)
+  list_needed x min max e (of_reached name y r f s) = of_reached name y r f (in_list x min max s e)
+
+  pub field_needed : (fs : List Field) (deny : Bool) (g : Field) → out-Desc d ≡ Desc-F.Struct fs deny → Contains fs g → IsNeeded table whole d → IsNeeded table whole g.desc
+  field_needed fs deny g e c (of_whole s) = of_whole (in_field fs deny g s e c)
+  field_needed fs deny g e c (of_reached name y r f s) = of_reached name y r f (in_field fs deny g s e c)
+
+  pub alternative_needed : (ds : List Desc) (x : Desc) → out-Desc d ≡ Desc-F.Untagged ds → Contains ds x → IsNeeded table whole d → IsNeeded table whole x
+  alternative_needed ds x e c (of_whole s) = of_whole (in_alternative ds x s e c)
+  alternative_needed ds x e c (of_reached name y r f s) = of_reached name y r f (in_alternative ds x s e c)
+
+  pub reference_reached : (name : List ℕ) → out-Desc d ≡ Desc-F.Ref name → IsNeeded table whole d → IsReached table whole name
+  reference_reached name e (of_whole s) = directly name (d, s, e)
+  reference_reached name e (of_reached other y r f s) = through other name y r f (d, s, e)
+
+  pub reference_needed : (name : List ℕ) (y : Definition) → out-Desc d ≡ Desc-F.Ref name → entry_of table name ≡ Some y → IsNeeded table whole d → IsNeeded table whole y.desc
+  reference_needed name y e f n = of_reached name y (reference_reached name e n) f the_whole
+
+  pub definition_needed : (name : List ℕ) (y : Desc) → out-Desc d ≡ Desc-F.Ref name → definition table name ≡ Some y → IsNeeded table whole d → IsNeeded table whole y
+  definition_needed name y e f n = by_entry (entry_of table name) refl
+    where
+      by_entry : (o : Option Definition) → entry_of table name ≡ o → IsNeeded table whole y
+      by_entry None g = absurd (cc (sym f ∙ definition_is table name ∙ ap (option_map (λ e. e.desc)) g))
+      by_entry (Some x) g =
+          let is : x.desc ≡ y = cc (sym f ∙ definition_is table name ∙ ap (option_map (λ e. e.desc)) g) in
+          subst (IsNeeded table whole) is (reference_needed name x e g n)
+
+-- a reference takes two steps, since its schema or that of its definition may be an `allOf` of one
+abbrev pub cost_after : (Desc → ℕ) → Option Desc → ℕ
+cost_after next None = 0
+cost_after next (Some y) = suc (suc (next y))
+
+abbrev pub cost_by : List Definition → (Desc → ℕ) → Desc-F Desc Field → ℕ
+cost_by table next (Desc-F.Option x) = next x
+cost_by table next (Desc-F.Untagged ds) = suc (most next ds)
+cost_by table next (Desc-F.Ref name) = cost_after next (definition table name)
+cost_by table next _ = 1
+
+-- the steps that a descriptor's schema takes at one value, through at most n references, options and choices
+unfoldable pub cost : List Definition → ℕ → Desc → ℕ
+cost table zero d = 0
+cost table (suc n) d = cost_by table (cost table n) (out-Desc d)

@@ -1,0 +1,138 @@
+-- How many JSON values the schema of a descriptor has, beside the steps that its top takes.
+use Rattle.std.proofs.Common.{◌≡◌, ℕ, suc, ◌+◌, ◌≤◌, Bool, true, false, List, [], ◌∷◌, ◌++◌, map, sum, Option, codes, refl, ◌∙◌, ap, arith, inl, inr}
+use Rattle.std.specs.Prelude.{Contains}
+use Rattle.std.proofs.lemmas.List.Sums.{sum_by-cons}
+use Rattle.schema_values.specs.declared.json_value.Json.{Json, out-Json, List as Items, Object, Text as Words}
+use Rattle.schema_values.specs.declared.json_value.Json.TheOpen.{Json-F}
+use Rattle.schema_values.specs.declared.json_value.Json.TheVariants as json
+use Rattle.schema_values.specs.declared.json_value.Member.{Member}
+use Rattle.schema_values.specs.Member.{name_of}
+use Rattle.openapi_values.specs.Room.{values}
+use Rattle.openapi_values.specs.ValuesOfMembers.{member_values}
+use Rattle.openapi_values.proofs.RoomLemmas.{values_is, values_row}
+use Rattle.typed_values.specs.declared.desc.Desc.{Desc, out-Desc}
+use Rattle.typed_values.specs.declared.desc.Desc.TheFolds.{fold-Desc, fold-Field, fold_out-Desc, map-Desc}
+use Rattle.typed_values.specs.declared.desc.Desc.TheOpen.{Desc-F}
+use Rattle.typed_values.specs.declared.desc.Field.{Field}
+use Rattle.typed_values.specs.Denotes.{field_nodes}
+use Rattle.typed_values.specs.Order.{sorted_by}
+use Rattle.typed_values.specs.Encoding.{member}
+use Rattle.typed_values.specs.SchemaTable.{Drawn, drawn, drawn_json, drawn_step, annotated, property_of, required_names, same_name, if_members, if_names, if_denied, schema_json}
+use Rattle.typed_values.proofs.Found.{contains_cases}
+use Rattle.written_schemas.proofs.Notes.{noted, notes}
+use Rattle.written_schemas.proofs.Composites.{counts}
+use Rattle.written_schemas.proofs.Sorted.{sum_sorted}
+use Rattle.written_schemas.proofs.Fields.{drawn_of, property}
+use Rattle.written_schemas.proofs.Forms.{drawn_row, drawn_level}
+
+unfoldable pub total : List Member → ℕ
+total ms = sum (map member_values ms)
+
+pub total_cons : (m : Member) (ms : List Member) → total (m ∷ ms) ≡ values m.value + total ms
+unfolding total
+total_cons m ms = sum_by-cons (λ n. n) (member_values m) (map member_values ms)
+
+total_after : (first ms : List Member) → total ms ≤ total (first ++ ms)
+total_after [] ms = omega arith
+total_after (a ∷ first) ms = omega (arith, total_cons a (first ++ ms), total_after first ms)
+
+pub values_object : (ms : List Member) → values (Object ms) ≡ suc (total ms)
+unfolding total
+values_object ms = values_is (Object ms) ∙ ap values_row (json.outs-Object ms)
+
+values_list : (js : List Json) → values (Items js) ≡ suc (sum (map values js))
+values_list js = values_is (Items js) ∙ ap values_row (json.outs-List js)
+
+values_positive : (j : Json) → 1 ≤ values j
+values_positive j = rw (values_is j) (by_form (out-Json j))
+  where
+    by_form : (x : Json-F Json Member) → 1 ≤ values_row x
+    by_form Json-F.Null = omega arith
+    by_form (Json-F.Bool b) = omega arith
+    by_form (Json-F.Int i) = omega arith
+    by_form (Json-F.Text w) = omega arith
+    by_form (Json-F.List js) = omega arith
+    by_form (Json-F.Object ms) = omega arith
+
+-- the JSON values of the schema, with no annotation
+abbrev pub bare : Desc → ℕ
+bare d = suc (total (drawn d).members)
+
+annotated_more : (notes : List Member) (is_reference : Bool) (ms : List Member) → total ms ≤ total (annotated notes is_reference ms)
+annotated_more [] is_reference ms = omega arith
+annotated_more (a ∷ notes) true ms =
+    let wrap = member (codes "allOf") (Items (Object ms ∷ [])) in
+    let once : sum (map values (Object ms ∷ [])) ≡ values (Object ms) + 0 = sum_by-cons (λ n. n) (values (Object ms)) [] in
+    omega (arith, total_after (a ∷ notes) (wrap ∷ []), total_cons wrap [], values_list (Object ms ∷ []), once, values_object ms)
+annotated_more (a ∷ notes) false ms = total_after (a ∷ notes) ms
+
+-- annotations add to it
+pub bare_fits : (d : Desc) (n : Bool) (t s : Option (List ℕ)) → bare d ≤ values (drawn_json (noted n t s (drawn d)))
+bare_fits d n t s = omega (arith, values_object (annotated (notes n t s) (drawn d).is_reference (drawn d).members), annotated_more (notes n t s) (drawn d).is_reference (drawn d).members)
+
+-- the steps that the top of a descriptor takes: it, and what stands under options and alternatives alone
+abbrev pub top_step : Desc-F ℕ ℕ → ℕ
+top_step (Desc-F.Option n) = n
+top_step (Desc-F.Untagged ns) = suc (sum ns)
+top_step (Desc-F.Ref name) = 2
+top_step _ = 1
+
+unfoldable pub top_cost : Desc → ℕ
+top_cost = fold-Desc ℕ ℕ top_step field_nodes
+
+module _ (d : Desc) (z : Desc-F Desc Field) (e : out-Desc d ≡ z) where
+  pub top_at : top_cost d ≡ top_step (map-Desc Desc Field ℕ ℕ top_cost (fold-Field ℕ ℕ top_step field_nodes) z)
+  unfolding top_cost
+  top_at = fold_out-Desc ℕ ℕ top_step field_nodes d ∙ ap (λ (x : Desc-F Desc Field). top_step (map-Desc Desc Field ℕ ℕ top_cost (fold-Field ℕ ℕ top_step field_nodes) x)) e
+
+  bare_at : bare d ≡ suc (total (drawn_step (drawn_level z)).members)
+  bare_at = ap (λ (x : Drawn). suc (total x.members)) (drawn_row d z e)
+
+-- a schema's values are more than those of the schemas in it
+first_counts : (m : Member) (ms : List Member) → suc (total ms) ≤ total (m ∷ ms)
+first_counts m ms = omega (arith, total_cons m ms, values_positive m.value)
+
+no_total : total [] ≡ 0
+unfolding total
+no_total = refl
+
+module _ (d : Desc) where
+  pub option_size : (x : Desc) → out-Desc d ≡ Desc-F.Option x → (bare d ≡ bare x) × (top_cost d ≡ top_cost x)
+  option_size x e = (bare_at d (Desc-F.Option x) e, top_at d (Desc-F.Option x) e)
+
+  pub list_size : (x : Desc) (min max : Option ℕ) → out-Desc d ≡ Desc-F.List x min max → 2 + values (schema_json x) ≤ bare d
+  list_size x min max e =
+      let item = member (codes "items") (schema_json x) in
+      let rest = counts min max in
+      omega (arith, bare_at d (Desc-F.List x min max) e, first_counts (member (codes "type") (Words (codes "array"))) (item ∷ rest), total_cons item rest)
+
+  pub choice_size : (ds : List Desc) → out-Desc d ≡ Desc-F.Untagged ds → bare d ≡ suc (suc (sum (map values (map drawn_json (map drawn ds)))))
+  choice_size ds e =
+      let schemas = Items (map drawn_json (map drawn ds)) in
+      let none : total [] ≡ 0 = no_total in
+      omega (arith, bare_at d (Desc-F.Untagged ds) e, total_cons (member (codes "anyOf") schemas) [], values_list (map drawn_json (map drawn ds)), none)
+
+  pub reference_size : (name : List ℕ) → out-Desc d ≡ Desc-F.Ref name → 2 ≤ bare d
+  reference_size name e =
+      let target = Words (codes "#/components/schemas/" ++ name) in
+      omega (arith, bare_at d (Desc-F.Ref name) e, total_cons (member (codes "$ref") target) [], values_positive target)
+
+property_size : (fs : List Field) (f : Field) → Contains fs f → values (property f).value ≤ total (map property_of (map drawn_of fs))
+property_size [] f c = absurd (omega (arith, c.1))
+property_size (g ∷ fs) f c = elim (contains_cases g fs f c) [
+  | inl same ↦ omega (arith, ap (λ (g : Field). values (property g).value) same, total_cons (property g) (map property_of (map drawn_of fs)))
+  | inr later ↦ omega (arith, property_size fs f later, total_cons (property g) (map property_of (map drawn_of fs)))
+]
+
+members_size : (ps rest : List Member) → total ps ≤ total (if_members ps (codes "properties") rest)
+members_size [] rest = let none : total [] ≡ 0 = no_total in omega (arith, none)
+members_size (p ∷ ps) rest = omega (arith, total_cons (member (codes "properties") (Object (p ∷ ps))) rest, values_object (p ∷ ps))
+
+pub field_size : (d : Desc) (fs : List Field) (deny : Bool) (f : Field) → out-Desc d ≡ Desc-F.Struct fs deny → Contains fs f → 2 + values (property f).value ≤ bare d
+unfolding total
+field_size d fs deny f e c =
+    let ps = map property_of (map drawn_of fs) in
+    let rest = if_names (sorted_by same_name (required_names (map drawn_of fs))) (codes "required") (if_denied deny) in
+    let members = if_members (sorted_by name_of ps) (codes "properties") rest in
+    let same : total (sorted_by name_of ps) ≡ total ps = sum_sorted name_of member_values ps in
+    omega (arith, bare_at d (Desc-F.Struct fs deny) e, first_counts (member (codes "type") (Words (codes "object"))) members, members_size (sorted_by name_of ps) rest, same, property_size fs f c)

@@ -1,0 +1,278 @@
+-- What a value of a descriptor is written as is sound, and denotes a tree: the very value where no untagged union is reached.
+use Rattle.std.proofs.Common.{◌≡◌, ℕ, zero, suc, ◌+◌, Bool, true, false, ◌||◌, not, List, [], ◌∷◌, length, map, Option, Some, None, is_none, refl, sym, ◌∙◌, ap, subst, MatchOption}
+use Rattle.std.proofs.lemmas.List.{length-map}
+use Rattle.std.proofs.Math.Bool.{or-true}
+use Rattle.std.specs.List.{AllByRecursion}
+use Rattle.std.specs.Prelude.{Contains}
+use Rattle.std.specs.declared.result.Result.TheVariants.{Ok}
+use Rattle.schema_values.specs.declared.json_value.Json.{Json, Null, out-Json, List as ItemsJson, Object}
+use Rattle.schema_values.specs.declared.json_value.Json.TheOpen.{Json-F}
+use Rattle.schema_values.specs.declared.json_value.Json.TheVariants as json
+use Rattle.schema_values.specs.declared.json_value.Member.{Member}
+use Rattle.schema_values.specs.Sound.{AreDistinct, IsSound as IsSoundValue}
+use Rattle.schema_values.specs.SoundMembers.{HasSoundValue}
+use Rattle.schema_values.proofs.SoundLemmas.{IsSound-List, IsSound-Object}
+use Rattle.typed_values.specs.declared.desc.Desc.{Desc, out-Desc}
+use Rattle.typed_values.specs.declared.desc.Desc.TheOpen.{Desc-F}
+use Rattle.typed_values.specs.declared.desc.Field.{Field}
+use Rattle.typed_values.specs.declared.desc.Presence.{Presence}
+use Rattle.typed_values.specs.declared.desc.Presence.TheVariants.{Required, Nullable, Skipped}
+use Rattle.typed_values.specs.declared.fault.FaultKind.TheVariants.{BadLength}
+use Rattle.typed_values.specs.declared.table.Definition.{Definition}
+use Rattle.typed_values.specs.declared.tree.Tree.{Tree, None as Nothing, List as Items, Fields as Parts, out-Tree}
+use Rattle.typed_values.specs.declared.tree.Tree.TheOpen.{Tree-F}
+use Rattle.typed_values.specs.declared.tree.Tree.TheVariants as tree
+use Rattle.typed_values.specs.declared.tree.Tree.TheViews.{roll-Tree, roll-out-Tree}
+use Rattle.typed_values.specs.Bounds.{is_length_within}
+use Rattle.typed_values.specs.Checks.{TablePasses, DescPasses}
+use Rattle.typed_values.specs.Definitions.{definition, field_name}
+use Rattle.typed_values.specs.Denotes.{Told, told, room, below, just, all_told, as_tree, if_holds, optional, by_presence, unless_denied, denied_name, at_definition, first_told}
+use Rattle.typed_values.specs.Encoding.{member, unless, members_written, written_if_there, option_written, items_written, parts_written, choice_written, written_by, is_none_level, written_under, json_of_tree}
+use Rattle.typed_values.specs.Fits.{option_fits, each_fits, items_fit, field_desc, fields_fit, parts_fit, alternative_at, if_there, choice_fits, fits_by, fits_under, Fits}
+use Rattle.typed_values.specs.Parts.{the_whole}
+use Rattle.typed_values.specs.Rows.{told_item, value_denotes, told_field, told_fields, list_row, struct_row, row}
+use Rattle.typed_values.specs.Sound.{RestsBy, Rests}
+use Rattle.typed_values.proofs.EncodeSteps.{is_none_tree, written_row, skipped_written}
+use Rattle.typed_values.proofs.FitRows.{skipped_desc}
+use Rattle.typed_values.proofs.FitSteps.{fits_row, skipped_row}
+use Rattle.typed_values.proofs.Found.{contains_first, contains_later}
+use Rattle.typed_values.proofs.Rows.{row_at}
+use Rattle.typed_values.proofs.Soundness.{passes_is_sound}
+use Rattle.written_schemas.specs.Reached.{IsUntagged, ReachesNoUntagged}
+use Rattle.written_schemas.proofs.Agreement.{fields_distinct, is_right}
+use Rattle.written_schemas.proofs.Denoted.{denied_is}
+use Rattle.written_schemas.proofs.Needed.{IsNeeded, of_whole, of_reached, needed_part, option_needed, list_needed, field_needed, alternative_needed, definition_needed}
+use Rattle.written_schemas.proofs.NullTaken.{null_taken}
+use Rattle.written_schemas.proofs.ScalarsBack.{both, ReadsBack, truth_back, number_back, words_back}
+use Rattle.written_schemas.proofs.ToldTrees.{Gives, GivesAll, gives_below, gives_just, gives_then, gives_tree, first_tells}
+use Rattle.written_schemas.proofs.TreeParts.{OfParts, by_parts}
+use Rattle.written_schemas.proofs.WrittenMembers.{Beside, is_left, unless_left, distinct_written, written_declared, IsFound, all_found}
+
+not_null : (x : Json-F Json Member) (told : Told) → (x ≡ Json-F.Null → ⊥) → optional x told ≡ just told
+not_null Json-F.Null told other = absurd (other refl)
+not_null (Json-F.Bool b) told other = refl
+not_null (Json-F.Int n) told other = refl
+not_null (Json-F.Text s) told other = refl
+not_null (Json-F.List js) told other = refl
+not_null (Json-F.Object ms) told other = refl
+
+no_name : (name : Option (List ℕ)) (told : Told) → is_none name ≡ true → unless_denied name told ≡ told
+no_name None told e = refl
+no_name (Some name) told e = absurd (cc e)
+
+sound_with : (b : Bool) (m : Member) (ms : List Member) → IsSoundValue m.value → AllByRecursion HasSoundValue ms → AllByRecursion HasSoundValue (unless b m ms)
+sound_with true m ms first rest = rest
+sound_with false m ms first rest = (first, rest)
+
+alternative_inside : (ds : List Desc) (i : ℕ) (d : Desc) → alternative_at ds i ≡ Some d → Contains ds d
+alternative_inside [] i d there = absurd (cc there)
+alternative_inside (x ∷ ds) zero d there = subst (Contains (x ∷ ds)) {x = x} (cc there) (contains_first x ds)
+alternative_inside (x ∷ ds) (suc i) d there = contains_later x ds d (alternative_inside ds i d there)
+
+module _ (table : List Definition) (whole : Desc) (passes : TablePasses table) (right : DescPasses table whole) where
+  abbrev Exact : Type 0
+  Exact = ReachesNoUntagged table whole
+
+  abbrev written : Tree → Desc → Json
+  written = written_under table whole
+
+  -- each value that fits a needed descriptor is read back
+  abbrev Back : Tree → Type 0
+  Back t = (d : Desc) → IsNeeded table whole d → fits_under table whole t d ≡ true → ReadsBack Exact (written t d) (told table whole (written t d) d) t
+
+  -- so is what stands in it: a field that may be skipped leads two levels down
+  abbrev BackInside : Tree → Type 0
+  BackInside t = Back t × OfParts Back (out-Tree t)
+
+  rests : (d : Desc) → IsNeeded table whole d → Rests table (room table whole) d
+  rests d need = passes_is_sound table whole passes right d (needed_part table whole d need)
+
+  untagged_refuted : (d : Desc) → IsNeeded table whole d → IsUntagged d → Exact → ⊥
+  untagged_refuted d (of_whole s) untagged exact = exact.in_desc d s untagged
+  untagged_refuted d (of_reached name e r f s) untagged exact = exact.in_reached name e r f d s untagged
+
+  never_null : (d x : Desc) → IsNeeded table whole d → out-Desc d ≡ Desc-F.Option x → (j : Json) (read : Tree) → told table whole j x ≡ Ok read → out-Json j ≡ Json-F.Null → ⊥
+  never_null d x need e j read is null =
+      (is_right table whole passes right d (needed_part table whole d need)).null_once
+      (x, e, null_taken table whole (passes_is_sound table whole passes right) j null x (option_needed table whole d x e need) read is)
+
+  -- ---- row by row
+
+  option_back : (d i : Desc) → IsNeeded table whole d → out-Desc d ≡ Desc-F.Option i → (x : Tree-F Tree) (t : Tree) → roll-Tree x ≡ t → OfParts BackInside x → option_fits (λ s. fits_under table whole s i) x ≡ true
+      → ReadsBack Exact (option_written (λ s. written s i) x) (optional (out-Json (option_written (λ s. written s i) x)) (told table whole (option_written (λ s. written s i) x) i)) t
+  option_back d i need e Tree-F.None t is parts fit = (tt, (Nothing, ap (λ (z : Json-F Json Member). optional z (told table whole Null i)) json.outs-Null, λ h. sym tree.rolls-None ∙ is))
+  option_back d i need e (Tree-F.Some s) t is parts fit =
+      let (sound, gives) = parts.0 i (option_needed table whole d i e need) fit in (
+        sound,
+        subst (λ (o : Told). Gives Exact o t) (sym (not_null (out-Json (written s i)) (told table whole (written s i) i) (never_null d i need e (written s i) gives.0 gives.1)))
+            (subst (Gives Exact (just (told table whole (written s i) i))) (sym (tree.rolls-Some s) ∙ is) (gives_just Exact (told table whole (written s i) i) s gives)),
+      )
+  option_back d i need e _ t is parts fit = absurd (cc fit)
+
+  items_sound : (i : Desc) → IsNeeded table whole i → (ts : List Tree) → AllByRecursion BackInside ts → each_fits (λ s. fits_under table whole s i) ts ≡ true → AllByRecursion IsSoundValue (map (λ s. written s i) ts)
+  items_sound i need [] parts fit = tt
+  items_sound i need (t ∷ ts) parts fit =
+      let (first, rest) = both (fits_under table whole t i) (each_fits (λ s. fits_under table whole s i) ts) fit in
+      ((parts.0.0 i need first).0, items_sound i need ts parts.1 rest)
+
+  items_told_back : (i : Desc) → IsNeeded table whole i → (ts : List Tree) → AllByRecursion BackInside ts → each_fits (λ s. fits_under table whole s i) ts ≡ true
+      → (k : ℕ) → GivesAll Exact (all_told (told_item table whole i) k (map (λ s. written s i) ts)) ts
+  items_told_back i need [] parts fit k = ([], refl, λ h. refl)
+  items_told_back i need (t ∷ ts) parts fit k =
+      let (first, rest) = both (fits_under table whole t i) (each_fits (λ s. fits_under table whole s i) ts) fit in
+      gives_then Exact (told_item table whole i k (written t i)) (all_told (told_item table whole i) (k + 1) (map (λ s. written s i) ts)) t ts
+      (gives_below Exact _ (told table whole (written t i) i) t (parts.0.0 i need first).1) (items_told_back i need ts parts.1 rest (k + 1))
+
+  items_back : (i : Desc) (min max : Option ℕ) → IsNeeded table whole i → (x : Tree-F Tree) (t : Tree) → roll-Tree x ≡ t → OfParts BackInside x → items_fit (λ s. fits_under table whole s i) min max x ≡ true
+      → ReadsBack Exact (items_written (λ s. written s i) x) (list_row table whole i min max (out-Json (items_written (λ s. written s i) x))) t
+  items_back i min max need (Tree-F.List ts) t is parts fit =
+      let js : List Json = map (λ s. written s i) ts in
+      let (within, each) = both (is_length_within min max (length ts)) (each_fits (λ s. fits_under table whole s i) ts) fit in
+      let whole_list : list_row table whole i min max (out-Json (ItemsJson js)) ≡ as_tree Items (all_told (told_item table whole i) 0 js) =
+      ap (list_row table whole i min max) (json.outs-List js)
+      ∙ ap (λ (b : Bool). if_holds b BadLength (as_tree Items (all_told (told_item table whole i) 0 js))) (ap (is_length_within min max) (length-map ts (λ s. written s i)) ∙ within) in (
+        (IsSound-List js).1 (items_sound i need ts parts each),
+        subst (λ (o : Told). Gives Exact o t) (sym whole_list)
+            (subst (Gives Exact (as_tree Items (all_told (told_item table whole i) 0 js))) (sym (tree.rolls-List ts) ∙ is)
+            (gives_tree Exact Items (all_told (told_item table whole i) 0 js) ts (items_told_back i need ts parts each 0))),
+      )
+  items_back i min max need _ t is parts fit = absurd (cc fit)
+
+  -- a field's value, or its absence
+  abbrev FieldBack : Field → Tree → Type 0
+  FieldBack f x = ReadsBack Exact (written x (field_desc f)) (by_presence f (value_denotes table whole f.desc (unless_left (is_left f x) (written x (field_desc f))))) x
+
+  module _ (f : Field) (need : IsNeeded table whole f.desc) where
+    -- a field that is there under its own descriptor
+    plain_back : (place : _) (x : Tree) → BackInside x → fits_under table whole x f.desc ≡ true → ReadsBack Exact (written x f.desc) (below place (told table whole (written x f.desc) f.desc)) x
+    plain_back place x known fit = let (sound, gives) = known.0 f.desc need fit in (sound, gives_below Exact place (told table whole (written x f.desc) f.desc) x gives)
+
+    abbrev skipped_json : Tree-F Tree → Json
+    skipped_json z = option_written (λ s. written s f.desc) z
+
+    skipped_by : f.presence ≡ Skipped → (z : Tree-F Tree) (x : Tree) → roll-Tree z ≡ x → OfParts Back z → option_fits (λ s. fits_under table whole s f.desc) z ≡ true
+        → ReadsBack Exact (skipped_json z) (by_presence f (value_denotes table whole f.desc (unless_left (is_none_level z) (skipped_json z)))) x
+    skipped_by q Tree-F.None x is parts fit = rw q (tt, (Nothing, refl, λ h. sym tree.rolls-None ∙ is))
+    skipped_by q (Tree-F.Some s) x is parts fit =
+        let (sound, gives) = parts f.desc need fit in
+        let o = told table whole (written s f.desc) f.desc in
+        rw q (sound, subst (Gives Exact (just (below _ o))) (sym (tree.rolls-Some s) ∙ is) (gives_just Exact (below _ o) s (gives_below Exact _ o s gives)))
+    skipped_by q _ x is parts fit = absurd (cc fit)
+
+    skipped_desc_fits : (x : Tree) → f.presence ≡ Skipped → fits_under table whole x (field_desc f) ≡ true → option_fits (λ s. fits_under table whole s f.desc) (out-Tree x) ≡ true
+    skipped_desc_fits x q fit = sym (skipped_row table whole x f.desc) ∙ subst (λ (d : Desc). fits_under table whole x d ≡ true) (skipped_desc f q) fit
+
+    own_desc_fits : (x : Tree) → field_desc f ≡ f.desc → fits_under table whole x (field_desc f) ≡ true → fits_under table whole x f.desc ≡ true
+    own_desc_fits x same fit = subst (λ (d : Desc). fits_under table whole x d ≡ true) same fit
+
+    field_by : (p : Presence) → f.presence ≡ p → (x : Tree) → BackInside x → fits_under table whole x (field_desc f) ≡ true → FieldBack f x
+    field_by Required q x known fit = rw q (plain_back _ x known (own_desc_fits x (rw q refl) fit))
+    field_by Nullable q x known fit = rw q (plain_back _ x known (own_desc_fits x (rw q refl) fit))
+    field_by Skipped q x known fit =
+        let all = skipped_by q (out-Tree x) x (roll-out-Tree x) known.1 (skipped_desc_fits x q fit) in
+        let as_option : written x (field_desc f) ≡ skipped_json (out-Tree x) = ap (written x) (skipped_desc f q) ∙ skipped_written table whole x f.desc in
+        subst (λ (j : Json). ReadsBack Exact j (by_presence f (value_denotes table whole f.desc (unless_left (is_left f x) j))) x) (sym as_option)
+        (subst (λ (b : Bool). ReadsBack Exact (skipped_json (out-Tree x)) (by_presence f (value_denotes table whole f.desc (unless_left b (skipped_json (out-Tree x))))) x) (rw q refl) all)
+
+  fields_back : (fs : List Field) (xs : List Tree) → ((f : Field) → Contains fs f → IsNeeded table whole f.desc) → AllByRecursion BackInside xs → fields_fit (fits_under table whole) fs xs ≡ true → Beside FieldBack fs xs
+  fields_back [] [] need known fit = tt
+  fields_back [] (x ∷ xs) need known fit = absurd (cc fit)
+  fields_back (f ∷ fs) [] need known fit = absurd (cc fit)
+  fields_back (f ∷ fs) (x ∷ xs) need known fit =
+      let (first, rest) = both (fits_under table whole x (field_desc f)) (fields_fit (fits_under table whole) fs xs) fit in
+      (field_by f (need f (contains_first f fs)) f.presence refl x known.0 first, fields_back fs xs (λ g c. need g (contains_later f fs g c)) known.1 rest)
+
+  members_sound : (fs : List Field) (xs : List Tree) → Beside FieldBack fs xs → AllByRecursion HasSoundValue (members_written is_none_tree written fs xs)
+  members_sound [] xs back = tt
+  members_sound (f ∷ fs) [] back = tt
+  members_sound (f ∷ fs) (x ∷ xs) back = sound_with (is_left f x) (member f.name (written x (field_desc f))) (members_written is_none_tree written fs xs) back.0.0 (members_sound fs xs back.1)
+
+  fields_told_back : (ms : List Member) (fs : List Field) (xs : List Tree) → Beside FieldBack fs xs → Beside (IsFound written ms) fs xs → (k : ℕ) → GivesAll Exact (all_told (λ i f. told_field table whole ms f) k fs) xs
+  fields_told_back ms [] [] back found k = ([], refl, λ h. refl)
+  fields_told_back ms [] (x ∷ xs) back found k = absurd back
+  fields_told_back ms (f ∷ fs) [] back found k = absurd back
+  fields_told_back ms (f ∷ fs) (x ∷ xs) back found k =
+      gives_then Exact (told_field table whole ms f) (all_told (λ i f. told_field table whole ms f) (k + 1) fs) x xs
+      (subst (λ (o : Option Json). Gives Exact (by_presence f (value_denotes table whole f.desc o)) x) (sym found.0) back.0.1) (fields_told_back ms fs xs back.1 found.1 (k + 1))
+
+  parts_back : (fs : List Field) (deny : Bool) → AreDistinct (map field_name fs) → ((f : Field) → Contains fs f → IsNeeded table whole f.desc) → (x : Tree-F Tree) (t : Tree) → roll-Tree x ≡ t → OfParts BackInside x
+      → parts_fit (fits_under table whole) fs x ≡ true → ReadsBack Exact (parts_written is_none_tree written fs x) (struct_row table whole fs deny (out-Json (parts_written is_none_tree written fs x))) t
+  parts_back fs deny distinct need (Tree-F.Fields xs) t is parts fit =
+      let ms : List Member = members_written is_none_tree written fs xs in
+      let back = fields_back fs xs need parts fit in
+      let none_denied : is_none (denied_name deny fs ms) ≡ true = denied_is deny fs ms ∙ ap (λ (b : Bool). not deny || b) (written_declared written fs xs) ∙ or-true (not deny) in
+      let all_parts : struct_row table whole fs deny (out-Json (Object ms)) ≡ as_tree Parts (told_fields table whole ms fs) =
+      ap (struct_row table whole fs deny) (json.outs-Object ms) ∙ no_name (denied_name deny fs ms) (as_tree Parts (told_fields table whole ms fs)) none_denied in (
+        (IsSound-Object ms).1 (members_sound fs xs back, distinct_written written fs xs distinct),
+        subst (λ (o : Told). Gives Exact o t) (sym all_parts)
+            (subst (Gives Exact (as_tree Parts (told_fields table whole ms fs))) (sym (tree.rolls-Fields xs) ∙ is)
+            (gives_tree Exact Parts (told_fields table whole ms fs) xs (fields_told_back ms fs xs back (all_found written FieldBack fs xs distinct back) 0))),
+      )
+  parts_back fs deny distinct need _ t is parts fit = absurd (cc fit)
+
+  choice_at : (d : Desc) (ds : List Desc) → IsNeeded table whole d → out-Desc d ≡ Desc-F.Untagged ds → (i : ℕ) (s t : Tree) → BackInside s → (o : Option Desc) → alternative_at ds i ≡ o → if_there (fits_under table whole s) o ≡ true
+      → ReadsBack Exact (written_if_there (written s) o) (first_told 0 (told table whole (written_if_there (written s) o)) ds) t
+  choice_at d ds need e i s t known None there fit = absurd (cc fit)
+  choice_at d ds need e i s t known (Some a) there fit =
+      let (sound, gives) = known.0 a (alternative_needed table whole d ds a e (alternative_inside ds i a there) need) fit in
+      let (read, is) = first_tells (told table whole (written s a)) 0 ds i a gives.0 there gives.1 in
+      (sound, (read, is, λ exact. absurd (untagged_refuted d need (ds, e) exact)))
+
+  choice_back : (d : Desc) (ds : List Desc) → IsNeeded table whole d → out-Desc d ≡ Desc-F.Untagged ds → (x : Tree-F Tree) (t : Tree) → OfParts BackInside x → choice_fits (fits_under table whole) ds x ≡ true
+      → ReadsBack Exact (choice_written written ds x) (first_told 0 (told table whole (choice_written written ds x)) ds) t
+  choice_back d ds need e (Tree-F.Variant i s) t parts fit = choice_at d ds need e i s t parts (alternative_at ds i) refl fit
+  choice_back d ds need e _ t parts fit = absurd (cc fit)
+
+  module _ (t : Tree) (parts : OfParts BackInside (out-Tree t)) where
+    abbrev BackWithin : ℕ → Type 0
+    BackWithin n = (d : Desc) → Rests table n d → IsNeeded table whole d → fits_under table whole t d ≡ true → ReadsBack Exact (written t d) (told table whole (written t d) d) t
+
+    reference_back : (n : ℕ) → BackWithin n → (d : Desc) (name : List ℕ) → IsNeeded table whole d → out-Desc d ≡ Desc-F.Ref name → (o : Option Desc) → definition table name ≡ o → MatchOption o ⊥ (Rests table n) → if_there (fits_under table whole t) o ≡ true
+        → ReadsBack Exact (written_if_there (written t) o) (at_definition (told table whole (written_if_there (written t) o)) o) t
+    reference_back n next d name need e None f rests fit = absurd rests
+    reference_back n next d name need e (Some y) f rests fit = next y rests (definition_needed table whole d name y e f need) fit
+
+    abbrev row_written : Desc-F Desc Field → Json
+    row_written y = written_by table is_none_tree written (written t) y (out-Tree t)
+
+    -- one row for each descriptor
+    row_back : (n : ℕ) → BackWithin n → (d : Desc) → IsNeeded table whole d → (y : Desc-F Desc Field) → out-Desc d ≡ y → RestsBy table (Rests table n) y
+        → fits_by table (fits_under table whole) (fits_under table whole t) y (out-Tree t) ≡ true → ReadsBack Exact (row_written y) (row table whole (row_written y) (out-Json (row_written y)) y) t
+    row_back n next d need Desc-F.Bool e rest fit = truth_back Exact (out-Tree t) t (roll-out-Tree t) fit
+    row_back n next d need (Desc-F.Int kind min max) e rest fit = number_back Exact kind min max (out-Tree t) t (roll-out-Tree t) fit
+    row_back n next d need (Desc-F.Text min max format) e rest fit = words_back Exact min max (out-Tree t) t (roll-out-Tree t) fit
+    row_back n next d need (Desc-F.Option i) e rest fit = option_back d i need e (out-Tree t) t (roll-out-Tree t) parts fit
+    row_back n next d need (Desc-F.List i min max) e rest fit = items_back i min max (list_needed table whole d i min max e need) (out-Tree t) t (roll-out-Tree t) parts fit
+    row_back n next d need (Desc-F.Struct fs deny) e rest fit =
+        let distinct = fields_distinct table d fs deny e (is_right table whole passes right d (needed_part table whole d need)) in
+        parts_back fs deny distinct (λ f c. field_needed table whole d fs deny f e c need) (out-Tree t) t (roll-out-Tree t) parts fit
+    row_back n next d need (Desc-F.Untagged ds) e rest fit = choice_back d ds need e (out-Tree t) t parts fit
+    row_back n next d need (Desc-F.Ref name) e rest fit = reference_back n next d name need e (definition table name) refl rest fit
+
+    back_within : (n : ℕ) → BackWithin n
+    unfolding Rests
+    back_within zero d rest need fit = absurd rest
+    back_within (suc n) d rest need fit =
+        let row_fits = sym (fits_row table whole t d (rests d need)) ∙ fit in
+        subst (λ (o : Told). ReadsBack Exact (written t d) o t) (sym (row_at table whole (written t d) d (out-Json (written t d)) (out-Desc d) (rests d need) refl refl))
+        (subst (λ (j : Json). ReadsBack Exact j (row table whole j (out-Json j) (out-Desc d)) t) (sym (written_row table whole t d (rests d need))) (row_back n (back_within n) d need (out-Desc d) refl rest row_fits))
+
+  each_inside : (ts : List Tree) → AllByRecursion BackInside ts → AllByRecursion Back ts
+  each_inside [] h = tt
+  each_inside (t ∷ ts) h = (h.0.0, each_inside ts h.1)
+
+  inside_of : (x : Tree-F Tree) → OfParts BackInside x → OfParts Back x
+  inside_of (Tree-F.Bool b) h = tt
+  inside_of (Tree-F.Int n) h = tt
+  inside_of (Tree-F.Text s) h = tt
+  inside_of Tree-F.None h = tt
+  inside_of (Tree-F.Some t) h = h.0
+  inside_of (Tree-F.List ts) h = each_inside ts h
+  inside_of (Tree-F.Fields ts) h = each_inside ts h
+  inside_of (Tree-F.Variant i t) h = h.0
+
+  known : (t : Tree) → BackInside t
+  known = by_parts BackInside (λ t parts. (λ d need. back_within t parts (room table whole) d (rests d need) need, inside_of (out-Tree t) parts))
+
+  pub read_back : (t : Tree) → Fits table whole t → ReadsBack Exact (json_of_tree table whole t) (told table whole (json_of_tree table whole t) whole) t
+  read_back t fit = (known t).0 whole (of_whole the_whole) fit

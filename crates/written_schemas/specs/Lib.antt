@@ -1,0 +1,4 @@
+pub mod Reached
+pub mod Counted
+pub mod Written
+pub mod Bodies

@@ -1,0 +1,21 @@
+-- What it is for the schema of a descriptor to say in a document what the descriptor says.
+use Rattle.std.specs.Prelude.{◌↔◌, List}
+use Rattle.schema_values.specs.declared.json_value.Json.{Json}
+use Rattle.schema_values.specs.Sound.{IsSound}
+use Rattle.openapi_values.specs.JsonAdmits.{JsonAdmits}
+use Rattle.typed_values.specs.declared.desc.Desc.{Desc}
+use Rattle.typed_values.specs.declared.table.Definition.{Definition}
+use Rattle.typed_values.specs.declared.tree.Tree.{Tree}
+use Rattle.typed_values.specs.Checks.{TablePasses, DescPasses}
+use Rattle.typed_values.specs.Denotes.{JsonDenotes}
+use Rattle.written_schemas.specs.Reached.{DefinesReached}
+
+-- a table and a descriptor pass their checks, and a document has the schemas of the definitions that the descriptor reaches
+pub record IsWritten (doc : Json) (table : List Definition) (desc : Desc) : Type 0 where
+  pub table_passes : TablePasses table
+  pub desc_passes : DescPasses table desc
+  pub defined : DefinesReached doc table desc
+
+-- of the sound values, a schema admits exactly those that denote a tree
+abbrev pub AdmitsDenoted : Json → Json → List Definition → Desc → Type 0
+AdmitsDenoted doc schema table desc = (json : Json) → IsSound json → JsonAdmits doc schema json ↔ ((tree : Tree) × JsonDenotes table desc json tree)

@@ -1,0 +1,71 @@
+ghost use Rattle.std.specs.Prelude.{◌≡◌, ◌↔◌, ℕ, ◌≤◌, List, Option};
+ghost use Rattle.schema_values.specs.declared.json_value.Json.{Json as JsonValue};
+ghost use Rattle.schema_values.specs.Reading.{Reads};
+ghost use Rattle.schema_values.specs.Sound.{IsSound};
+ghost use Rattle.openapi_values.specs.declared.document.OpenApi.{OpenApi as Document};
+ghost use Rattle.openapi_values.specs.declared.request.WireRequest.{WireRequest as Request};
+ghost use Rattle.openapi_values.specs.Admits.{Admits};
+ghost use Rattle.openapi_values.specs.Document.{open_api_json};
+ghost use Rattle.openapi_values.specs.JsonAdmits.{admits_within, JsonAdmits};
+ghost use Rattle.openapi_values.specs.Room.{room};
+ghost use Rattle.typed_values.specs.declared.desc.Desc.{Desc as Descriptor};
+ghost use Rattle.typed_values.specs.declared.table.Definition.{Definition as Entry};
+ghost use Rattle.typed_values.specs.declared.tree.Tree.{Tree as Value};
+ghost use Rattle.typed_values.specs.Checks.{TablePasses, DescPasses};
+ghost use Rattle.typed_values.specs.Denotes.{room as steps_of_table, told, told_within, JsonDenotes};
+ghost use Rattle.typed_values.specs.Encoding.{json_of_tree};
+ghost use Rattle.typed_values.specs.Fits.{Fits};
+ghost use Rattle.typed_values.specs.SchemaTable.{schema_json, schema_json_titled, schema_json_described};
+ghost use Rattle.written_schemas.specs.Bodies.{TakesJson};
+ghost use Rattle.written_schemas.specs.Counted.{IsCounted};
+ghost use Rattle.written_schemas.specs.Reached.{ReachesNoUntagged};
+ghost use Rattle.written_schemas.specs.Written.{IsWritten, AdmitsDenoted};
+
+/// The schema of a descriptor admits exactly the JSON values that denote a tree; so it does under a title or a description.
+pub fn schemas_agree()
+    ensures plain { (doc : JsonValue) (table : List Entry) (desc : Descriptor) → IsWritten doc table desc
+        → IsCounted doc (schema_json desc) → AdmitsDenoted doc (schema_json desc) table desc }
+    ensures titled { (doc : JsonValue) (table : List Entry) (desc : Descriptor) (name : List ℕ)
+        → IsWritten doc table desc → IsCounted doc (schema_json_titled name desc)
+        → AdmitsDenoted doc (schema_json_titled name desc) table desc }
+    ensures described { (doc : JsonValue) (table : List Entry) (desc : Descriptor) (text : Option (List ℕ))
+        → IsWritten doc table desc → IsCounted doc (schema_json_described text desc)
+        → AdmitsDenoted doc (schema_json_described text desc) table desc }
+{}
+
+/// A written document admits a request exactly where its body's JSON denotes a tree.
+pub fn bodies_agree()
+    ensures { (document : Document) (path method name : List ℕ) (table : List Entry) (desc : Descriptor)
+        → TakesJson document path method name desc → IsWritten (open_api_json document) table desc
+        → IsCounted (open_api_json document) (schema_json_titled name desc)
+        → (request : Request) (json : JsonValue) → Reads request.body json → IsSound json
+        → Admits (open_api_json document) path method request
+        ↔ ((tree : Value) × JsonDenotes table desc json tree) }
+{}
+
+/// Steps are never spent: more of them tell the same of a table that passes its checks, and admit the same in a document.
+pub fn steps_suffice()
+    ensures told { (table : List Entry) (desc : Descriptor) → TablePasses table → DescPasses table desc
+        → (json : JsonValue) (steps : ℕ) → steps_of_table table desc ≤ steps
+        → told_within table steps json steps desc ≡ told table desc json desc }
+    ensures admitted { (doc : JsonValue) (table : List Entry) (desc : Descriptor) → IsWritten doc table desc
+        → IsCounted doc (schema_json desc) → (json : JsonValue) → IsSound json → (steps : ℕ)
+        → room doc (schema_json desc) ≤ steps
+        → admits_within doc steps json steps (schema_json desc) ≡ admits_within doc
+        (room doc (schema_json desc)) json (room doc (schema_json desc)) (schema_json desc) }
+{}
+
+/// What is written for a value of a descriptor is sound JSON, denotes a value, and is admitted by the descriptor's schema; it denotes the very value where no untagged union is reached.
+pub fn encodings_agree()
+    ensures sound { (table : List Entry) (desc : Descriptor) (tree : Value) → TablePasses table
+        → DescPasses table desc → Fits table desc tree → IsSound (json_of_tree table desc tree) }
+    ensures denotes { (table : List Entry) (desc : Descriptor) (tree : Value) → TablePasses table
+        → DescPasses table desc → Fits table desc tree
+        → (read : Value) × JsonDenotes table desc (json_of_tree table desc tree) read }
+    ensures admitted { (doc : JsonValue) (table : List Entry) (desc : Descriptor) (tree : Value)
+        → IsWritten doc table desc → IsCounted doc (schema_json desc) → Fits table desc tree
+        → JsonAdmits doc (schema_json desc) (json_of_tree table desc tree) }
+    ensures again { (table : List Entry) (desc : Descriptor) (tree : Value) → TablePasses table
+        → DescPasses table desc → Fits table desc tree → ReachesNoUntagged table desc
+        → JsonDenotes table desc (json_of_tree table desc tree) tree }
+{}

@@ -1,0 +1,10 @@
+//! The schemas of descriptors in documents: how they are written, and what they admit.
+#![tactic(auto)]
+
+mod laws;
+#[cfg(test)]
+mod tests;
+mod writing;
+
+pub use laws::{bodies_agree, encodings_agree, schemas_agree, steps_suffice};
+pub use writing::{definition_schema, titled_schema};
