@@ -1,0 +1,40 @@
+-- Endpoints that are accepted one after the other.
+use Rattle.std.proofs.Common.{◌≡◌, ℕ, ◌<◌, Bool, true, false, List, [], ◌∷◌, ◌++◌, Some, length, take, drop, get_or, suc, subst, sym, ap, ◌∙◌, append_assoc, inl, inr}
+use Rattle.std.specs.Prelude.{if◌then◌else◌}
+use Rattle.std.proofs.lemmas.List.{append-nil, take-append-drop}
+use Rattle.std.proofs.Math.Seq.{drop-cons}
+use Rattle.semver.specs.Parse.{Parts}
+use Rattle.api_description.specs.declared.endpoint.ApiEndpoint.{ApiEndpoint}
+use Rattle.api_description.specs.declared.register.ApiDescriptionRegisterError.{ApiDescriptionRegisterError}
+use Rattle.api_description.specs.Endpoints.{Meanings, shape_at, serves, endpoint_for}
+use Rattle.api_description.specs.Registering.{AreAccepted, RefusedBy, SomeRefused}
+use Rattle.api_description.specs.Replies.{ShapePasses}
+
+-- a list at the item behind a front of it
+pub behind_front : {A : Type 0} (all front : List A) (x : A) → front ≡ take (length front) all → length front < length all → x ≡ get_or all (length front) x
+    → all ≡ front ++ x ∷ drop (suc (length front)) all
+behind_front all front x is inside at =
+    sym (take-append-drop (length front) all)
+    ∙ ap (λ xs. take (length front) all ++ xs) (drop-cons all (length front) x inside ∙ ap (λ y. y ∷ drop (suc (length front)) all) (sym at))
+    ∙ ap (λ xs. xs ++ x ∷ drop (suc (length front)) all) (sym is)
+
+module _ {X : Type 0} {F : X → Type 0} (m : Meanings X F) where
+  -- one that is refused
+  pub refused-behind : (before es : List (ApiEndpoint X F)) (e : ApiEndpoint X F) (rest : List (ApiEndpoint X F)) (error : ApiDescriptionRegisterError)
+      → AreAccepted m before es → RefusedBy m (before ++ es) e error → SomeRefused m before (es ++ e ∷ rest) error
+  refused-behind before [] e rest error accepted refused = inl (subst (λ (xs : List (ApiEndpoint X F)). RefusedBy m xs e error) (append-nil before) refused)
+  refused-behind before (x ∷ es) e rest error accepted refused = inr (
+    accepted.0,
+    refused-behind (before ++ x ∷ []) es e rest error accepted.1 (subst (λ (xs : List (ApiEndpoint X F)). RefusedBy m xs e error) (sym (append_assoc before (x ∷ []) es)) refused),
+  )
+
+  -- the shape of an endpoint that is found among them
+  pub found_passes : (version : Parts) (method path : List ℕ) (before es : List (ApiEndpoint X F)) (e : ApiEndpoint X F)
+      → AreAccepted m before es → endpoint_for version method path es ≡ Some e → ShapePasses (shape_at m e)
+  found_passes version method path before [] e accepted found = absurd (cc found)
+  found_passes version method path before (x ∷ es) e accepted found =
+      elim (serves version method path x)
+      as (λ (here : Bool). (if here then Some x else endpoint_for version method path es) ≡ Some e → ShapePasses (shape_at m e)) [
+        | true ↦ λ is. subst (λ (y : ApiEndpoint X F). ShapePasses (shape_at m y)) (cc is) accepted.0.passes
+        | false ↦ λ is. found_passes version method path (before ++ x ∷ []) es e accepted.1 is
+      ] found

@@ -1,0 +1,159 @@
+-- The schemas of components, by their names: those of the definitions that an operation's schemas reach.
+use Rattle.std.proofs.Common.{◌≡◌, ℕ, List, [], ◌∷◌, ◌++◌, length, map, filter, fold, Bool, true, false, cond, Option, Some, None, is_some, option_map, bytes_eq, refl, sym, ◌∙◌, ap, append-nil}
+use Rattle.std.specs.Prelude.{find}
+use Rattle.std.specs.declared.cmp.Ordering.{Ordering}
+use Rattle.std.specs.declared.cmp.Ordering.TheVariants.{Less, Equal, Greater}
+use Rattle.std.specs.BTreeMap.{insert_entry, is_at}
+use Rattle.std.specs.Map.{lookup}
+use Rattle.std.specs.Option.{option_or}
+use Rattle.std.specs.Ordering.{is_eq, match_ordering}
+use Rattle.std.proofs.lemmas.Cmp.{nat_list_cmp_total, tied_itself}
+use Rattle.std.proofs.lemmas.Map.Text.{is_eq-slice_cmp}
+use Rattle.std.proofs.lemmas.Slice.Eq.{bytes_eq-Decides}
+use Rattle.schema_values.specs.declared.json_value.Json.{Json}
+use Rattle.semver.specs.Parse.{Parts}
+use Rattle.typed_values.specs.declared.table.Definition.{Definition}
+use Rattle.typed_values.specs.Definitions.{entry_of}
+use Rattle.typed_values.specs.SchemaTable.{schema_json_described}
+use Rattle.openapi_values.specs.Find.{value_at}
+use Rattle.openapi_values.proofs.Words.{same_test}
+use Rattle.api_description.specs.declared.endpoint.ApiEndpoint.{ApiEndpoint}
+use Rattle.api_description.specs.Documents.{text_order, is_among, reached_within, roots_of, reached_definitions, schema_entry, schema_entries, with_entry, by_name, components_of}
+use Rattle.api_description.specs.Endpoints.{Meanings, shape_at}
+use Rattle.api_description.specs.Versions.{holds}
+use Rattle.api_description.proofs.Among.{same_text}
+
+swapped_test : (a b : List ℕ) → bytes_eq a b ≡ bytes_eq b a
+swapped_test a b = same_test _ _ (a ≡ b) (bytes_eq-Decides a b).0 (bytes_eq-Decides a b).1 (λ h. sym ((bytes_eq-Decides b a).0 h)) (λ e. (bytes_eq-Decides b a).1 (sym e))
+
+either_way : {X : Type 0} (b : Bool) (o : Option X) → o ≡ cond b o o
+either_way true o = refl
+either_way false o = refl
+
+-- ---- the value of a name, among entries by names
+
+-- a name is not that of two entries in order
+not_both : (name k l : List ℕ) → text_order k l ≡ Greater → is_at (text_order name) l ≡ true → is_at (text_order name) k ≡ true → ⊥
+not_both name k l e f g =
+    let tied : text_order k k ≡ Equal = tied_itself nat_list_cmp_total k in
+    let same : k ≡ l = sym (same_text name k g) ∙ same_text name l f in
+    let greater : text_order k k ≡ Greater = ap (text_order k) same ∙ e in
+    absurd (cc)
+
+module _ {X : Type 0} where
+  set_again : (b : Bool) (x y o : Option X) → cond b x o ≡ cond b x (cond b y o)
+  set_again true x y o = refl
+  set_again false x y o = refl
+
+  swapped : (a b : Bool) (x y o : Option X) → (a ≡ true → b ≡ true → ⊥) → cond a x (cond b y o) ≡ cond b y (cond a x o)
+  swapped true true x y o h = absurd (h refl refl)
+  swapped true false x y o h = refl
+  swapped false true x y o h = refl
+  swapped false false x y o h = refl
+
+  or_none : (o : Option X) → o ≡ option_or o None
+  or_none None = refl
+  or_none (Some x) = refl
+
+  or_kept : (o p : Option X) → is_some o ≡ true → o ≡ option_or o p
+  or_kept None p h = absurd (cc h)
+  or_kept (Some x) p h = refl
+
+  or_taken : (o p : Option X) → is_some o ≡ false → p ≡ option_or o p
+  or_taken None p h = refl
+  or_taken (Some x) p h = absurd (cc h)
+
+  or_assoc : (o p : Option X) (b : Bool) (x : X) → option_or (option_or o (cond b (Some x) None)) p ≡ option_or o (cond b (Some x) p)
+  or_assoc (Some y) p b x = refl
+  or_assoc None p true x = refl
+  or_assoc None p false x = refl
+
+module _ {X : Type 0} (name : List ℕ) where
+  abbrev found : List (List ℕ × X) → Option X
+  found entries = lookup (is_at (text_order name)) entries
+
+  value_found : (entries : List (List ℕ × X)) → value_at name entries ≡ found entries
+  value_found [] = refl
+  value_found (entry ∷ entries) = rw (is_eq-slice_cmp name entry.0) (by_test (bytes_eq name entry.0) (find (λ pair. bytes_eq name pair.0) entries) (value_found entries))
+    where
+      by_test : (b : Bool) (o : Option (List ℕ × X)) → option_map (λ pair. pair.1) o ≡ found entries → option_map (λ pair. pair.1) (cond b (Some entry) o) ≡ cond b (Some entry.1) (found entries)
+      by_test true o h = refl
+      by_test false o h = h
+
+  found_inserted : (k : List ℕ) (v : X) (entries : List (List ℕ × X)) → found (insert_entry text_order entries k v) ≡ cond (is_at (text_order name) k) (Some v) (found entries)
+  found_inserted k v [] = refl
+  found_inserted k v (first ∷ rest) = by_order (text_order k first.0) refl (found_inserted k v rest)
+    where
+      by_order : (o : Ordering) → text_order k first.0 ≡ o → found (insert_entry text_order rest k v) ≡ cond (is_at (text_order name) k) (Some v) (found rest)
+          → found (match_ordering o ((k, v) ∷ first ∷ rest) ((first.0, v) ∷ rest) (first ∷ insert_entry text_order rest k v)) ≡ cond (is_at (text_order name) k) (Some v) (found (first ∷ rest))
+      by_order Less e h = refl
+      by_order Equal e h =
+          set_again (is_at (text_order name) first.0) (Some v) (Some first.1) (found rest)
+          ∙ ap (λ (l : List ℕ). cond (is_at (text_order name) l) (Some v) (found (first ∷ rest))) (sym (same_text k first.0 (ap is_eq e)))
+      by_order Greater e h =
+          ap (λ (o : Option X). cond (is_at (text_order name) first.0) (Some first.1) o) h
+          ∙ swapped (is_at (text_order name) first.0) (is_at (text_order name) k) (Some first.1) (Some v) (found rest) (not_both name k first.0 e)
+
+  found_with : (entries : List (List ℕ × X)) (x : List ℕ × X) → found (with_entry entries x) ≡ option_or (found entries) (cond (is_at (text_order name) x.0) (Some x.1) None)
+  found_with entries x = by_tests (is_some (lookup (is_at (text_order x.0)) entries)) (is_at (text_order name) x.0) refl refl
+    where
+      same_entries : is_at (text_order name) x.0 ≡ true → is_some (found entries) ≡ is_some (lookup (is_at (text_order x.0)) entries)
+      same_entries f = ap (λ (l : List ℕ). is_some (lookup (is_at (text_order l)) entries)) (same_text name x.0 f)
+
+      by_tests : (b c : Bool) → is_some (lookup (is_at (text_order x.0)) entries) ≡ b → is_at (text_order name) x.0 ≡ c
+          → found (cond b entries (insert_entry text_order entries x.0 x.1)) ≡ option_or (found entries) (cond c (Some x.1) None)
+      by_tests true true e f = or_kept (found entries) (Some x.1) (same_entries f ∙ e)
+      by_tests true false e f = or_none (found entries)
+      by_tests false true e f =
+          found_inserted x.0 x.1 entries ∙ ap (λ (c : Bool). cond c (Some x.1) (found entries)) f ∙ or_taken (found entries) (Some x.1) (same_entries f ∙ e)
+      by_tests false false e f = found_inserted x.0 x.1 entries ∙ ap (λ (c : Bool). cond c (Some x.1) (found entries)) f ∙ or_none (found entries)
+
+  -- the first of a name stands
+  found_all : (xs entries : List (List ℕ × X)) → found (fold with_entry entries xs) ≡ option_or (found entries) (found xs)
+  found_all [] entries = or_none (found entries)
+  found_all (x ∷ xs) entries =
+      found_all xs (with_entry entries x)
+      ∙ ap (λ (o : Option X). option_or o (found xs)) (found_with entries x)
+      ∙ or_assoc (found entries) (found xs) (is_at (text_order name) x.0) x.1
+
+-- ---- the definitions that are reached
+
+schema_of : Definition → Json
+schema_of e = schema_json_described e.description e.desc
+
+module _ (name : List ℕ) (q : List ℕ → Bool) where
+  found_filtered : (es : List Definition) → found name (map schema_entry (filter (λ e. q e.name) es)) ≡ cond (q name) (option_map schema_of (entry_of es name)) None
+  unfolding schema_of
+  found_filtered [] = either_way (q name) None
+  found_filtered (e ∷ es) = by_tests (q e.name) (bytes_eq e.name name) refl refl (found_filtered es)
+    where
+      by_tests : (b c : Bool) → q e.name ≡ b → bytes_eq e.name name ≡ c
+          → found name (map schema_entry (filter (λ e. q e.name) es)) ≡ cond (q name) (option_map schema_of (entry_of es name)) None
+          → found name (map schema_entry (cond b (e ∷ filter (λ e. q e.name) es) (filter (λ e. q e.name) es))) ≡ cond (q name) (option_map schema_of (cond c (Some e) (entry_of es name))) None
+      by_tests true true f g h =
+          let here : q name ≡ true = ap q (sym ((bytes_eq-Decides e.name name).0 g)) ∙ f in
+          ap (λ (b : Bool). cond b (Some (schema_of e)) (found name (map schema_entry (filter (λ e. q e.name) es)))) (is_eq-slice_cmp name e.name ∙ swapped_test name e.name ∙ g)
+          ∙ sym (ap (λ (b : Bool). cond b (Some (schema_of e)) None) here)
+      by_tests true false f g h =
+          ap (λ (b : Bool). cond b (Some (schema_of e)) (found name (map schema_entry (filter (λ e. q e.name) es)))) (is_eq-slice_cmp name e.name ∙ swapped_test name e.name ∙ g)
+          ∙ h
+      by_tests false true f g h =
+          let here : q name ≡ false = ap q (sym ((bytes_eq-Decides e.name name).0 g)) ∙ f in
+          h ∙ ap (λ (b : Bool). cond b (option_map schema_of (entry_of es name)) None) here ∙ sym (ap (λ (b : Bool). cond b (Some (schema_of e)) None) here)
+      by_tests false false f g h = h
+
+module _ {X : Type 0} {F : X → Type 0} (m : Meanings X F) (version : Parts) where
+  -- the schemas of the definitions that the only endpoint reaches stand under their names
+  pub schema_found : (e : ApiEndpoint X F) (name : List ℕ) (d : Definition) → holds e.versions version ≡ true
+      → is_among name (reached_within (shape_at m e).table (roots_of (shape_at m e)) (length (shape_at m e).table)) ≡ true
+      → entry_of (shape_at m e).table name ≡ Some d → value_at name (components_of m version (e ∷ [])).schemas ≡ Some (schema_json_described d.description d.desc)
+  unfolding schema_of
+  schema_found e name d held reached is =
+      let schemas = map schema_entry (reached_definitions (shape_at m e)) in
+      ap (λ (b : Bool). value_at name (by_name (schema_entries m (cond b (e ∷ []) [])))) held
+      ∙ value_found name (by_name (schemas ++ []))
+      ∙ found_all name (schemas ++ []) []
+      ∙ ap (found name) (append-nil schemas)
+      ∙ found_filtered name (λ other. is_among other (reached_within (shape_at m e).table (roots_of (shape_at m e)) (length (shape_at m e).table))) (shape_at m e).table
+      ∙ ap (λ (b : Bool). cond b (option_map schema_of (entry_of (shape_at m e).table name)) None) reached
+      ∙ ap (option_map schema_of) is

@@ -1,0 +1,23 @@
+mod StoreLemmas
+mod TableLemmas
+mod TemplateLemmas
+pub mod Arguments
+pub mod Accepted
+pub mod ArgumentsFit
+pub mod TextBytes
+pub mod NamedAnswers
+mod Among
+pub mod References
+pub mod Reaching
+pub mod Characters
+pub mod Listed
+mod Growing
+mod Covered
+mod Components
+mod DocumentParts
+mod SpelledTexts
+mod SpelledTokens
+mod SoundReadings
+pub mod Agreed
+pub mod Followed
+pub mod Printed

@@ -1,0 +1,55 @@
+-- Names that are reached: once a step adds none, none is added later.
+use Rattle.std.proofs.Common.{◌≡◌, ℕ, zero, suc, ◌+◌, ◌-◌, ◌≤◌, List, [], ◌∷◌, length, refl, sym, ◌∙◌, ap, arith, ◌⊎◌, inl, inr}
+use Rattle.std.specs.BTreeSet.{insert_key}
+use Rattle.std.specs.Ordering.{match_ordering}
+use Rattle.std.specs.declared.cmp.Ordering.TheVariants.{Less, Equal, Greater}
+use Rattle.typed_values.specs.declared.table.Definition.{Definition}
+use Rattle.api_description.specs.Documents.{text_order, with_texts, referred_by, reached_within}
+
+-- a text that is added makes the list longer, or was there
+Adds : List (List ℕ) → List (List ℕ) → Type 0
+Adds more texts = (more ≡ texts) ⊎ (length more ≡ suc (length texts))
+
+adds_later : (first : List ℕ) (rest more : List (List ℕ)) → Adds more rest → Adds (first ∷ more) (first ∷ rest)
+unfolding Adds
+adds_later first rest more (inl e) = inl (ap (λ texts. first ∷ texts) e)
+adds_later first rest more (inr e) = inr (ap suc e)
+
+text_added : (texts : List (List ℕ)) (text : List ℕ) → Adds (insert_key text_order texts text) texts
+unfolding Adds
+text_added [] text = inr refl
+text_added (first ∷ rest) text =
+    elim (text_order text first) as (λ order. Adds (match_ordering order (text ∷ first ∷ rest) (first ∷ rest) (first ∷ insert_key text_order rest text)) (first ∷ rest))
+    [ Less ↦ inr refl | Equal ↦ inl refl | Greater ↦ adds_later first rest (insert_key text_order rest text) (text_added rest text) ]
+
+no_shorter : (more texts : List (List ℕ)) → length texts ≤ length (with_texts texts more)
+unfolding Adds
+no_shorter [] texts = omega arith
+no_shorter (text ∷ more) texts =
+    let added = text_added texts text in
+    let rest = no_shorter more (insert_key text_order texts text) in
+    elim added [ inl e ↦ omega (arith, rest, ap length e) | inr e ↦ omega (arith, rest, e) ]
+
+-- where the list is as long as before, it is as before
+pub same_length : (more texts : List (List ℕ)) → length (with_texts texts more) ≡ length texts → with_texts texts more ≡ texts
+unfolding Adds
+same_length [] texts e = refl
+same_length (text ∷ more) texts e =
+    let rest = no_shorter more (insert_key text_order texts text) in
+    elim (text_added texts text) [
+      | inl same ↦ same_length more (insert_key text_order texts text) (e ∙ ap length (sym same)) ∙ same
+      | inr longer ↦ absurd (omega (arith, rest, e, longer))
+    ]
+
+module _ (table : List Definition) (roots : List (List ℕ)) where
+  reached_later : (n : ℕ) → reached_within table roots (suc n) ≡ reached_within table roots n → (k m : ℕ) → m ≡ k + n → reached_within table roots m ≡ reached_within table roots n
+  reached_later n same zero m e = let q : m ≡ n = omega (arith, e) in ap (reached_within table roots) q
+  reached_later n same (suc k) m e =
+      let q : m ≡ suc (k + n) = omega (arith, e) in
+      ap (reached_within table roots) q
+      ∙ ap (λ (names : List (List ℕ)). with_texts names (referred_by names table)) (reached_later n same k (k + n) refl)
+      ∙ same
+
+  -- once a step adds none, all are there
+  pub all_reached : (n m : ℕ) → n ≤ m → reached_within table roots (suc n) ≡ reached_within table roots n → reached_within table roots m ≡ reached_within table roots (suc n)
+  all_reached n m le same = let q : m ≡ (m - n) + n = omega (arith, le) in reached_later n same (m - n) m q ∙ sym same

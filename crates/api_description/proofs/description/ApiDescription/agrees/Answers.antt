@@ -1,0 +1,23 @@
+use Rattle.std.proofs.Common.{[], refl}
+use Rattle.semver.specs.Identifiers.{parts_of}
+use Rattle.api_description.specs.Documents.{document_of}
+use Rattle.api_description.proofs.Agreed.{request_agrees}
+use Rattle.api_description.proofs.Followed.{answers_follow}
+use Rattle.api_description.proofs.Listed.{is_listed, accepted_methods}
+use Rattle.api_description.proofs.description.ApiDescription.agrees.Goals as goal
+
+pub returns-clause-listed : goal.returns-clause-listed
+returns-clause-listed g c = λ title version.
+    is_listed (λ e. goal.RouteHandler-dyn g (e.handler.vtable, e.handler.value)) version c.args.self.now.endpoints.items title
+    (accepted_methods (λ e. goal.RouteHandler-dyn g (e.handler.vtable, e.handler.value)) [] c.args.self.now.endpoints.items c.requires)
+
+pub returns-clause-agreed : goal.returns-clause-agreed
+returns-clause-agreed g c = λ title version counted request body asked.
+    request_agrees (λ e. goal.RouteHandler-dyn g (e.handler.vtable, e.handler.value)) title version request body asked c.args.self.now.endpoints.items c.requires counted
+
+pub returns-clause-followed : goal.returns-clause-followed
+returns-clause-followed g c = λ title config request body before outcome after counted.
+    answers_follow (λ e. goal.RouteHandler-dyn g (e.handler.vtable, e.handler.value)) config (parts_of request.version) c.args.self.now.endpoints.items
+    (document_of (λ e. goal.RouteHandler-dyn g (e.handler.vtable, e.handler.value)) c.args.self.now.endpoints.items title (parts_of request.version))
+    (λ other bytes asked. request_agrees (λ e. goal.RouteHandler-dyn g (e.handler.vtable, e.handler.value)) title (parts_of request.version) other bytes asked c.args.self.now.endpoints.items c.requires counted)
+    request body refl before after outcome

@@ -1,0 +1,37 @@
+use Rattle.std.proofs.Common.{[], refl, sym, ◌∙◌}
+use Rattle.semver.specs.Identifiers.{parts_of}
+use Rattle.api_description.specs.Templates.{trimmed}
+use Rattle.api_description.proofs.Accepted.{found_passes}
+use Rattle.api_description.proofs.NamedAnswers.{has_id, named_by-bytes, named_answers}
+use Rattle.api_description.proofs.TextBytes.{text_bytes}
+use Rattle.api_description.proofs.description.ApiDescription.exchange.Goals as goal
+
+pub returns-in-Err-BadRequestId : goal.returns-in-Err-BadRequestId
+returns-in-Err-BadRequestId g c =
+    let bytes = text_bytes c.args.request.now.request_id c.as_str.result.now c.as_str.utf8 c.as_str.ensures in
+    let refused = rw c.in-Err-BadRequestId.field-0-is at c.in-Err-BadRequestId.ensures in
+    (λ id. refused.bad.0 refl (rw bytes at id), refl)
+
+pub answer-requires-clause-shape : goal.answer-requires-clause-shape
+answer-requires-clause-shape g c =
+    let found = rw (c.endpoints.ensures, c.without_trailing_slash-path.ensures) at c.in-Some.ensures in
+    found_passes (λ e. goal.RouteHandler-dyn g (e.handler.vtable, e.handler.value)) (parts_of c.args.request.now.version) c.as_str-method.result.now
+    (trimmed c.as_str-2.result.now) [] c.args.self.now.endpoints.items c.in-Some.endpoint.now c.requires (sym found)
+
+pub returns-in-Some : goal.returns-in-Some
+returns-in-Some g c =
+    let request = c.args.request.now in
+    let endpoints = c.args.self.now.endpoints.items in
+    let id = has_id request c.as_str.result.now c.as_str.utf8 c.as_str.ensures c.in-Ok.ensures.valid in
+    let named = named_by-bytes endpoints request c.as_str-method.result.now c.as_str-2.result.now (c.as_str-method.ensures.value ∙ c.method.ensures) c.as_str-2.utf8 c.as_str-2.ensures in
+    let found = rw (c.endpoints.ensures, c.without_trailing_slash-path.ensures) at c.in-Some.ensures in
+    named_answers endpoints request (λ e. goal.RouteHandler-dyn g (e.handler.vtable, e.handler.value)) c.args.config.now c.args.body.now c.args.store.now
+    c.in-Some.endpoint.now c.answer.result c.answer.new.store id (sym (found ∙ named)) c.answer.ensures
+
+pub returns-in-None : goal.returns-in-None
+returns-in-None g c =
+    let request = c.args.request.now in
+    let id = has_id request c.as_str.result.now c.as_str.utf8 c.as_str.ensures c.in-Ok.ensures.valid in
+    let named = named_by-bytes c.args.self.now.endpoints.items request c.as_str-method.result.now c.as_str-2.result.now (c.as_str-method.ensures.value ∙ c.method.ensures) c.as_str-2.utf8 c.as_str-2.ensures in
+    let found = rw (c.endpoints.ensures, c.without_trailing_slash-path.ensures) at c.in-None.ensures in
+    (id, sym (found ∙ named), refl)

@@ -1,0 +1,31 @@
+use Rattle.std.proofs.Common.{◌≡◌, [], length, map-id, ap, sym, ◌∙◌, subst, Err}
+use Rattle.std.proofs.lemmas.Result.{err_from_is_err_and}
+use Rattle.std.proofs.lemmas.Iterator.Adapters.{YieldsList-from_vec}
+use Rattle.std.proofs.lemmas.Iterator.Consumers.{YieldsList-so_far, YieldsList-turn, YieldsList-end}
+use Rattle.api_description.specs.declared.description.RegisterError.TheVariants.{Refused}
+use Rattle.api_description.specs.Registering.{AreAccepted, RefusedBy, SomeRefused}
+use Rattle.api_description.proofs.Accepted.{behind_front, refused-behind}
+use Rattle.api_description.proofs.description.ApiDescription.of_endpoints.Goals as goal
+
+pub returns-in_err-register-clause-refused : goal.returns-in_err-register-clause-refused
+returns-in_err-register-clause-refused g c error is =
+    let p = err_from_is_err_and c.from_residual.result c.from_residual.ensures.1 in
+    let same : c.in_err-register.field-0.0 ≡ Refused error = cc (p.1, p.2) in
+    let all = c.args.endpoints.items in
+    let so_far = c.loop-endpoint.yielded in
+    let it = c.into_iter-endpoint-iterator in
+    let road = YieldsList-from_vec all it.ensures.into_iter_gives.0 (it.result.rest.ok.0 ∙ ap length it.ensures.into_iter_gives.0) in
+    let front = sym (map-id so_far) ∙ YieldsList-so_far road so_far c.loop-endpoint.endpoint-iterator c.loop-endpoint.yielded_by in
+    let turn = YieldsList-turn road so_far c.loop-endpoint.endpoint-iterator c.loop-endpoint.yielded_by c.next.result c.next.new.self c.in-Some.endpoint c.in-Some.is c.next.ensures.steps in
+    let place = behind_front all so_far c.in-Some.endpoint front turn.0 turn.1 in
+    let refused = c.in_err-register.ensures.refused error (ap Err same) in
+    subst (λ es. SomeRefused (λ e. goal.RouteHandler-dyn g (e.handler.vtable, e.handler.value)) [] es error) (sym place)
+    (refused-behind _ [] so_far c.in-Some.endpoint _ error c.loop-endpoint.invariant.accepted
+    (subst (λ es. RefusedBy (λ e. goal.RouteHandler-dyn g (e.handler.vtable, e.handler.value)) es c.in-Some.endpoint error) c.loop-endpoint.invariant.registered refused))
+
+pub returns-clause-accepted : goal.returns-clause-accepted
+returns-clause-accepted g c =
+    let it = c.into_iter-endpoint-iterator in
+    let road = YieldsList-from_vec c.args.endpoints.items it.ensures.into_iter_gives.0 (it.result.rest.ok.0 ∙ ap length it.ensures.into_iter_gives.0) in
+    let ended = YieldsList-end road c.loop-endpoint.yielded c.loop-endpoint.endpoint-iterator c.loop-endpoint.yielded_by c.next.result c.next.new.self c.in-None.is c.next.ensures.steps in
+    subst (λ es. AreAccepted (λ e. goal.RouteHandler-dyn g (e.handler.vtable, e.handler.value)) [] es) (sym (map-id c.loop-endpoint.yielded) ∙ ended.0) c.loop-endpoint.invariant.accepted

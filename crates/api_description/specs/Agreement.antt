@@ -1,0 +1,55 @@
+-- What the document of endpoints says of requests.
+use Rattle.std.specs.Prelude.{◌≡◌, ◌↔◌, ℕ, ⊤, List, Some, option_map}
+use Rattle.std.specs.declared.result.Result.{Result}
+use Rattle.std.specs.declared.result.Result.TheVariants.{Ok, Err}
+use Rattle.std.specs.Str.{encode_utf8_all}
+use Rattle.schema_values.specs.declared.json_value.Json.{Json}
+use Rattle.openapi_values.specs.Admits.{operation_at as listed_at, Admits}
+use Rattle.openapi_values.specs.Operation.{operation_json}
+use Rattle.semver.specs.Identifiers.{parts_of}
+use Rattle.semver.specs.Parse.{Parts}
+use Rattle.written_schemas.specs.Counted.{IsCounted}
+use Rattle.api_description.specs.declared.api_extract.request.RequestParts.{RequestParts}
+use Rattle.api_description.specs.declared.api_extract.slot.Arg.{Arg}
+use Rattle.api_description.specs.declared.endpoint.ApiEndpoint.{ApiEndpoint}
+use Rattle.api_description.specs.declared.exchange.Exchange.{Exchange}
+use Rattle.api_description.specs.declared.exchange.Exchange.TheVariants.{Handled, Refused}
+use Rattle.api_description.specs.declared.exchange.ExchangeError.{ExchangeError}
+use Rattle.api_description.specs.declared.exchange.ExchangeError.TheVariants.{BadRequestId, NoSuchOperation, OutOfMemory}
+use Rattle.api_description.specs.Documents.{operation_of}
+use Rattle.api_description.specs.Endpoints.{Meanings, shape_at, endpoint_for}
+use Rattle.api_description.specs.Exchanges.{named_by}
+use Rattle.api_description.specs.Requests.{ArgsDenoted}
+use Rattle.api_description.specs.Templates.{trimmed}
+
+-- at each path and method the document has the operation of the endpoint that serves them at the version, or none where none does
+abbrev pub IsListed : {X : Type 0} {F : X → Type 0} → Meanings X F → Parts → List (ApiEndpoint X F) → Json → Type 0
+IsListed m version endpoints document = (path method : List ℕ)
+    → listed_at document path method ≡ option_map (λ e. operation_json (operation_of m e)) (endpoint_for version method (encode_utf8_all path) endpoints)
+
+-- a request with this body names an endpoint, and denotes arguments of its handler
+abbrev pub IsTaken : {X : Type 0} {F : X → Type 0} → Meanings X F → List (ApiEndpoint X F) → RequestParts → List ℕ → Type 0
+IsTaken m endpoints request body = (e : ApiEndpoint _ _) × (named_by request endpoints ≡ Some e)
+    × (args : List Arg) × ArgsDenoted (shape_at m e).table body (shape_at m e).slots args
+
+-- the document admits this request with this body, at its template without a slash at the end
+abbrev pub IsAdmitted : Json → RequestParts → List ℕ → Type 0
+IsAdmitted document request body = Admits document (trimmed request.template) request.info.method (record { body = body })
+
+-- the document admits a request of the version exactly where an endpoint takes it
+abbrev pub IsAgreed : {X : Type 0} {F : X → Type 0} → Meanings X F → Parts → List (ApiEndpoint X F) → Json → Type 0
+IsAgreed m version endpoints document = (request : RequestParts) (body : List ℕ) → parts_of request.version ≡ version
+    → IsAdmitted document request body ↔ IsTaken m endpoints request body
+
+-- A request is handled only where the document admits it, and is refused, or told that it names no operation, only
+-- where the document does not. A bad request id and want of memory say nothing of the document.
+abbrev pub FollowsDocument : Json → RequestParts → List ℕ → Result Exchange ExchangeError → Type 0
+FollowsDocument document request body (Ok (Handled args reply response)) = IsAdmitted document request body
+FollowsDocument document request body (Ok (Refused fault response)) = IsAdmitted document request body → ⊥
+FollowsDocument document request body (Err NoSuchOperation) = IsAdmitted document request body → ⊥
+FollowsDocument document request body (Err BadRequestId) = ⊤
+FollowsDocument document request body (Err OutOfMemory) = ⊤
+
+-- the JSON values of a document, counted twice, are fewer than 2^64-1
+abbrev pub IsCountedTwice : Json → Type 0
+IsCountedTwice document = IsCounted document document

@@ -1,0 +1,12 @@
+pub mod Responses
+pub mod Stores
+pub mod StoreView
+pub mod Requests
+pub mod Replies
+pub mod Templates
+pub mod Endpoints
+pub mod Registering
+pub mod Exchanges
+pub mod Documents
+pub mod Versions
+pub mod Agreement

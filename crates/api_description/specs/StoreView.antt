@@ -1,0 +1,10 @@
+-- What a table of a store shows of its map.
+use Rattle.std.specs.Prelude.{List, map, string_bytes}
+use Rattle.std.specs.declared.alloc.Global.{Global}
+use Rattle.std.specs.declared.string.String.{String}
+use Rattle.typed_values.specs.declared.tree.Tree.{Tree}
+use Rattle.api_description.specs.Stores.{Pairs}
+
+-- the pairs of the keys' bytes and the trees
+abbrev pub pairs_of_entries : List (String Global × Tree) → Pairs
+pairs_of_entries entries = map (λ entry. (string_bytes entry.0, entry.1)) entries
