@@ -1,0 +1,5 @@
+use Rattle.contract_tool.proofs.CloneLemmas.{parts_of-copied}
+use Rattle.contract_tool.proofs.request_line.request_of.Goals as goal
+
+pub returns-clause-version : goal.returns-clause-version
+returns-clause-version c = parts_of-copied c.args.version.now c.in_ok-clone.field-0 c.in_ok-clone.ensures.cases

@@ -1,0 +1,7 @@
+pub mod Codes
+pub mod Words
+pub mod RequestLines
+pub mod ReplyLines
+pub mod LineAnswers
+pub mod Sample
+pub mod Sessions

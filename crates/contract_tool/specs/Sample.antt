@@ -1,0 +1,70 @@
+-- The sample API: points, each stored under its label.
+use Rattle.std.specs.Prelude.{◌≡◌, ℕ, false, List, [], ◌∷◌, Option, Some, None, codes}
+use Rattle.std.specs.Str.{encode_utf8_all}
+use Rattle.typed_values.specs.declared.desc.Desc.{Desc, Bool, Int, Text, Struct, Ref}
+use Rattle.typed_values.specs.declared.desc.Field.{Field}
+use Rattle.typed_values.specs.declared.desc.IntKind.TheVariants.{I32}
+use Rattle.typed_values.specs.declared.desc.Presence.TheVariants.{Required}
+use Rattle.typed_values.specs.declared.table.Definition.{Definition}
+use Rattle.typed_values.specs.declared.tree.Tree.{Tree, out-Tree}
+use Rattle.typed_values.specs.declared.tree.Tree.TheOpen.{Tree-F}
+use Rattle.api_description.specs.declared.api_extract.slot.Arg.{Arg}
+use Rattle.api_description.specs.declared.api_extract.slot.Arg.TheVariants.{Tree as OfTree}
+use Rattle.api_description.specs.declared.api_extract.slot.Slot.TheVariants.{TypedBody}
+use Rattle.api_description.specs.declared.api_respond.reply.Reply.{Reply}
+use Rattle.api_description.specs.declared.api_respond.reply.Reply.TheVariants.{Success, Failure}
+use Rattle.api_description.specs.declared.api_respond.reply.Content.TheVariants.{Json as JsonContent}
+use Rattle.api_description.specs.declared.api_respond.reply.ErrorReply.TheVariants.{Http}
+use Rattle.api_description.specs.declared.api_respond.shape.ContentShape.TheVariants.{Json as JsonShape}
+use Rattle.api_description.specs.declared.api_respond.shape.HandlerShape.{HandlerShape}
+use Rattle.api_description.specs.Responses.{error_definition, internal_error}
+use Rattle.api_description.specs.Stores.{Tables, store_with}
+
+abbrev pub required : List ℕ → Desc → Field
+required name desc = record { name = name; desc = desc; presence = Required; description = None }
+
+-- a label of at least one character, a number and a truth value
+abbrev pub point_definition : Definition
+point_definition = record {
+  name = codes "Point";
+  description = None;
+  desc = Struct (required (codes "label") (Text (Some 1) None None)
+      ∷ required (codes "n") (Int I32 None None)
+      ∷ required (codes "on") Bool ∷ []) false;
+}
+
+-- a point is taken and, once stored, given back with 201
+abbrev pub point_shape : HandlerShape
+point_shape = record {
+  table = point_definition ∷ error_definition ∷ [];
+  slots = TypedBody (Ref (codes "Point")) (codes "Point") ∷ [];
+  response = record { content = JsonShape (Ref (codes "Point")) (codes "Point"); success = Some 201; description = codes "successful creation" };
+  error = Some (record { desc = Ref (codes "Error"); name = codes "Error" });
+}
+
+abbrev pub text_in : Tree-F Tree → Option (List ℕ)
+text_in (Tree-F.Text text) = Some text
+text_in _ = None
+
+abbrev pub first_text : List Tree → Option (List ℕ)
+first_text [] = None
+first_text (tree ∷ trees) = text_in (out-Tree tree)
+
+abbrev pub label_in : Tree-F Tree → Option (List ℕ)
+label_in (Tree-F.Fields trees) = first_text trees
+label_in _ = None
+
+-- the label of a point: the first of its fields
+abbrev pub label_of : Tree → Option (List ℕ)
+label_of tree = label_in (out-Tree tree)
+
+-- the point is stored under its label, and given back
+abbrev pub StoresPoint : Tree → Option (List ℕ) → Tables → Reply → Tables → Type 0
+StoresPoint tree (Some label) before reply after =
+    (reply ≡ Success (record { status = 201; content = JsonContent tree })) × (after ≡ store_with (codes "points") (encode_utf8_all label) tree before)
+StoresPoint tree None before reply after = (reply ≡ Failure (Http (internal_error (codes "a point has no label")))) × (after ≡ before)
+
+-- what the creation of a point replies, and which store it leaves
+abbrev pub CreatesPoint : List Arg → Tables → Reply → Tables → Type 0
+CreatesPoint (OfTree tree ∷ []) before reply after = StoresPoint tree (label_of tree) before reply after
+CreatesPoint _ before reply after = (reply ≡ Failure (Http (internal_error (codes "a point has no label")))) × (after ≡ before)

@@ -1,0 +1,86 @@
+-- What a run writes and leaves: a document, and a reply line for each request line.
+use Rattle.std.specs.Prelude.{ℕ, List, []}
+use Rattle.std.specs.declared.option.Option.{Option}
+use Rattle.std.specs.Str.{encode_utf8_all}
+use Rattle.line_session.specs.Session.{IsAnswered, IsDone, IsStopped, IsCut}
+use Rattle.line_session.specs.declared.serving.SessionEnd.{SessionEnd}
+use Rattle.line_session.specs.declared.serving.SessionEnd.TheVariants as ended
+use Rattle.semver.specs.Parse.{Parts}
+use Rattle.api_description.specs.declared.api_respond.handler.RouteHandler.{Ghosts}
+use Rattle.api_description.specs.declared.endpoint.ApiEndpoint.{ApiEndpoint}
+use Rattle.api_description.specs.Agreement.{FollowsDocument, IsAgreed, IsListed}
+use Rattle.api_description.specs.Documents.{document_of, document_text}
+use Rattle.api_description.specs.Endpoints.{Meanings}
+use Rattle.api_description.specs.Registering.{AreAccepted}
+use Rattle.api_description.specs.Stores.{Tables}
+use Rattle.std.specs.declared.alloc.Global.{Global}
+use Rattle.std.specs.declared.string.String.{String}
+use Rattle.contract_tool.specs.declared.config.ToolConfig.{ToolConfig}
+use Rattle.contract_tool.specs.declared.config.ToolStatus.{ToolStatus}
+use Rattle.contract_tool.specs.declared.config.ToolStatus.TheVariants.{Done, ReadFault, WriteFault, LineTooLong, TooMuchInput, OutOfMemory}
+use Rattle.contract_tool.specs.LineAnswers.{IsExchanged, LineAnswers}
+use Rattle.contract_tool.specs.Words.{AskForSession}
+
+-- the meanings of boxed handlers, of the meanings by what stands in a box beside the handler
+abbrev pub boxed : {X : Type 0} {F : X → Type 0} → ((x : X) → Ghosts (F x)) → Meanings X F
+boxed m e = m e.handler.vtable
+
+-- the text of the endpoints' document at a version
+abbrev pub front_of : {X : Type 0} {F : X → Type 0} → Meanings X F → ToolConfig → Parts → List (ApiEndpoint X F) → List ℕ
+front_of m config version endpoints = encode_utf8_all (document_text m endpoints config.title version)
+
+-- whatever line is answered, from whatever store, its request is handled only where the endpoints' document admits it,
+-- and refused, or told that it names no operation, only where the document does not
+abbrev pub FollowDocument : {X : Type 0} {F : X → Type 0} → Meanings X F → ToolConfig → Parts → List (ApiEndpoint X F) → Type 0
+FollowDocument m config version endpoints = (before : Tables) (line reply : List ℕ) (after : Tables) (exchanged : IsExchanged m config version endpoints before line reply after)
+    → FollowsDocument (document_of m endpoints config.title version) exchanged.request exchanged.body exchanged.outcome
+
+-- The words ask for a session of a version, and the endpoints are accepted. Their document lists them, and admits
+-- exactly the requests of the version that one of them takes; and what is answered follows the document.
+pub record IsOpened {X : Type 0} {F : X → Type 0} (m : Meanings X F) (config : ToolConfig) (version : Parts) (endpoints : List (ApiEndpoint X F)) (words : List (String Global)) : Type 0 where
+  pub asked : AskForSession words version
+  pub accepted : AreAccepted m [] endpoints
+  pub listed : IsListed m version endpoints (document_of m endpoints config.title version)
+  pub agreed : IsAgreed m version endpoints (document_of m endpoints config.title version)
+  pub followed : FollowDocument m config version endpoints
+
+-- the document, and then a reply to each line of all bytes, from the store before to the one after; nothing is left
+pub record IsSession {X : Type 0} {F : X → Type 0} (m : Meanings X F) (config : ToolConfig) (endpoints : List (ApiEndpoint X F)) (words : List (String Global))
+    (all written_before : List ℕ) (left_after taken_after : Option (List ℕ)) (before after : Tables) : Type 0 where
+  pub version : Parts
+  pub opened : IsOpened m config version endpoints words
+  pub answered : IsAnswered (LineAnswers m config version endpoints) (front_of m config version endpoints) all written_before left_after taken_after before after
+
+-- the source was read to its end, and each line of what was read answered in order behind the document
+pub record IsDoneSession {X : Type 0} {F : X → Type 0} (m : Meanings X F) (config : ToolConfig) (endpoints : List (ApiEndpoint X F)) (words : List (String Global))
+    (left_before left_after taken_before taken_after : Option (List ℕ)) (before after : Tables) : Type 0 where
+  pub version : Parts
+  pub opened : IsOpened m config version endpoints words
+  pub done : IsDone (LineAnswers m config version endpoints) (front_of m config version endpoints) config.most_input config.longest_line
+      left_before left_after taken_before taken_after before after
+
+-- the reading stopped by a cause; the lines that ended before it were answered
+pub record IsStoppedSession {X : Type 0} {F : X → Type 0} (m : Meanings X F) (config : ToolConfig) (endpoints : List (ApiEndpoint X F)) (words : List (String Global))
+    (left_before left_after taken_before taken_after : Option (List ℕ)) (before after : Tables)
+    (Cause : List (List ℕ) → List ℕ → List ℕ → Type 0) : Type 0 where
+  pub version : Parts
+  pub opened : IsOpened m config version endpoints words
+  pub stopped : IsStopped (LineAnswers m config version endpoints) (front_of m config version endpoints) config.most_input config.longest_line
+      left_before left_after taken_before taken_after before after Cause
+
+-- the writing stopped; what was written is a prefix of a session of some of the lines
+pub record IsCutSession {X : Type 0} {F : X → Type 0} (m : Meanings X F) (config : ToolConfig) (endpoints : List (ApiEndpoint X F)) (words : List (String Global))
+    (left_before left_after taken_before taken_after : Option (List ℕ)) (before after : Tables) : Type 0 where
+  pub version : Parts
+  pub opened : IsOpened m config version endpoints words
+  pub cut : IsCut (LineAnswers m config version endpoints) (front_of m config version endpoints) config.most_input config.longest_line
+      left_before left_after taken_before taken_after before after
+
+-- how a run ends whose session ends so
+abbrev pub status_of : SessionEnd → ToolStatus
+status_of ended.Done = Done
+status_of ended.ReadFault = ReadFault
+status_of ended.WriteFault = WriteFault
+status_of (ended.LineTooLong bytes) = LineTooLong bytes
+status_of (ended.TooMuchInput bytes) = TooMuchInput bytes
+status_of ended.OutOfMemory = OutOfMemory

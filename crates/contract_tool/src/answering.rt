@@ -1,0 +1,105 @@
+//! What answers the lines of a session: the endpoints of an API.
+ghost use Rattle.std.specs.Prelude.{◌≡◌, ◌⊎◌, ℕ, [], List as ListOf, IfOk, OnErr};
+ghost use Rattle.std.specs.Str.{encode_utf8_all};
+ghost use Rattle.semver.specs.Identifiers.{parts_of};
+ghost use Rattle.api_description.specs.Registering.{AreAccepted};
+ghost use Rattle.contract_tool.specs.LineAnswers.{LineAnswers, most_body};
+ghost use Rattle.contract_tool.specs.RequestLines.{AsksFor};
+ghost use Rattle.contract_tool.specs.Sessions.{boxed};
+
+use crate::config::ToolConfig;
+use crate::reply_line::{outcome_line, reply_line};
+use crate::request_line::{RequestLine, read_line};
+use api_description::ApiDescription;
+use api_description::api_extract::RequestParts;
+use api_description::api_respond::RouteHandler;
+use api_description::tree_store::Store;
+use line_session::Answering;
+use schema_values::{List, Text};
+use semver::Version;
+use std::alloc::{AllocError, Global};
+use std::marker::PhantomData;
+
+/// Answers request lines by the endpoints of an API, at one version.
+#[derive(Drop)]
+pub(crate) struct Desk<'a> {
+    pub api: &'a ApiDescription,
+    pub config: &'a ToolConfig,
+    pub version: &'a Version,
+    // so that the ghost members below may name what a boxed handler means
+    pub handlers: PhantomData<Box<dyn RouteHandler>>,
+}
+
+impl Answering for Desk<'_> {
+    ghost use Rattle.std.specs.Prelude.{[]};
+    ghost use Rattle.api_description.specs.Registering.{AreAccepted};
+    ghost use Rattle.contract_tool.specs.LineAnswers.{LineAnswers};
+    ghost use Rattle.semver.specs.Identifiers.{parts_of};
+
+    type State = Store;
+
+    ghost can_answer = { λ desk. AreAccepted
+        (λ e. RouteHandler-box e.handler) [] desk.api.now.endpoints.items };
+
+    ghost answers = { λ desk. LineAnswers
+        (λ e. RouteHandler-box e.handler) desk.config.now
+        (parts_of desk.version.now) desk.api.now.endpoints.items };
+
+    fn answer(
+        &self,
+        alloc: Global,
+        state: &mut Store,
+        line: &[u8],
+    ) -> Result<List<u8>, AllocError> {
+        answer_line(alloc, self.api, self.config, self.version, state, line)
+    }
+}
+
+fn answer_line(
+    alloc: Global,
+    api: &ApiDescription,
+    config: &ToolConfig,
+    version: &Version,
+    store: &mut Store,
+    line: &[u8],
+) -> Result<List<u8>, AllocError>
+    requires { AreAccepted (boxed ⟦<dyn RouteHandler as RouteHandler>⟧) [] api.now.endpoints.items }
+    ensures ok { IfOk result (λ reply. LineAnswers (boxed ⟦<dyn RouteHandler as RouteHandler>⟧)
+        config.now (parts_of version.now) api.now.endpoints.items store.old line.now reply store.new) }
+    ensures err { OnErr result ((store.new ≡ store.old)
+        ⊎ ((reply : ListOf ℕ) × LineAnswers (boxed ⟦<dyn RouteHandler as RouteHandler>⟧)
+        config.now (parts_of version.now) api.now.endpoints.items store.old line.now reply store.new)) }
+{
+    let most = config.server.default_request_body_max_bytes;
+    match read_line(alloc, line, version, most)? {
+        RequestLine::Bad => outcome_line(alloc, "bad-line"),
+        RequestLine::NotBuilt => outcome_line(alloc, "not-built"),
+        RequestLine::Request(request, body) => {
+            answer_request(alloc, api, config, version, store, line, &request, &body)
+        }
+    }
+}
+
+// Answers a line that asks for this request with this body.
+fn answer_request(
+    alloc: Global,
+    api: &ApiDescription,
+    config: &ToolConfig,
+    version: &Version,
+    store: &mut Store,
+    line: &[u8],
+    request: &RequestParts,
+    body: &Text,
+) -> Result<List<u8>, AllocError>
+    requires accepted { AreAccepted (boxed ⟦<dyn RouteHandler as RouteHandler>⟧) [] api.now.endpoints.items }
+    requires asks_for { AsksFor (most_body config.now) (parts_of version.now)
+        line.now request.now (encode_utf8_all body.now) }
+    ensures ok { IfOk result (λ reply. LineAnswers (boxed ⟦<dyn RouteHandler as RouteHandler>⟧)
+        config.now (parts_of version.now) api.now.endpoints.items store.old line.now reply store.new) }
+    ensures err { OnErr result ((store.new ≡ store.old)
+        ⊎ ((reply : ListOf ℕ) × LineAnswers (boxed ⟦<dyn RouteHandler as RouteHandler>⟧)
+        config.now (parts_of version.now) api.now.endpoints.items store.old line.now reply store.new)) }
+{
+    let outcome = api.exchange(alloc, store, request, body.as_bytes(), &config.server);
+    reply_line(alloc, &outcome)
+}

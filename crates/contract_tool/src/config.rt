@@ -1,0 +1,78 @@
+ghost use Rattle.std.specs.Prelude.{◌≡◌};
+ghost use Rattle.contract_tool.specs.Codes.{code_of};
+
+use api_description::ApiDescriptionRegisterError;
+use api_description::api_extract::ServerConfig;
+use schema_values::Text;
+use std::fmt;
+
+/// The title of documents, and the limits of a run.
+#[derive(Drop)]
+pub struct ToolConfig {
+    /// The title of documents.
+    pub title: Text,
+    /// The limits of the server.
+    pub server: ServerConfig,
+    /// The frames of a body.
+    pub frame_budget: u64,
+    /// The bytes of a line.
+    pub longest_line: u64,
+    /// The bytes of the whole input.
+    pub most_input: u64,
+}
+
+/// How a run ended.
+#[derive(Drop)]
+pub enum ToolStatus {
+    /// The input was read to its end, and every line answered.
+    Done,
+    /// The words are no command. Nothing was read or written.
+    Usage,
+    /// An endpoint in turn may not be registered. Nothing was read or written.
+    Refused(ApiDescriptionRegisterError),
+    /// The source failed.
+    ReadFault,
+    /// The sink failed.
+    WriteFault,
+    /// A line got this many bytes, one more than may be.
+    LineTooLong(u64),
+    /// Memory ran out.
+    OutOfMemory,
+    /// The input has this many bytes at least, one more than may be.
+    TooMuchInput(u64),
+}
+
+impl ToolStatus {
+    /// The number that the program ends with.
+    pub fn code(&self) -> u8
+        ensures { result ≡ code_of self.now }
+    {
+        match self {
+            ToolStatus::Done => 0,
+            ToolStatus::Usage => 2,
+            ToolStatus::Refused(_) => 3,
+            ToolStatus::ReadFault => 4,
+            ToolStatus::WriteFault => 5,
+            ToolStatus::LineTooLong(_) => 6,
+            ToolStatus::OutOfMemory => 7,
+            ToolStatus::TooMuchInput(_) => 8,
+        }
+    }
+}
+
+/// Writes, in one line, what tells a status that is no success.
+impl fmt::Display for ToolStatus {
+    fn fmt<W: fmt::Write>(&self, f: &mut fmt::Formatter<W>) -> fmt::Result {
+        let message = match self {
+            ToolStatus::Done => "",
+            ToolStatus::Usage => "usage: contract-tool session VERSION < REQUEST-LINES",
+            ToolStatus::Refused(error) => error.message(),
+            ToolStatus::ReadFault => "the input could not be read",
+            ToolStatus::WriteFault => "the output could not be written",
+            ToolStatus::LineTooLong(_) => "a line is too long",
+            ToolStatus::OutOfMemory => "out of memory",
+            ToolStatus::TooMuchInput(_) => "there is too much input",
+        };
+        fmt::Display::fmt(message, f)
+    }
+}

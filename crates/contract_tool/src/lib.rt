@@ -1,0 +1,17 @@
+//! The program over streams: words of a command line, request lines in, a document and reply lines out.
+#![tactic(auto)]
+
+mod answering;
+mod config;
+mod reply_line;
+mod request_line;
+pub mod sample;
+mod tool;
+mod words;
+
+pub use config::{ToolConfig, ToolStatus};
+pub use line_session::{
+    Failed, MemorySink, MemorySource, SafeSink, SafeSource, Sink, SinkError, Source, StdSink,
+    StdSource,
+};
+pub use tool::run;

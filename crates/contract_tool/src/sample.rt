@@ -1,0 +1,243 @@
+//! The sample API: points, each stored under its label.
+ghost use Rattle.std.specs.Prelude.{◌≡◌, ◌∷◌, ◌++◌, ◌^◌, [], IfOk, IsTrue, Some, None, option_map, OnOk};
+ghost use Rattle.std.specs.Prelude.{OnErr, codes};
+ghost use Rattle.schema_values.specs.Ascii.{all_ascii};
+ghost use Rattle.typed_values.specs.Definitions.{entry_of};
+ghost use Rattle.typed_values.specs.declared.desc.Desc.{Ref, Text as Words, Int};
+ghost use Rattle.typed_values.specs.declared.desc.IntKind.TheVariants.{I32};
+ghost use Rattle.api_description.specs.declared.api_respond.reply.Reply.TheVariants.{Failure};
+ghost use Rattle.api_description.specs.declared.api_respond.reply.ErrorReply.TheVariants.{Http};
+ghost use Rattle.api_description.specs.Responses.{internal_error};
+ghost use Rattle.contract_tool.specs.Sample.{StoresPoint, label_of, point_definition, point_shape, required};
+
+use crate::config::ToolConfig;
+use api_description::api_extract::{Arg, ArgList, ServerConfig, Slot};
+use api_description::api_respond::{
+    ApiEndpointErrorResponse, ApiEndpointResponse, Content, ContentShape, ErrorReply, HandlerShape,
+    Reply, RequestContext, RouteHandler, SuccessReply,
+};
+use api_description::error_definition;
+use api_description::http_status::HttpError;
+use api_description::tree_store::Store;
+use http::StatusCode;
+use schema_values::{List, Text};
+use std::alloc::{AllocError, Global};
+use std::num::NonZeroU32;
+use typed_values::{AddError, Definition, Desc, DescTable, Field, IntKind, Presence, Tree};
+
+/// The title and the limits that the sample API is run with.
+pub fn config(alloc: Global) -> Result<ToolConfig, AllocError>
+    ensures { IfOk result (λ config. (config.title ≡ codes "sample")
+        × (config.server.default_request_body_max_bytes ≡ 2 ^ 10) × (config.frame_budget ≡ 1000)
+        × (config.longest_line ≡ 2 ^ 20) × (config.most_input ≡ 2 ^ 31)) }
+{
+    Ok(ToolConfig {
+        title: ascii(alloc, "sample")?,
+        server: ServerConfig {
+            default_request_body_max_bytes: 1 << 10,
+            page_max_nitems: NonZeroU32::new(10_000).unwrap(),
+            page_default_nitems: NonZeroU32::new(100).unwrap(),
+        },
+        frame_budget: 1_000,
+        longest_line: 1 << 20,
+        most_input: 1 << 31,
+    })
+}
+
+/// Stores a point under its label, and gives it back with status 201.
+#[derive(Drop)]
+pub struct PointCreate {
+    shape: HandlerShape,
+    ghost of_points: { shape ≡ point_shape },
+}
+
+impl PointCreate {
+    /// The handler.
+    pub fn new(alloc: Global) -> Result<PointCreate, AllocError> {
+        Ok(PointCreate {
+            shape: point_shape(alloc)?,
+        })
+    }
+}
+
+impl RouteHandler for PointCreate {
+    ghost use Rattle.std.specs.Prelude.{◌≡◌};
+    ghost use Rattle.api_description.specs.declared.api_respond.reply.ErrorReply.TheVariants.{Http};
+    ghost use Rattle.contract_tool.specs.Sample.{CreatesPoint};
+
+    ghost shape_of = { λ handler. handler.shape };
+
+    ghost allows = { λ handler context before args reply after. CreatesPoint args before reply after };
+
+    ghost turns = { λ handler error reply. reply ≡ Http error };
+
+    fn label(&self) -> &str {
+        "point_create"
+    }
+
+    fn shape(&self) -> &HandlerShape {
+        &self.shape
+    }
+
+    fn handle(
+        &self,
+        alloc: Global,
+        ctx: &RequestContext,
+        store: &mut Store,
+        args: &mut ArgList,
+    ) -> Result<Reply, AllocError> {
+        match args.as_slice() {
+            [Arg::Tree(point)] => create_point(alloc, store, point),
+            _ => no_label(alloc),
+        }
+    }
+
+    fn refuse(&self, alloc: Global, error: HttpError) -> Result<ErrorReply, AllocError> {
+        Ok(ErrorReply::Http(error))
+    }
+}
+
+fn create_point(alloc: Global, store: &mut Store, point: &Tree) -> Result<Reply, AllocError>
+    ensures ok { IfOk result (λ reply. StoresPoint point.now (label_of point.now) store.old reply store.new) }
+    ensures err { OnErr result (store.new ≡ store.old) }
+{
+    match label_of(point) {
+        Some(label) => {
+            let reply = Reply::Success(SuccessReply {
+                status: StatusCode::CREATED,
+                content: Content::Json(point.copy(alloc)?),
+            });
+            store.insert("points", label.as_str(), point.copy(alloc)?)?;
+            Ok(reply)
+        }
+        None => no_label(alloc),
+    }
+}
+
+fn label_of(point: &Tree) -> Option<&Text>
+    ensures { option_map (λ text. text.now) result ≡ label_of point.now }
+{
+    match point {
+        Tree::Fields(fields) => match fields.as_slice() {
+            [Tree::Text(label), ..] => Some(label),
+            _ => None,
+        },
+        _ => None,
+    }
+}
+
+fn no_label(alloc: Global) -> Result<Reply, AllocError>
+    ensures { IfOk result (λ reply. reply ≡ Failure (Http (internal_error (codes "a point has no label")))) }
+{
+    let message = Text::from_ascii(alloc, "a point has no label")?;
+    let error = HttpError::for_internal_error(alloc, message)?;
+    Ok(Reply::Failure(ErrorReply::Http(error)))
+}
+
+fn point_shape(alloc: Global) -> Result<HandlerShape, AllocError>
+    ensures { IfOk result (λ shape. shape ≡ point_shape) }
+{
+    let mut slots = List::new(alloc);
+    slots.push(Slot::TypedBody(point_ref(alloc)?, ascii(alloc, "Point")?))?;
+    Ok(HandlerShape {
+        table: point_table(alloc)?,
+        slots,
+        response: ApiEndpointResponse {
+            content: ContentShape::Json(point_ref(alloc)?, ascii(alloc, "Point")?),
+            success: Some(StatusCode::CREATED),
+            description: ascii(alloc, "successful creation")?,
+        },
+        error: Some(ApiEndpointErrorResponse {
+            desc: Desc::Ref(ascii(alloc, "Error")?),
+            name: ascii(alloc, "Error")?,
+        }),
+    })
+}
+
+fn point_table(alloc: Global) -> Result<DescTable, AllocError>
+    ensures { IfOk result (λ table. table ≡ point_shape.table) }
+{
+    let mut table = DescTable::new(alloc);
+    add(&mut table, point_definition(alloc)?)?;
+    add(&mut table, error_definition(alloc)?)?;
+    Ok(table)
+}
+
+// Adds a definition whose name does not stand in the table.
+fn add(table: &mut DescTable, definition: Definition) -> Result<(), AllocError>
+    requires { entry_of table.old definition.name ≡ None }
+    ensures { OnOk result (table.new ≡ table.old ++ definition ∷ []) }
+{
+    let Definition {
+        name,
+        description,
+        desc,
+    } = definition;
+    match table.add_described(name.as_str(), description, desc) {
+        Ok(_) => Ok(()),
+        Err(AddError::OutOfMemory) => Err(AllocError),
+        Err(AddError::Clash(_)) => unreachable!(),
+    }
+}
+
+fn point_definition(alloc: Global) -> Result<Definition, AllocError>
+    ensures { IfOk result (λ definition. definition ≡ point_definition) }
+{
+    let mut fields = List::new(alloc);
+    fields.push(required(alloc, "label", label_desc())?)?;
+    fields.push(required(alloc, "n", number_desc())?)?;
+    fields.push(required(alloc, "on", Desc::Bool)?)?;
+    Ok(Definition {
+        name: ascii(alloc, "Point")?,
+        description: None,
+        desc: Desc::Struct {
+            fields,
+            deny_unknown: false,
+        },
+    })
+}
+
+fn label_desc() -> Desc
+    ensures { result ≡ Words (Some 1) None None }
+{
+    Desc::Text {
+        min: Some(1),
+        max: None,
+        format: None,
+    }
+}
+
+fn number_desc() -> Desc
+    ensures { result ≡ Int I32 None None }
+{
+    Desc::Int {
+        kind: IntKind::I32,
+        min: None,
+        max: None,
+    }
+}
+
+fn required(alloc: Global, name: &str, desc: Desc) -> Result<Field, AllocError>
+    requires { IsTrue (all_ascii name.now) }
+    ensures { IfOk result (λ field. field ≡ required name.now desc) }
+{
+    Ok(Field {
+        name: ascii(alloc, name)?,
+        desc,
+        presence: Presence::Required,
+        description: None,
+    })
+}
+
+fn point_ref(alloc: Global) -> Result<Desc, AllocError>
+    ensures { IfOk result (λ desc. desc ≡ Ref (codes "Point")) }
+{
+    Ok(Desc::Ref(ascii(alloc, "Point")?))
+}
+
+fn ascii(alloc: Global, text: &str) -> Result<Text, AllocError>
+    requires { IsTrue (all_ascii text.now) }
+    ensures { IfOk result (λ t. t ≡ text.now) }
+{
+    Text::from_ascii(alloc, text)
+}

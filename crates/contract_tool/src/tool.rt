@@ -1,0 +1,170 @@
+//! The top call.
+ghost use Rattle.std.specs.Prelude.{◌≡◌, ◌↔◌, ◌⊎◌, Some, ◌+◌, ◌-◌, ◌^◌, ◌<◌, ◌≤◌, [], List as ListOf};
+ghost use Rattle.std.specs.Prelude.{ℕ, IfOk, take};
+ghost use Rattle.line_session.specs.Causes.{Rose};
+ghost use Rattle.line_session.specs.Lines.{HasLongLine, IsTooMuch, PassesNoLimit};
+ghost use Rattle.line_session.specs.Session.{NoRest, MakesTooLong, MakesTooMuch};
+ghost use Rattle.semver.specs.Identifiers.{parts_of};
+ghost use Rattle.api_description.specs.Registering.{AreAccepted, SomeRefused};
+ghost use Rattle.api_description.specs.declared.register.ApiDescriptionRegisterError.{ApiDescriptionRegisterError as ErrorValue};
+ghost use Rattle.contract_tool.specs.Sessions.{boxed, IsCutSession, IsSession, IsStoppedSession, front_of};
+ghost use Rattle.contract_tool.specs.Sessions.{IsDoneSession, status_of};
+ghost use Rattle.contract_tool.specs.Words.{IsCommand};
+
+use crate::answering::Desk;
+use crate::config::{ToolConfig, ToolStatus};
+use crate::words::{WordsError, session_version};
+use api_description::api_respond::RouteHandler;
+use api_description::tree_store::Store;
+use api_description::{ApiDescription, ApiEndpoint, RegisterError, TagConfig};
+use line_session::{SessionEnd, Sink, Source, serve};
+use schema_values::List;
+use semver::Version;
+use std::alloc::{AllocError, Global};
+use std::marker::PhantomData;
+
+/// Runs a command: reads the words of a command line, registers the endpoints in order, and then does what
+/// the words ask for. `session V` writes the document of version V and a newline, and then a reply line for
+/// each input line.
+pub fn run<S: Source, K: Sink>(
+    alloc: Global,
+    words: &[String],
+    endpoints: Vec<ApiEndpoint>,
+    tags: TagConfig,
+    store: &mut Store,
+    config: &ToolConfig,
+    source: &mut S,
+    sink: &mut K,
+) -> ToolStatus
+    requires most { config.now.most_input < 2 ^ 64 - 1 }
+    requires longest { config.now.longest_line < 2 ^ 64 - 1 }
+    requires budget { config.now.frame_budget < 2 ^ 64 - 1 }
+
+    // What was read was read to its end, and each line of it answered in order.
+    ensures done { result ≡ ToolStatus.Done →
+        IsDoneSession (boxed ⟦<dyn RouteHandler as RouteHandler>⟧) config.now endpoints.items words.now
+        (S.left source.old) (S.left source.new) (K.taken sink.old) (K.taken sink.new) store.old store.new }
+    // Of a source and a sink that tell their bytes: all were read, and each line was answered in order.
+    ensures session { result ≡ ToolStatus.Done → (all written : ListOf ℕ) →
+        S.left source.old ≡ Some all → K.taken sink.old ≡ Some written →
+        IsSession (boxed ⟦<dyn RouteHandler as RouteHandler>⟧) config.now endpoints.items words.now
+        all written (S.left source.new) (K.taken sink.new) store.old store.new }
+    ensures within { result ≡ ToolStatus.Done → (all : ListOf ℕ) → S.left source.old ≡ Some all →
+        PassesNoLimit config.now.most_input config.now.longest_line all }
+
+    ensures usage { result ≡ ToolStatus.Usage ↔ ¬ IsCommand words.now }
+    ensures refused { (error : ErrorValue) → result ≡ ToolStatus.Refused error → IsCommand words.now
+        × SomeRefused (boxed ⟦<dyn RouteHandler as RouteHandler>⟧) [] endpoints.items error }
+    ensures untouched { (result ≡ ToolStatus.Usage)
+        ⊎ ((error : ErrorValue) × (result ≡ ToolStatus.Refused error)) →
+        (source.new ≡ source.old) × (sink.new ≡ sink.old) × (store.new ≡ store.old) }
+
+    ensures read_fault { result ≡ ToolStatus.ReadFault → Rose (S.faults source.old) (S.faults source.new)
+        × IsStoppedSession (boxed ⟦<dyn RouteHandler as RouteHandler>⟧) config.now endpoints.items words.now
+        (S.left source.old) (S.left source.new) (K.taken sink.old) (K.taken sink.new) store.old store.new
+        NoRest }
+    ensures write_fault { result ≡ ToolStatus.WriteFault → Rose (K.faults sink.old) (K.faults sink.new)
+        × IsCutSession (boxed ⟦<dyn RouteHandler as RouteHandler>⟧) config.now endpoints.items words.now
+        (S.left source.old) (S.left source.new) (K.taken sink.old) (K.taken sink.new) store.old store.new }
+    ensures too_long { (bytes : ℕ) → result ≡ ToolStatus.LineTooLong bytes
+        → (bytes ≡ config.now.longest_line + 1)
+        × IsStoppedSession (boxed ⟦<dyn RouteHandler as RouteHandler>⟧) config.now endpoints.items words.now
+        (S.left source.old) (S.left source.new) (K.taken sink.old) (K.taken sink.new) store.old store.new
+        (MakesTooLong config.now.most_input config.now.longest_line) }
+    ensures too_much { (bytes : ℕ) → result ≡ ToolStatus.TooMuchInput bytes
+        → (bytes ≡ config.now.most_input + 1)
+        × IsStoppedSession (boxed ⟦<dyn RouteHandler as RouteHandler>⟧) config.now endpoints.items words.now
+        (S.left source.old) (S.left source.new) (K.taken sink.old) (K.taken sink.new) store.old store.new
+        (MakesTooMuch config.now.most_input) }
+    // Before the session began nothing was read or written.
+    ensures out_of_memory { result ≡ ToolStatus.OutOfMemory →
+        ((source.new ≡ source.old) × (sink.new ≡ sink.old) × (store.new ≡ store.old))
+        ⊎ IsCutSession (boxed ⟦<dyn RouteHandler as RouteHandler>⟧) config.now endpoints.items words.now
+        (S.left source.old) (S.left source.new) (K.taken sink.old) (K.taken sink.new) store.old store.new }
+
+    // A count of faults never falls.
+    ensures source_later { S.faults source.old ≤ S.faults source.new }
+    ensures sink_later { K.faults sink.old ≤ K.faults sink.new }
+
+    // Where nothing stands against it, every line is answered, or memory runs out.
+    ensures complete { IsCommand words.now →
+        AreAccepted (boxed ⟦<dyn RouteHandler as RouteHandler>⟧) [] endpoints.items →
+        (all : ListOf ℕ) → S.left source.old ≡ Some all
+        → PassesNoLimit config.now.most_input config.now.longest_line all →
+        ¬ Rose (S.faults source.old) (S.faults source.new) → ¬ Rose (K.faults sink.old) (K.faults sink.new) →
+        (result ≡ ToolStatus.Done) ⊎ (result ≡ ToolStatus.OutOfMemory) }
+    // Where a limit is passed, that shows at the first byte beyond it, or memory runs out.
+    ensures complete_long { IsCommand words.now →
+        AreAccepted (boxed ⟦<dyn RouteHandler as RouteHandler>⟧) [] endpoints.items →
+        (all : ListOf ℕ) → S.left source.old ≡ Some all
+        → HasLongLine config.now.longest_line (take config.now.most_input all) →
+        ¬ Rose (S.faults source.old) (S.faults source.new) → ¬ Rose (K.faults sink.old) (K.faults sink.new) →
+        (result ≡ ToolStatus.LineTooLong (config.now.longest_line + 1)) ⊎ (result ≡ ToolStatus.OutOfMemory) }
+    ensures complete_much { IsCommand words.now →
+        AreAccepted (boxed ⟦<dyn RouteHandler as RouteHandler>⟧) [] endpoints.items →
+        (all : ListOf ℕ) → S.left source.old ≡ Some all
+        → IsTooMuch config.now.most_input config.now.longest_line all →
+        ¬ Rose (S.faults source.old) (S.faults source.new) → ¬ Rose (K.faults sink.old) (K.faults sink.new) →
+        (result ≡ ToolStatus.TooMuchInput (config.now.most_input + 1)) ⊎ (result ≡ ToolStatus.OutOfMemory) }
+    // Endpoints that are not accepted are refused, or memory runs out.
+    ensures complete_refused { IsCommand words.now →
+        ¬ AreAccepted (boxed ⟦<dyn RouteHandler as RouteHandler>⟧) [] endpoints.items →
+        ((error : ErrorValue) × (result ≡ ToolStatus.Refused error)) ⊎ (result ≡ ToolStatus.OutOfMemory) }
+{
+    let version = match session_version(alloc, words) {
+        Ok(version) => version,
+        Err(WordsError::Usage) => return ToolStatus::Usage,
+        Err(WordsError::OutOfMemory) => return ToolStatus::OutOfMemory,
+    };
+    let api = match ApiDescription::of_endpoints(alloc, tags, endpoints) {
+        Ok(api) => api,
+        Err(RegisterError::Refused(error)) => return ToolStatus::Refused(error),
+        Err(RegisterError::OutOfMemory) => return ToolStatus::OutOfMemory,
+    };
+    let Ok(front) = front(alloc, &api, config, &version) else {
+        return ToolStatus::OutOfMemory;
+    };
+    let desk = Desk {
+        api: &api,
+        config,
+        version: &version,
+        handlers: PhantomData,
+    };
+    status_of(serve(
+        alloc,
+        &desk,
+        store,
+        front.as_slice(),
+        config.most_input,
+        config.longest_line,
+        source,
+        sink,
+    ))
+}
+
+// The pretty text of the document, and a newline.
+fn front(
+    alloc: Global,
+    api: &ApiDescription,
+    config: &ToolConfig,
+    version: &Version,
+) -> Result<List<u8>, AllocError>
+    ensures { IfOk result (λ front. front ≡ front_of (boxed ⟦<dyn RouteHandler as RouteHandler>⟧)
+        config.now (parts_of version.now) api.now.endpoints.items) }
+{
+    let definition = api.openapi(alloc, config.title.as_str(), version.clone()?)?;
+    Ok(definition.text(alloc)?.into_bytes())
+}
+
+fn status_of(end: SessionEnd) -> ToolStatus
+    ensures { result ≡ status_of end }
+{
+    match end {
+        SessionEnd::Done => ToolStatus::Done,
+        SessionEnd::ReadFault => ToolStatus::ReadFault,
+        SessionEnd::WriteFault => ToolStatus::WriteFault,
+        SessionEnd::LineTooLong(bytes) => ToolStatus::LineTooLong(bytes),
+        SessionEnd::TooMuchInput(bytes) => ToolStatus::TooMuchInput(bytes),
+        SessionEnd::OutOfMemory => ToolStatus::OutOfMemory,
+    }
+}
