@@ -1,0 +1,107 @@
+use crate::session::{Setting, document_and, joined, plain, run_session};
+use std::test::Fail;
+
+const CREATE: &str =
+    "{\"method\":\"POST\",\"template\":\"/points\",\"frames\":[\"{\\\"label\\\":\\\"a\\\",\\\"n\\\":7,\\\"on\\\":true}\"],\"request_id\":\"r1\"}";
+
+const CREATED: &str =
+    "{\"outcome\":\"handled\",\"status\":201,\"headers\":[[\"content-type\",\"application/json\"]],\"body\":\"{\\\"label\\\":\\\"a\\\",\\\"n\\\":7,\\\"on\\\":true}\"}";
+
+const CREATE_AGAIN: &str =
+    "{\"method\":\"POST\",\"template\":\"/points\",\"frames\":[\"{\\\"label\\\":\\\"a\\\",\\\"n\\\":8,\\\"on\\\":true}\"],\"request_id\":\"r2\"}";
+
+const CREATED_AGAIN: &str =
+    "{\"outcome\":\"handled\",\"status\":201,\"headers\":[[\"content-type\",\"application/json\"]],\"body\":\"{\\\"label\\\":\\\"a\\\",\\\"n\\\":8,\\\"on\\\":true}\"}";
+
+const TRAILING: &str =
+    "{\"method\":\"POST\",\"template\":\"/points\",\"frames\":[\"{\\\"label\\\":\\\"a\\\",\\\"n\\\":7,\\\"on\\\":true} x\"],\"request_id\":\"r3\"}";
+
+const CUT: &str =
+    "{\"method\":\"POST\",\"template\":\"/points\",\"frames\":[\"{\\\"label\\\":\\\"a\\\"\"],\"request_id\":\"r3\"}";
+
+const ELSEWHERE: &str =
+    "{\"method\":\"POST\",\"template\":\"/circles\",\"frames\":[\"{}\"],\"request_id\":\"r\"}";
+
+const WITH_URI: &str =
+    "{\"method\":\"POST\",\"template\":\"/points\",\"uri\":\"/points\",\"frames\":[\"{}\"],\"request_id\":\"r\"}";
+
+const GET: &str =
+    "{\"method\":\"GET\",\"template\":\"/points\",\"request_id\":\"r\",\"frames\":[\"\"]}";
+
+const NO_METHOD: &str =
+    "{\"method\":\"A B\",\"template\":\"/points\",\"request_id\":\"r\",\"frames\":[\"\"]}";
+
+const BAD_ID_ASKED: &str =
+    "{\"method\":\"POST\",\"template\":\"/points/\",\"request_id\":\"a\\nb\",\"frames\":[\"\"]}";
+
+const BAD: &str = "{\"outcome\":\"bad-line\"}";
+
+const BAD_ID: &str = "{\"outcome\":\"bad-request-id\"}";
+
+const NONE: &str = "{\"outcome\":\"no-such-operation\"}";
+
+const NOT_BUILT: &str = "{\"outcome\":\"not-built\"}";
+
+const REFUSED: &str =
+    "{\"outcome\":\"refused\",\"status\":400,\"headers\":[[\"content-type\",\"application/json\"],[\"x-request-id\",\"r3\"]],\"body\":\"{\\n  \\\"request_id\\\": \\\"r3\\\",\\n  \\\"message\\\": \\\"unable to parse JSON body: not JSON\\\"\\n}\"}";
+
+// The reply lines to input lines, behind the document, and the number of the point `a` that is then stored.
+#[test]
+fn each_line_is_answered_in_order(rt: HostRuntime) -> Result<(), Fail> {
+    let alloc = rt.alloc();
+    let (create, again) = (CREATE.as_bytes(), CREATE_AGAIN.as_bytes());
+    let cases: [(&[&[u8]], &[&str], Option<i128>); 15] = [
+        (&[], &[], None),
+        (&[create], &[CREATED], Some(7)),
+        (&[create, b""], &[CREATED], Some(7)),
+        (&[create, again], &[CREATED, CREATED_AGAIN], Some(8)),
+        (
+            &[again, b"[]", create],
+            &[CREATED_AGAIN, BAD, CREATED],
+            Some(7),
+        ),
+        (&[TRAILING.as_bytes()], &[REFUSED], None),
+        (&[CUT.as_bytes()], &[REFUSED], None),
+        (&[b"[]"], &[BAD], None),
+        (&[b"", b"", b""], &[BAD, BAD], None),
+        (&[b"\"\xff\""], &[BAD], None),
+        (&[NO_METHOD.as_bytes()], &[BAD], None),
+        (&[GET.as_bytes()], &[NONE], None),
+        (&[ELSEWHERE.as_bytes()], &[NONE], None),
+        (&[WITH_URI.as_bytes()], &[NOT_BUILT], None),
+        (&[BAD_ID_ASKED.as_bytes(), b"x"], &[BAD_ID, BAD], None),
+    ];
+    for (input, replies, number_of_a) in cases {
+        let input = joined(alloc, input)?;
+        let done = run_session(alloc, &plain(&input))?;
+        let output = document_and(alloc, replies)?;
+        assert_eq!(rt; done.code, 0);
+        assert_eq!(rt; done.output.as_slice(), output.as_slice());
+        assert_eq!(rt; done.number_of_a, number_of_a);
+    }
+    Ok(())
+}
+
+// The status of a session, and what it wrote: nothing, or the document.
+#[test]
+fn each_cause_has_its_status(rt: HostRuntime) -> Result<(), Fail> {
+    let alloc = rt.alloc();
+    let document = document_and(alloc, &[])?;
+    let eleven = plain(b"01234567890");
+    let cases: [(Setting, u8, &[u8]); 8] = [
+        (eleven.with_limits(10, 1_000), 6, &document),
+        (eleven.with_limits(1_000, 10), 8, &document),
+        (eleven.with_limits(10, 10), 8, &document),
+        (eleven.with_failing(Some(0), None), 4, &document),
+        (eleven.with_failing(None, Some(0)), 5, &[]),
+        (eleven.with_words(&["session", "x"]), 2, &[]),
+        (eleven.with_words(&["session"]), 2, &[]),
+        (eleven.at_path("/points/{label}"), 3, &[]),
+    ];
+    for (setting, code, output) in &cases {
+        let done = run_session(alloc, setting)?;
+        assert_eq!(rt; done.code, *code);
+        assert_eq!(rt; done.output.as_slice(), *output);
+    }
+    Ok(())
+}
