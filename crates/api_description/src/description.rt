@@ -116,6 +116,8 @@ impl ApiDescription {
         ensures tags { IfOk result (λ api. api.tags ≡ tags) }
         ensures accepted { OnOk result (AreAccepted
             (λ e. ⟦<dyn RouteHandler as RouteHandler>⟧ e.handler.vtable) [] endpoints.items) }
+        ensures registered { IfOk result (λ api. AreAccepted
+            (λ e. ⟦<dyn RouteHandler as RouteHandler>⟧ e.handler.vtable) [] api.endpoints.items) }
         ensures refused { (error : ErrorValue) → result ≡ Err (RegisterError.Refused error) →
             SomeRefused
             (λ e. ⟦<dyn RouteHandler as RouteHandler>⟧ e.handler.vtable) [] endpoints.items error }

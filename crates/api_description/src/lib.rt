@@ -3,6 +3,8 @@
 
 pub mod api_extract;
 pub mod api_respond;
+#[cfg(test)]
+mod api_tests;
 pub mod api_versions;
 mod description;
 mod document;

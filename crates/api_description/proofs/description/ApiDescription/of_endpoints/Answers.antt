@@ -29,3 +29,6 @@ returns-clause-accepted g c =
     let road = YieldsList-from_vec c.args.endpoints.items it.ensures.into_iter_gives.0 (it.result.rest.ok.0 ∙ ap length it.ensures.into_iter_gives.0) in
     let ended = YieldsList-end road c.loop-endpoint.yielded c.loop-endpoint.endpoint-iterator c.loop-endpoint.yielded_by c.next.result c.next.new.self c.in-None.is c.next.ensures.steps in
     subst (λ es. AreAccepted (λ e. goal.RouteHandler-dyn g (e.handler.vtable, e.handler.value)) [] es) (sym (map-id c.loop-endpoint.yielded) ∙ ended.0) c.loop-endpoint.invariant.accepted
+
+pub returns-clause-registered : goal.returns-clause-registered
+returns-clause-registered g c = rw c.loop-endpoint.invariant.registered c.loop-endpoint.invariant.accepted
