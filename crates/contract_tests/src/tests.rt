@@ -105,3 +105,23 @@ fn each_cause_has_its_status(rt: HostRuntime) -> Result<(), Fail> {
     }
     Ok(())
 }
+
+// The reads and the writes of a session of one line, each failing in turn: the status tells which of the two it was,
+// and what was written is a part of the whole output, from its front. Beyond the last call nothing fails.
+#[test]
+fn each_read_and_each_write_may_fail(rt: HostRuntime) -> Result<(), Fail> {
+    let alloc = rt.alloc();
+    let (reads, writes) = (2, 2);
+    let whole = document_and(alloc, &[CREATED])?;
+    let session = plain(CREATE.as_bytes());
+    for call in 0..4 {
+        let read = run_session(alloc, &session.with_failing(Some(call), None))?;
+        assert_eq!(rt; read.code, if call < reads { 4 } else { 0 });
+        assert!(rt; whole.starts_with(read.output.as_slice()));
+
+        let write = run_session(alloc, &session.with_failing(None, Some(call)))?;
+        assert_eq!(rt; write.code, if call < writes { 5 } else { 0 });
+        assert!(rt; whole.starts_with(write.output.as_slice()));
+    }
+    Ok(())
+}

@@ -1,7 +1,10 @@
 -- How a run ends, by how its session ends.
-use Rattle.std.proofs.Common.{◌≡◌, ◌≢◌, ◌+◌, ℕ, List, [], ◌∷◌, ◌++◌, length, ◌<◌, Option, sym, ap, ◌∙◌, inl, inr, subst, true, false, refl}
-use Rattle.line_session.specs.Session.{IsAnswered, MakesTooLong, MakesTooMuch, NoRest}
+use Rattle.std.proofs.Common.{◌≡◌, ◌+◌, ℕ, List, [], ◌∷◌, ◌++◌, length, ◌<◌, Option, take, ◌⊎◌, sym, ap, ◌∙◌, inl, inr, subst, true, false, refl}
+use Rattle.line_session.specs.Lines.{HasLongLine, IsTooMuch, PassesNoLimit}
+use Rattle.line_session.specs.Session.{IsAnswered}
 use Rattle.line_session.specs.Status.{IsServed}
+use Rattle.line_session.specs.declared.outside.Sink.{Ghosts as SinkGhosts}
+use Rattle.line_session.specs.declared.outside.Source.{Ghosts as SourceGhosts}
 use Rattle.line_session.specs.declared.serving.SessionEnd.{SessionEnd}
 use Rattle.line_session.specs.declared.serving.SessionEnd.TheVariants as ended
 use Rattle.api_description.specs.declared.endpoint.ApiEndpoint.{ApiEndpoint}
@@ -25,7 +28,8 @@ use Rattle.api_description.proofs.Agreed.{request_agrees}
 use Rattle.api_description.proofs.Followed.{answers_follow}
 use Rattle.api_description.proofs.Listed.{is_listed, accepted_methods}
 use Rattle.api_description.proofs.Printed.{printed_counted}
-use Rattle.contract_tool.specs.Sessions.{IsCutSession, IsDoneSession, IsOpened, IsSession, IsStoppedSession, front_of, status_of}
+use Rattle.contract_tool.specs.Ends.{CallsFor, FailedToRead, FailedToWrite, IsEnded, IsSessionUpTo, Outside}
+use Rattle.contract_tool.specs.Sessions.{IsOpened, front_of, status_of}
 
 abbrev pub end_of : ToolStatus → SessionEnd
 end_of Done = ended.Done
@@ -49,22 +53,27 @@ end_of-status_of ended.OutOfMemory = refl
 pub ended-so : (end : SessionEnd) (result status : ToolStatus) → result ≡ status_of end → result ≡ status → end ≡ end_of status
 ended-so end result status is same = sym (end_of-status_of end) ∙ ap end_of (sym is ∙ same)
 
--- a session that was opened ends neither way
-pub never-usage : (end : SessionEnd) → status_of end ≢ Usage
-never-usage ended.Done e = cc
-never-usage ended.ReadFault e = cc
-never-usage ended.WriteFault e = cc
-never-usage (ended.LineTooLong bytes) e = cc
-never-usage (ended.TooMuchInput bytes) e = cc
-never-usage ended.OutOfMemory e = cc
+-- a session that ends by the status that is called for, or for want of memory, ends the run so
+pub called-for : (config : ToolConfig) (all : List ℕ) (end : SessionEnd) (result status : ToolStatus) → result ≡ status_of end → CallsFor config all status
+    → (PassesNoLimit config.most_input config.longest_line all → (end ≡ ended.Done) ⊎ (end ≡ ended.OutOfMemory))
+    → (HasLongLine config.longest_line (take config.most_input all) → (end ≡ ended.LineTooLong (config.longest_line + 1)) ⊎ (end ≡ ended.OutOfMemory))
+    → (IsTooMuch config.most_input config.longest_line all → (end ≡ ended.TooMuchInput (config.most_input + 1)) ⊎ (end ≡ ended.OutOfMemory))
+    → (result ≡ status) ⊎ (result ≡ OutOfMemory)
+called-for config all end result status is calls none long much = by-status status calls
+  where
+    by-end : (to : SessionEnd) → (end ≡ to) ⊎ (end ≡ ended.OutOfMemory) → (result ≡ status_of to) ⊎ (result ≡ OutOfMemory)
+    by-end to (inl same) = inl (is ∙ ap status_of same)
+    by-end to (inr same) = inr (is ∙ ap status_of same)
 
-pub never-refused : (end : SessionEnd) (error : ApiDescriptionRegisterError) → status_of end ≢ Refused error
-never-refused ended.Done error e = cc
-never-refused ended.ReadFault error e = cc
-never-refused ended.WriteFault error e = cc
-never-refused (ended.LineTooLong bytes) error e = cc
-never-refused (ended.TooMuchInput bytes) error e = cc
-never-refused ended.OutOfMemory error e = cc
+    by-status : (status : ToolStatus) → CallsFor config all status → (result ≡ status) ⊎ (result ≡ OutOfMemory)
+    by-status Done calls = by-end ended.Done (none calls)
+    by-status (LineTooLong bytes) calls = rw calls.0 (by-end (ended.LineTooLong (config.longest_line + 1)) (long calls.1))
+    by-status (TooMuchInput bytes) calls = rw calls.0 (by-end (ended.TooMuchInput (config.most_input + 1)) (much calls.1))
+    by-status Usage calls = absurd calls
+    by-status (Refused error) calls = absurd calls
+    by-status ReadFault calls = absurd calls
+    by-status WriteFault calls = absurd calls
+    by-status OutOfMemory calls = absurd calls
 
 module _ {X : Type 0} {F : X → Type 0} (m : Meanings X F) where
   no-cause : (before : List (ApiEndpoint X F)) (e : ApiEndpoint X F) (cause : RegisterCause) → MayRegister m before e → IsFirstCause m before e cause → ⊥
@@ -108,32 +117,19 @@ module _ {X : Type 0} {F : X → Type 0} (m : Meanings X F) where
       subst (λ (es : List (ApiEndpoint X F)). IsAnswered (LineAnswers m config version es) front' all before y u old new) p
       (subst (λ (f : List ℕ). IsAnswered (LineAnswers m config version one) f all before y u old new) q answered)
 
-  module _ (config : ToolConfig) (endpoints : List (ApiEndpoint X F)) (words : List (String Global)) (version : Parts) (opening : IsOpened m config version endpoints words)
-      (x y t u : Option (List ℕ)) (old new : Tables) (end : SessionEnd)
-      (served : IsServed (LineAnswers m config version endpoints) (front_of m config version endpoints) config.most_input config.longest_line x y t u old new end) where
-    at-end : (status : SessionEnd) → end ≡ status → IsServed (LineAnswers m config version endpoints) (front_of m config version endpoints) config.most_input config.longest_line x y t u old new status
-    at-end status e = subst (IsServed (LineAnswers m config version endpoints) (front_of m config version endpoints) config.most_input config.longest_line x y t u old new) e served
+  module _ {S K : Type 0} (config : ToolConfig) (endpoints : List (ApiEndpoint X F)) (words : List (String Global)) (source : SourceGhosts S) (sink : SinkGhosts K) (before after : Outside S K) where
+    by-end : (how : SessionEnd) → IsSessionUpTo m config endpoints words source sink before after how
+        → (how ≡ ended.ReadFault → FailedToRead source before after) → (how ≡ ended.WriteFault → FailedToWrite sink before after)
+        → IsEnded m config endpoints words source sink before after (status_of how)
+    by-end ended.Done session read write = session
+    by-end ended.ReadFault session read write = (read refl, session)
+    by-end ended.WriteFault session read write = (write refl, session)
+    by-end (ended.LineTooLong bytes) session read write = session
+    by-end (ended.TooMuchInput bytes) session read write = session
+    by-end ended.OutOfMemory session read write = inr session
 
-    pub session-done : (all written : List ℕ) → IsAnswered (LineAnswers m config version endpoints) (front_of m config version endpoints) all written y u old new
-        → IsSession m config endpoints words all written y u old new
-    session-done all written answered = record { version = version; opened = opening; answered = answered }
-
-    pub read-out : end ≡ ended.Done → IsDoneSession m config endpoints words x y t u old new
-    read-out e = record { version = version; opened = opening; done = at-end ended.Done e }
-
-    pub stopped-read : end ≡ ended.ReadFault → IsStoppedSession m config endpoints words x y t u old new NoRest
-    stopped-read e = record { version = version; opened = opening; stopped = at-end ended.ReadFault e }
-
-    pub stopped-long : (bytes : ℕ) → end ≡ ended.LineTooLong bytes
-        → (bytes ≡ config.longest_line + 1) × IsStoppedSession m config endpoints words x y t u old new (MakesTooLong config.most_input config.longest_line)
-    stopped-long bytes e = let there = at-end (ended.LineTooLong bytes) e in (there.0, record { version = version; opened = opening; stopped = there.1 })
-
-    pub stopped-much : (bytes : ℕ) → end ≡ ended.TooMuchInput bytes
-        → (bytes ≡ config.most_input + 1) × IsStoppedSession m config endpoints words x y t u old new (MakesTooMuch config.most_input)
-    stopped-much bytes e = let there = at-end (ended.TooMuchInput bytes) e in (there.0, record { version = version; opened = opening; stopped = there.1 })
-
-    pub cut-write : end ≡ ended.WriteFault → IsCutSession m config endpoints words x y t u old new
-    cut-write e = record { version = version; opened = opening; cut = at-end ended.WriteFault e }
-
-    pub cut-memory : end ≡ ended.OutOfMemory → IsCutSession m config endpoints words x y t u old new
-    cut-memory e = record { version = version; opened = opening; cut = at-end ended.OutOfMemory e }
+    -- a session that ended so ends the run by its status
+    pub is-ended : (how : SessionEnd) (result : ToolStatus) → result ≡ status_of how → IsSessionUpTo m config endpoints words source sink before after how
+        → (how ≡ ended.ReadFault → FailedToRead source before after) → (how ≡ ended.WriteFault → FailedToWrite sink before after)
+        → IsEnded m config endpoints words source sink before after result
+    is-ended how result is session read write = subst (IsEnded m config endpoints words source sink before after) (sym is) (by-end how session read write)

@@ -5,3 +5,4 @@ pub mod ReplyLines
 pub mod LineAnswers
 pub mod Sample
 pub mod Sessions
+pub mod Ends

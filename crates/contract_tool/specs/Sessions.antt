@@ -2,7 +2,7 @@
 use Rattle.std.specs.Prelude.{ℕ, List, []}
 use Rattle.std.specs.declared.option.Option.{Option}
 use Rattle.std.specs.Str.{encode_utf8_all}
-use Rattle.line_session.specs.Session.{IsAnswered, IsDone, IsStopped, IsCut}
+use Rattle.line_session.specs.Session.{IsAnswered}
 use Rattle.line_session.specs.declared.serving.SessionEnd.{SessionEnd}
 use Rattle.line_session.specs.declared.serving.SessionEnd.TheVariants as ended
 use Rattle.semver.specs.Parse.{Parts}
@@ -50,31 +50,6 @@ pub record IsSession {X : Type 0} {F : X → Type 0} (m : Meanings X F) (config 
   pub version : Parts
   pub opened : IsOpened m config version endpoints words
   pub answered : IsAnswered (LineAnswers m config version endpoints) (front_of m config version endpoints) all written_before left_after taken_after before after
-
--- the source was read to its end, and each line of what was read answered in order behind the document
-pub record IsDoneSession {X : Type 0} {F : X → Type 0} (m : Meanings X F) (config : ToolConfig) (endpoints : List (ApiEndpoint X F)) (words : List (String Global))
-    (left_before left_after taken_before taken_after : Option (List ℕ)) (before after : Tables) : Type 0 where
-  pub version : Parts
-  pub opened : IsOpened m config version endpoints words
-  pub done : IsDone (LineAnswers m config version endpoints) (front_of m config version endpoints) config.most_input config.longest_line
-      left_before left_after taken_before taken_after before after
-
--- the reading stopped by a cause; the lines that ended before it were answered
-pub record IsStoppedSession {X : Type 0} {F : X → Type 0} (m : Meanings X F) (config : ToolConfig) (endpoints : List (ApiEndpoint X F)) (words : List (String Global))
-    (left_before left_after taken_before taken_after : Option (List ℕ)) (before after : Tables)
-    (Cause : List (List ℕ) → List ℕ → List ℕ → Type 0) : Type 0 where
-  pub version : Parts
-  pub opened : IsOpened m config version endpoints words
-  pub stopped : IsStopped (LineAnswers m config version endpoints) (front_of m config version endpoints) config.most_input config.longest_line
-      left_before left_after taken_before taken_after before after Cause
-
--- the writing stopped; what was written is a prefix of a session of some of the lines
-pub record IsCutSession {X : Type 0} {F : X → Type 0} (m : Meanings X F) (config : ToolConfig) (endpoints : List (ApiEndpoint X F)) (words : List (String Global))
-    (left_before left_after taken_before taken_after : Option (List ℕ)) (before after : Tables) : Type 0 where
-  pub version : Parts
-  pub opened : IsOpened m config version endpoints words
-  pub cut : IsCut (LineAnswers m config version endpoints) (front_of m config version endpoints) config.most_input config.longest_line
-      left_before left_after taken_before taken_after before after
 
 -- how a run ends whose session ends so
 abbrev pub status_of : SessionEnd → ToolStatus

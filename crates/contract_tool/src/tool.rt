@@ -1,14 +1,12 @@
 //! The top call.
-ghost use Rattle.std.specs.Prelude.{◌≡◌, ◌↔◌, ◌⊎◌, Some, ◌+◌, ◌-◌, ◌^◌, ◌<◌, ◌≤◌, [], List as ListOf};
-ghost use Rattle.std.specs.Prelude.{ℕ, IfOk, take};
+ghost use Rattle.std.specs.Prelude.{◌≡◌, ◌↔◌, ◌⊎◌, Some, ◌-◌, ◌^◌, ◌<◌, ◌≤◌, [], List as ListOf, ℕ, IfOk};
 ghost use Rattle.line_session.specs.Causes.{Rose};
-ghost use Rattle.line_session.specs.Lines.{HasLongLine, IsTooMuch, PassesNoLimit};
-ghost use Rattle.line_session.specs.Session.{NoRest, MakesTooLong, MakesTooMuch};
 ghost use Rattle.semver.specs.Identifiers.{parts_of};
-ghost use Rattle.api_description.specs.Registering.{AreAccepted, SomeRefused};
+ghost use Rattle.api_description.specs.Registering.{AreAccepted};
 ghost use Rattle.api_description.specs.declared.register.ApiDescriptionRegisterError.{ApiDescriptionRegisterError as ErrorValue};
-ghost use Rattle.contract_tool.specs.Sessions.{boxed, IsCutSession, IsSession, IsStoppedSession, front_of};
-ghost use Rattle.contract_tool.specs.Sessions.{IsDoneSession, status_of};
+ghost use Rattle.contract_tool.specs.declared.config.ToolStatus.{ToolStatus as StatusValue};
+ghost use Rattle.contract_tool.specs.Ends.{CallsFor, IsEnded, outside};
+ghost use Rattle.contract_tool.specs.Sessions.{boxed, IsSession, front_of, status_of};
 ghost use Rattle.contract_tool.specs.Words.{IsCommand};
 
 use crate::answering::Desk;
@@ -40,76 +38,29 @@ pub fn run<S: Source, K: Sink>(
     requires longest { config.now.longest_line < 2 ^ 64 - 1 }
     requires budget { config.now.frame_budget < 2 ^ 64 - 1 }
 
-    // What was read was read to its end, and each line of it answered in order.
-    ensures done { result ≡ ToolStatus.Done →
-        IsDoneSession (boxed ⟦<dyn RouteHandler as RouteHandler>⟧) config.now endpoints.items words.now
-        (S.left source.old) (S.left source.new) (K.taken sink.old) (K.taken sink.new) store.old store.new }
     // Of a source and a sink that tell their bytes: all were read, and each line was answered in order.
     ensures session { result ≡ ToolStatus.Done → (all written : ListOf ℕ) →
         S.left source.old ≡ Some all → K.taken sink.old ≡ Some written →
         IsSession (boxed ⟦<dyn RouteHandler as RouteHandler>⟧) config.now endpoints.items words.now
         all written (S.left source.new) (K.taken sink.new) store.old store.new }
-    ensures within { result ≡ ToolStatus.Done → (all : ListOf ℕ) → S.left source.old ≡ Some all →
-        PassesNoLimit config.now.most_input config.now.longest_line all }
+    // What each status says.
+    ensures ended { IsEnded (boxed ⟦<dyn RouteHandler as RouteHandler>⟧) config.now endpoints.items words.now
+        S.Source K.Sink (outside source.old sink.old store.old) (outside source.new sink.new store.new) result }
 
     ensures usage { result ≡ ToolStatus.Usage ↔ ¬ IsCommand words.now }
-    ensures refused { (error : ErrorValue) → result ≡ ToolStatus.Refused error → IsCommand words.now
-        × SomeRefused (boxed ⟦<dyn RouteHandler as RouteHandler>⟧) [] endpoints.items error }
-    ensures untouched { (result ≡ ToolStatus.Usage)
-        ⊎ ((error : ErrorValue) × (result ≡ ToolStatus.Refused error)) →
-        (source.new ≡ source.old) × (sink.new ≡ sink.old) × (store.new ≡ store.old) }
-
-    ensures read_fault { result ≡ ToolStatus.ReadFault → Rose (S.faults source.old) (S.faults source.new)
-        × IsStoppedSession (boxed ⟦<dyn RouteHandler as RouteHandler>⟧) config.now endpoints.items words.now
-        (S.left source.old) (S.left source.new) (K.taken sink.old) (K.taken sink.new) store.old store.new
-        NoRest }
-    ensures write_fault { result ≡ ToolStatus.WriteFault → Rose (K.faults sink.old) (K.faults sink.new)
-        × IsCutSession (boxed ⟦<dyn RouteHandler as RouteHandler>⟧) config.now endpoints.items words.now
-        (S.left source.old) (S.left source.new) (K.taken sink.old) (K.taken sink.new) store.old store.new }
-    ensures too_long { (bytes : ℕ) → result ≡ ToolStatus.LineTooLong bytes
-        → (bytes ≡ config.now.longest_line + 1)
-        × IsStoppedSession (boxed ⟦<dyn RouteHandler as RouteHandler>⟧) config.now endpoints.items words.now
-        (S.left source.old) (S.left source.new) (K.taken sink.old) (K.taken sink.new) store.old store.new
-        (MakesTooLong config.now.most_input config.now.longest_line) }
-    ensures too_much { (bytes : ℕ) → result ≡ ToolStatus.TooMuchInput bytes
-        → (bytes ≡ config.now.most_input + 1)
-        × IsStoppedSession (boxed ⟦<dyn RouteHandler as RouteHandler>⟧) config.now endpoints.items words.now
-        (S.left source.old) (S.left source.new) (K.taken sink.old) (K.taken sink.new) store.old store.new
-        (MakesTooMuch config.now.most_input) }
-    // Before the session began nothing was read or written.
-    ensures out_of_memory { result ≡ ToolStatus.OutOfMemory →
-        ((source.new ≡ source.old) × (sink.new ≡ sink.old) × (store.new ≡ store.old))
-        ⊎ IsCutSession (boxed ⟦<dyn RouteHandler as RouteHandler>⟧) config.now endpoints.items words.now
-        (S.left source.old) (S.left source.new) (K.taken sink.old) (K.taken sink.new) store.old store.new }
-
+    // Endpoints that are not accepted are refused, or memory runs out.
+    ensures refused { IsCommand words.now →
+        ¬ AreAccepted (boxed ⟦<dyn RouteHandler as RouteHandler>⟧) [] endpoints.items →
+        ((error : ErrorValue) × (result ≡ ToolStatus.Refused error)) ⊎ (result ≡ ToolStatus.OutOfMemory) }
+    // Where nothing stands against it, the status is the one that the bytes call for, or memory runs out.
+    ensures complete { IsCommand words.now →
+        AreAccepted (boxed ⟦<dyn RouteHandler as RouteHandler>⟧) [] endpoints.items →
+        (all : ListOf ℕ) (status : StatusValue) → S.left source.old ≡ Some all → CallsFor config.now all status →
+        ¬ Rose (S.faults source.old) (S.faults source.new) → ¬ Rose (K.faults sink.old) (K.faults sink.new) →
+        (result ≡ status) ⊎ (result ≡ ToolStatus.OutOfMemory) }
     // A count of faults never falls.
     ensures source_later { S.faults source.old ≤ S.faults source.new }
     ensures sink_later { K.faults sink.old ≤ K.faults sink.new }
-
-    // Where nothing stands against it, every line is answered, or memory runs out.
-    ensures complete { IsCommand words.now →
-        AreAccepted (boxed ⟦<dyn RouteHandler as RouteHandler>⟧) [] endpoints.items →
-        (all : ListOf ℕ) → S.left source.old ≡ Some all
-        → PassesNoLimit config.now.most_input config.now.longest_line all →
-        ¬ Rose (S.faults source.old) (S.faults source.new) → ¬ Rose (K.faults sink.old) (K.faults sink.new) →
-        (result ≡ ToolStatus.Done) ⊎ (result ≡ ToolStatus.OutOfMemory) }
-    // Where a limit is passed, that shows at the first byte beyond it, or memory runs out.
-    ensures complete_long { IsCommand words.now →
-        AreAccepted (boxed ⟦<dyn RouteHandler as RouteHandler>⟧) [] endpoints.items →
-        (all : ListOf ℕ) → S.left source.old ≡ Some all
-        → HasLongLine config.now.longest_line (take config.now.most_input all) →
-        ¬ Rose (S.faults source.old) (S.faults source.new) → ¬ Rose (K.faults sink.old) (K.faults sink.new) →
-        (result ≡ ToolStatus.LineTooLong (config.now.longest_line + 1)) ⊎ (result ≡ ToolStatus.OutOfMemory) }
-    ensures complete_much { IsCommand words.now →
-        AreAccepted (boxed ⟦<dyn RouteHandler as RouteHandler>⟧) [] endpoints.items →
-        (all : ListOf ℕ) → S.left source.old ≡ Some all
-        → IsTooMuch config.now.most_input config.now.longest_line all →
-        ¬ Rose (S.faults source.old) (S.faults source.new) → ¬ Rose (K.faults sink.old) (K.faults sink.new) →
-        (result ≡ ToolStatus.TooMuchInput (config.now.most_input + 1)) ⊎ (result ≡ ToolStatus.OutOfMemory) }
-    // Endpoints that are not accepted are refused, or memory runs out.
-    ensures complete_refused { IsCommand words.now →
-        ¬ AreAccepted (boxed ⟦<dyn RouteHandler as RouteHandler>⟧) [] endpoints.items →
-        ((error : ErrorValue) × (result ≡ ToolStatus.Refused error)) ⊎ (result ≡ ToolStatus.OutOfMemory) }
 {
     let version = match session_version(alloc, words) {
         Ok(version) => version,
