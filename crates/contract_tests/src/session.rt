@@ -16,8 +16,8 @@ pub struct Setting<'a> {
     pub words: &'a [&'a str],
     pub path: &'a str,
     pub input: &'a [u8],
-    pub longest_line: u64,
-    pub most_input: u64,
+    pub longest_line: u32,
+    pub most_input: u32,
     pub failing_read: Option<u64>,
     pub failing_write: Option<u64>,
 }
@@ -36,7 +36,7 @@ pub fn plain<'a>(input: &'a [u8]) -> Setting<'a> {
 }
 
 impl<'a> Setting<'a> {
-    pub fn with_limits(self, longest_line: u64, most_input: u64) -> Setting<'a> {
+    pub fn with_limits(self, longest_line: u32, most_input: u32) -> Setting<'a> {
         Setting {
             longest_line,
             most_input,
@@ -84,8 +84,8 @@ pub fn run_session(alloc: Global, setting: &Setting) -> Result<Outcome, Fail> {
     )?)?;
     let mut store = Store::new(alloc);
     let config = ToolConfig {
-        longest_line: setting.longest_line,
-        most_input: setting.most_input,
+        longest_line: u64::from(setting.longest_line),
+        most_input: u64::from(setting.most_input),
         ..sample::config(alloc)?
     };
     let mut source = MemorySource::new(
@@ -142,11 +142,17 @@ fn numbers(alloc: Global, number: Option<u64>) -> Result<List<u64>, AllocError> 
 /// The document of the sample API and these lines, each with a newline.
 pub fn document_and(alloc: Global, lines: &[&str]) -> Result<Vec<u8>, AllocError> {
     let mut text = Vec::new(alloc);
-    for line in DOCUMENT.iter().chain(lines) {
+    push_lines(&mut text, &DOCUMENT)?;
+    push_lines(&mut text, lines)?;
+    Ok(text)
+}
+
+fn push_lines(text: &mut Vec<u8>, lines: &[&str]) -> Result<(), AllocError> {
+    for line in lines {
         text.extend_from_slice(line.as_bytes())?;
         text.push(b'\n')?;
     }
-    Ok(text)
+    Ok(())
 }
 
 /// These lines, with a newline between each two.

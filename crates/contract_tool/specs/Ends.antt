@@ -41,8 +41,8 @@ FailedToWrite sink before after = Rose (sink.faults before.sink) (sink.faults af
 module _ {X : Type 0} {F : X → Type 0} {S K : Type 0} (m : Meanings X F) (config : ToolConfig)
     (endpoints : List (ApiEndpoint X F)) (words : List (String Global))
     (source : SourceGhosts S) (sink : SinkGhosts K) (before after : Outside S K) where
-  -- A session was opened, its document and the replies to its lines were written, and it ended so. Where the source
-  -- tells its bytes, they meet the limits as this end says.
+  -- A session was opened, its document and the replies to its lines were written, and it ended so.
+  -- Where the source tells its bytes, they meet the limits as this end says.
   pub record IsSessionUpTo (how : SessionEnd) : Type 0 where
     pub version : Parts
     pub opened : IsOpened m config version endpoints words

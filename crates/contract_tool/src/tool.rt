@@ -45,7 +45,8 @@ pub fn run<S: Source, K: Sink>(
         all written (S.left source.new) (K.taken sink.new) store.old store.new }
     // What each status says.
     ensures ended { IsEnded (boxed ⟦<dyn RouteHandler as RouteHandler>⟧) config.now endpoints.items words.now
-        S.Source K.Sink (outside source.old sink.old store.old) (outside source.new sink.new store.new) result }
+        S.Source K.Sink (outside source.old sink.old store.old) (outside source.new sink.new store.new)
+        result }
 
     ensures usage { result ≡ ToolStatus.Usage ↔ ¬ IsCommand words.now }
     // Endpoints that are not accepted are refused, or memory runs out.
@@ -55,7 +56,8 @@ pub fn run<S: Source, K: Sink>(
     // Where nothing stands against it, the status is the one that the bytes call for, or memory runs out.
     ensures complete { IsCommand words.now →
         AreAccepted (boxed ⟦<dyn RouteHandler as RouteHandler>⟧) [] endpoints.items →
-        (all : ListOf ℕ) (status : StatusValue) → S.left source.old ≡ Some all → CallsFor config.now all status →
+        (all : ListOf ℕ) → S.left source.old ≡ Some all →
+        (status : StatusValue) → CallsFor config.now all status →
         ¬ Rose (S.faults source.old) (S.faults source.new) → ¬ Rose (K.faults sink.old) (K.faults sink.new) →
         (result ≡ status) ⊎ (result ≡ ToolStatus.OutOfMemory) }
     // A count of faults never falls.

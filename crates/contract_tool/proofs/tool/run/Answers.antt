@@ -12,7 +12,7 @@ returns-in-Err-Refused-clause-ended g c = rw c.in-Err-Refused.field-0-is (
 )
 
 pub returns-in-Err-Refused-clause-complete : goal.returns-in-Err-Refused-clause-complete
-returns-in-Err-Refused-clause-complete g c command accepted all status left calls source sink =
+returns-in-Err-Refused-clause-complete g c command accepted all left status calls source sink =
     absurd (none-refused _ [] c.args.endpoints.items c.in-Err-Refused.error accepted (c.in-Err-Refused.ensures.refused c.in-Err-Refused.error (ap Err c.in-Err-Refused.field-0-is)))
 
 pub serve-requires-clause-ready : goal.serve-requires-clause-ready
@@ -39,7 +39,7 @@ returns-clause-ended g c =
     }) c.serve.ensures.read_fault c.serve.ensures.write_fault
 
 pub returns-clause-complete : goal.returns-clause-complete
-returns-clause-complete g c command accepted all status left calls source sink =
+returns-clause-complete g c command accepted all left status calls source sink =
     called-for c.args.config.now all c.serve.result c.status_of.result status c.status_of.ensures calls
     (λ limit. c.serve.ensures.complete all left limit source sink)
     (λ long. c.serve.ensures.too_long all left long source sink)
