@@ -1,6 +1,6 @@
 #!/bin/sh
-# Lines a second of a session over N lines and over 2N lines of a point each (N is 100000 by default), and of the last
-# tenth of them: by the time of all lines less the time of the first nine tenths alone.
+# Lines a second of a session over N lines and over 2N lines of a point each (N is 100000 by default), and of the
+# slowest tenth of the replies, by the moments at which each tenth had come out of a pipe.
 here=$(cd "$(dirname "$0")/.." && pwd) || exit 1
 lines=${1:-100000}
 work=$(mktemp -d) || exit 1
@@ -13,26 +13,34 @@ points() {
     }'
 }
 
-# The nanoseconds of a session over the first lines of the input.
-nanoseconds() {
-    head -n "$1" "$work/input" >"$work/part"
-    start=$(date +%s%N)
-    "$here/contract-tool" session 1.0.0 <"$work/part" >"$work/output" || return 1
-    end=$(date +%s%N)
-    echo $((end - start))
+# The nanoseconds at the start of a session over the input, and as each tenth of its replies has come.
+moments() {
+    date +%s%N
+    "$here/contract-tool" session 1.0.0 <"$work/input" | awk -v tenth="$1" '
+        /^\{"outcome":"handled"/ && ++handled % tenth == 0 {
+            clock = "date +%s%N"
+            clock | getline now
+            close(clock)
+            print now
+        }'
 }
 
 "$here/contract-tool" session 1.0.0 </dev/null >/dev/null || exit 1
 for count in "$lines" $((lines * 2)); do
     points "$count" >"$work/input"
-    most=$((count * 9 / 10))
-    first=$(nanoseconds "$most") || exit 1
-    all=$(nanoseconds "$count") || exit 1
-    handled=$(grep -c '"outcome":"handled"' "$work/output")
-    awk -v count="$count" -v most="$most" -v handled="$handled" -v first="$first" -v all="$all" 'BEGIN {
-        printf "%d lines, %d handled, %.2f s, %.0f lines a second", count, handled, all / 1e9, count * 1e9 / all
-        if (all > first)
-            printf "; the last tenth %.2f s, %.0f lines a second", (all - first) / 1e9, (count - most) * 1e9 / (all - first)
-        print ""
-    }'
+    moments $((count / 10)) >"$work/moments"
+    awk -v count="$count" '
+        { at[NR] = $1 }
+        END {
+            if (NR != 11) {
+                print "not every line was handled"
+                exit 1
+            }
+            for (i = 2; i <= NR; i++)
+                if (at[i] - at[i - 1] > slowest)
+                    slowest = at[i] - at[i - 1]
+            all = at[NR] - at[1]
+            printf "%d lines, %.2f s, %.0f lines a second; the slowest tenth %.3f s, %.0f lines a second\n",
+                count, all / 1e9, count * 1e9 / all, slowest / 1e9, count * 1e8 / slowest
+        }' "$work/moments" || exit 1
 done

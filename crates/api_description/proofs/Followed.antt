@@ -1,5 +1,5 @@
 -- What endpoints answer follows a document that agrees with them.
-use Rattle.std.proofs.Common.{◌≡◌, ℕ, List, [], ◌∷◌, ◌++◌, Some, Ok, Err, inl, inr, sym, ap, ◌∙◌, subst}
+use Rattle.std.proofs.Common.{◌≡◌, ℕ, List, [], ◌∷◌, ◌++◌, Some, None, Ok, Err, inl, inr, refl, sym, ap, ◌∙◌, subst}
 use Rattle.std.specs.declared.result.Result.{Result}
 use Rattle.schema_values.specs.declared.json_value.Json.{Json}
 use Rattle.semver.specs.Identifiers.{parts_of}
@@ -20,9 +20,10 @@ use Rattle.api_description.specs.declared.exchange.Exchange.{Exchange}
 use Rattle.api_description.specs.declared.exchange.Exchange.TheVariants.{Handled, Refused}
 use Rattle.api_description.specs.declared.exchange.ExchangeError.{ExchangeError}
 use Rattle.api_description.specs.declared.exchange.ExchangeError.TheVariants.{BadRequestId, NoSuchOperation, OutOfMemory}
-use Rattle.api_description.specs.Agreement.{IsAgreed, IsTaken, FollowsDocument}
+use Rattle.api_description.specs.declared.http_status.error.Response.{Response}
+use Rattle.api_description.specs.Agreement.{IsAdmitted, IsAgreed, IsTaken, FollowsDocument}
 use Rattle.api_description.specs.Endpoints.{Meanings, shape_at}
-use Rattle.api_description.specs.Exchanges.{Answers, named_by}
+use Rattle.api_description.specs.Exchanges.{Answers, NamedAnswers, named_by}
 use Rattle.api_description.specs.Requests.{ArgsDenoted, BodyDenotes, BodyRefused, FirstRefused, SlotRefused}
 use Rattle.api_description.specs.Stores.{Tables}
 
@@ -56,16 +57,22 @@ module _ {X : Type 0} {F : X → Type 0} (m : Meanings X F) (config : ServerConf
       let same : taken.0 ≡ e = let there = taken.1 in cc (sym there ∙ named) in
       subst (λ (x : ApiEndpoint X F). (args : List Arg) × ArgsDenoted (shape_at m x).table body (shape_at m x).slots args) same (taken.2, taken.3)
 
-  pub answers_follow : (outcome : Result Exchange ExchangeError) → Answers m config endpoints request body before outcome after → FollowsDocument document request body outcome
-  answers_follow (Ok (Handled args reply response)) answers = (agreed request body asked).1 (answers.1.0, answers.1.1, args, answers.1.2.0.denoted)
-  answers_follow (Ok (Refused fault response)) answers = λ admitted.
-      let e = answers.1.0 in
-      let refusal = answers.1.2.0 in
-      let given = taken_by e answers.1.1 ((agreed request body asked).0 admitted) in
+  -- a refused request is not admitted
+  refused_not_admitted : (fault : Fault) (response : Response) → NamedAnswers m config endpoints request body before (Ok (Refused fault response)) after → IsAdmitted document request body → ⊥
+  refused_not_admitted fault response (e, named, refusal, kept) admitted =
+      let given = taken_by e named ((agreed request body asked).0 admitted) in
       given_or_refused (shape_at m e).table body (shape_at m e).slots fault refusal.message given.0 refusal.refused given.1
-  answers_follow (Err NoSuchOperation) answers = λ admitted.
-      let none = answers.1 in
+
+  -- a request that names no endpoint is not admitted
+  unnamed_not_admitted : named_by request endpoints ≡ None → IsAdmitted document request body → ⊥
+  unnamed_not_admitted none admitted =
       let named = ((agreed request body asked).0 admitted).1 in
       absurd (cc (sym none ∙ named))
-  answers_follow (Err BadRequestId) answers = tt
-  answers_follow (Err OutOfMemory) answers = tt
+
+  pub answers_follow : (outcome : Result Exchange ExchangeError) → Answers m config endpoints request body before outcome after → FollowsDocument document request body outcome
+  answers_follow (Ok (Handled args reply response)) answers id told =
+      (λ handled. (agreed request body asked).1 (answers.1.0, answers.1.1, args, answers.1.2.0.denoted), λ admitted. tt)
+  answers_follow (Ok (Refused fault response)) answers id told = (λ handled. absurd handled, refused_not_admitted fault response answers.1)
+  answers_follow (Err NoSuchOperation) answers id told = (λ handled. absurd handled, unnamed_not_admitted answers.1)
+  answers_follow (Err BadRequestId) answers id told = absurd (answers.0 id)
+  answers_follow (Err OutOfMemory) answers id told = absurd (told refl)

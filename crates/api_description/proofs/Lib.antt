@@ -21,3 +21,4 @@ mod SoundReadings
 pub mod Agreed
 pub mod Followed
 pub mod Printed
+pub mod CloneLemmas

@@ -1,5 +1,5 @@
 -- What the document of endpoints says of requests.
-use Rattle.std.specs.Prelude.{◌≡◌, ◌↔◌, ℕ, ⊤, List, Some, option_map}
+use Rattle.std.specs.Prelude.{◌≡◌, ◌≢◌, ◌↔◌, ℕ, ⊤, List, Some, option_map}
 use Rattle.std.specs.declared.result.Result.{Result}
 use Rattle.std.specs.declared.result.Result.TheVariants.{Ok, Err}
 use Rattle.std.specs.Str.{encode_utf8_all}
@@ -15,10 +15,10 @@ use Rattle.api_description.specs.declared.endpoint.ApiEndpoint.{ApiEndpoint}
 use Rattle.api_description.specs.declared.exchange.Exchange.{Exchange}
 use Rattle.api_description.specs.declared.exchange.Exchange.TheVariants.{Handled, Refused}
 use Rattle.api_description.specs.declared.exchange.ExchangeError.{ExchangeError}
-use Rattle.api_description.specs.declared.exchange.ExchangeError.TheVariants.{BadRequestId, NoSuchOperation, OutOfMemory}
+use Rattle.api_description.specs.declared.exchange.ExchangeError.TheVariants.{OutOfMemory}
 use Rattle.api_description.specs.Documents.{operation_of}
 use Rattle.api_description.specs.Endpoints.{Meanings, shape_at, endpoint_for}
-use Rattle.api_description.specs.Exchanges.{named_by}
+use Rattle.api_description.specs.Exchanges.{HasId, named_by}
 use Rattle.api_description.specs.Requests.{ArgsDenoted}
 use Rattle.api_description.specs.Templates.{trimmed}
 
@@ -41,14 +41,15 @@ abbrev pub IsAgreed : {X : Type 0} {F : X → Type 0} → Meanings X F → Parts
 IsAgreed m version endpoints document = (request : RequestParts) (body : List ℕ) → parts_of request.version ≡ version
     → IsAdmitted document request body ↔ IsTaken m endpoints request body
 
--- A request is handled only where the document admits it, and is refused, or told that it names no operation, only
--- where the document does not. A bad request id and want of memory say nothing of the document.
+-- the handler was called on the request
+abbrev pub IsHandled : Result Exchange ExchangeError → Type 0
+IsHandled (Ok (Handled args reply response)) = ⊤
+IsHandled (Ok (Refused fault response)) = ⊥
+IsHandled (Err error) = ⊥
+
+-- a request with a valid id that is answered, so not lost for want of memory, is handled exactly where the document admits it
 abbrev pub FollowsDocument : Json → RequestParts → List ℕ → Result Exchange ExchangeError → Type 0
-FollowsDocument document request body (Ok (Handled args reply response)) = IsAdmitted document request body
-FollowsDocument document request body (Ok (Refused fault response)) = IsAdmitted document request body → ⊥
-FollowsDocument document request body (Err NoSuchOperation) = IsAdmitted document request body → ⊥
-FollowsDocument document request body (Err BadRequestId) = ⊤
-FollowsDocument document request body (Err OutOfMemory) = ⊤
+FollowsDocument document request body outcome = HasId request → outcome ≢ Err OutOfMemory → IsHandled outcome ↔ IsAdmitted document request body
 
 -- the JSON values of a document, counted twice, are fewer than 2^64-1
 abbrev pub IsCountedTwice : Json → Type 0

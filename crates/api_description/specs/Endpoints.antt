@@ -12,6 +12,10 @@ use Rattle.api_description.specs.Versions.{holds}
 abbrev pub Meanings : (X : Type 0) → (X → Type 0) → Type 1
 Meanings X F = (e : ApiEndpoint X F) → Ghosts (F e.handler.vtable)
 
+-- the meanings of boxed handlers, of the meanings by what stands in a box beside the handler
+abbrev pub boxed : {X : Type 0} {F : X → Type 0} → ((x : X) → Ghosts (F x)) → Meanings X F
+boxed m e = m e.handler.vtable
+
 -- the shape of an endpoint's handler
 abbrev pub shape_at : {X : Type 0} {F : X → Type 0} → Meanings X F → ApiEndpoint X F → HandlerShape
 shape_at m e = (m e).shape_of e.handler.value

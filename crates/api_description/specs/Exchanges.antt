@@ -12,6 +12,7 @@ use Rattle.api_description.specs.declared.api_extract.slot.Arg.{Arg}
 use Rattle.api_description.specs.declared.api_respond.handler.RequestContext.{RequestContext}
 use Rattle.api_description.specs.declared.api_respond.reply.Reply.{Reply}
 use Rattle.api_description.specs.declared.api_respond.reply.ErrorReply.{ErrorReply}
+use Rattle.api_description.specs.declared.api_respond.reply.ErrorReply.TheVariants.{Http}
 use Rattle.api_description.specs.declared.endpoint.ApiEndpoint.{ApiEndpoint}
 use Rattle.api_description.specs.declared.exchange.Exchange.{Exchange}
 use Rattle.api_description.specs.declared.exchange.Exchange.TheVariants.{Handled, Refused}
@@ -19,7 +20,7 @@ use Rattle.api_description.specs.declared.exchange.ExchangeError.{ExchangeError}
 use Rattle.api_description.specs.declared.exchange.ExchangeError.TheVariants.{BadRequestId, NoSuchOperation, OutOfMemory}
 use Rattle.api_description.specs.declared.http_status.error.Response.{Response}
 use Rattle.api_description.specs.Endpoints.{Meanings, shape_at, endpoint_for}
-use Rattle.api_description.specs.Replies.{ReplyFits, response_of, failure_response}
+use Rattle.api_description.specs.Replies.{HasHttpErrors, ReplyFits, response_of, failure_response}
 use Rattle.api_description.specs.Requests.{ArgsDenoted, FirstRefused}
 use Rattle.api_description.specs.Responses.{bad_request}
 use Rattle.api_description.specs.Stores.{Tables}
@@ -49,10 +50,13 @@ pub record IsHandling {X : Type 0} {F : X → Type 0} (m : Meanings X F) (config
   pub allowed : (m e).allows e.handler.value (context_of e config request) before args reply after
   pub fits : ReplyFits (shape_at m e) reply
 
--- the response is what the endpoint's own error makes of a 400 of this message
-abbrev pub IsTurned : {X : Type 0} {F : X → Type 0} → Meanings X F → ApiEndpoint X F → List ℕ → List ℕ → Response → Type 0
-IsTurned m e message id response =
-    (reply : ErrorReply) × (m e).turns e.handler.value (bad_request None message) reply × (response ≡ failure_response reply id)
+-- The response is what the endpoint's own error makes of a 400 of this message; where the endpoint's errors are
+-- `HttpError`s, that is the 400 itself.
+pub record IsTurned {X : Type 0} {F : X → Type 0} (m : Meanings X F) (e : ApiEndpoint X F) (message id : List ℕ) (response : Response) : Type 0 where
+  pub reply : ErrorReply
+  pub turned : (m e).turns e.handler.value (bad_request None message) reply
+  pub itself : HasHttpErrors (shape_at m e) → reply ≡ Http (bad_request None message)
+  pub sent : response ≡ failure_response reply id
 
 -- the request gives the handler no arguments, and the response tells the first fault
 pub record IsRefusal {X : Type 0} {F : X → Type 0} (m : Meanings X F) (e : ApiEndpoint X F)

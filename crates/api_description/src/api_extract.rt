@@ -6,4 +6,5 @@ mod slot;
 
 pub use arguments::{ExtractError, extract};
 pub use request::{RequestInfo, RequestParts, ServerConfig};
+pub(crate) use slot::copy_slots;
 pub use slot::{ApiEndpointBodyContentType, Arg, ArgList, Slot, Unsupported};

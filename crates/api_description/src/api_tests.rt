@@ -2,6 +2,7 @@
 ghost use Rattle.std.specs.Prelude.{◌≡◌, ⊤, [], IfOk, MatchOption};
 ghost use Rattle.typed_values.specs.Checks.{TablePasses, DescPasses};
 ghost use Rattle.typed_values.specs.Fits.{Fits};
+ghost use Rattle.api_description.specs.Endpoints.{boxed};
 ghost use Rattle.api_description.specs.Replies.{ContentFits, ContentPasses};
 ghost use Rattle.api_description.specs.Registering.{AreAccepted};
 
@@ -263,7 +264,7 @@ fn endpoints(alloc: Global) -> Result<Vec<ApiEndpoint>, Fail> {
 
 fn description(alloc: Global) -> Result<ApiDescription, Fail>
     ensures { IfOk result (λ api. AreAccepted
-        (λ e. ⟦<dyn RouteHandler as RouteHandler>⟧ e.handler.vtable) [] api.endpoints.items) }
+        (boxed ⟦<dyn RouteHandler as RouteHandler>⟧) [] api.endpoints.items) }
 {
     let tags = TagConfig::default_config(alloc);
     match ApiDescription::of_endpoints(alloc, tags, endpoints(alloc)?) {

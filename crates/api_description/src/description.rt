@@ -1,5 +1,6 @@
 //! The endpoints of an API.
 ghost use Rattle.std.specs.Prelude.{◌≡◌, ◌++◌, ◌∷◌, [], IfOk, OnOk, OnErr};
+ghost use Rattle.api_description.specs.Endpoints.{boxed};
 ghost use Rattle.api_description.specs.Registering.{AreAccepted, MayRegister, RefusedBy};
 ghost use Rattle.api_description.specs.Registering.{SomeRefused};
 ghost use Rattle.api_description.specs.declared.register.ApiDescriptionRegisterError.{ApiDescriptionRegisterError as ErrorValue};
@@ -87,10 +88,10 @@ impl ApiDescription {
     pub fn register(&mut self, endpoint: ApiEndpoint) -> Result<(), RegisterError>
         ensures ok { OnOk result (self.new.endpoints.items ≡ self.old.endpoints.items ++ endpoint ∷ []) }
         ensures may { OnOk result (MayRegister
-            (λ e. ⟦<dyn RouteHandler as RouteHandler>⟧ e.handler.vtable) self.old.endpoints.items endpoint) }
+            (boxed ⟦<dyn RouteHandler as RouteHandler>⟧) self.old.endpoints.items endpoint) }
         ensures refused { (error : ErrorValue) → result ≡ Err (RegisterError.Refused error) →
             RefusedBy
-            (λ e. ⟦<dyn RouteHandler as RouteHandler>⟧ e.handler.vtable) self.old.endpoints.items endpoint
+            (boxed ⟦<dyn RouteHandler as RouteHandler>⟧) self.old.endpoints.items endpoint
             error }
         ensures err { OnErr result (self.new.endpoints.items ≡ self.old.endpoints.items) }
         ensures tags { self.new.tags ≡ self.old.tags }
@@ -115,12 +116,12 @@ impl ApiDescription {
         ensures items { IfOk result (λ api. api.endpoints.items ≡ endpoints.items) }
         ensures tags { IfOk result (λ api. api.tags ≡ tags) }
         ensures accepted { OnOk result (AreAccepted
-            (λ e. ⟦<dyn RouteHandler as RouteHandler>⟧ e.handler.vtable) [] endpoints.items) }
+            (boxed ⟦<dyn RouteHandler as RouteHandler>⟧) [] endpoints.items) }
         ensures registered { IfOk result (λ api. AreAccepted
-            (λ e. ⟦<dyn RouteHandler as RouteHandler>⟧ e.handler.vtable) [] api.endpoints.items) }
+            (boxed ⟦<dyn RouteHandler as RouteHandler>⟧) [] api.endpoints.items) }
         ensures refused { (error : ErrorValue) → result ≡ Err (RegisterError.Refused error) →
             SomeRefused
-            (λ e. ⟦<dyn RouteHandler as RouteHandler>⟧ e.handler.vtable) [] endpoints.items error }
+            (boxed ⟦<dyn RouteHandler as RouteHandler>⟧) [] endpoints.items error }
     {
         let mut api = ApiDescription::new(alloc).tag_config(tags);
         for endpoint in endpoints {

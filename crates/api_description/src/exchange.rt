@@ -1,6 +1,6 @@
 //! What answers a request.
 ghost use Rattle.std.specs.Prelude.{◌≡◌, [], IfOk};
-ghost use Rattle.api_description.specs.Endpoints.{shape_at};
+ghost use Rattle.api_description.specs.Endpoints.{boxed, shape_at};
 ghost use Rattle.api_description.specs.Exchanges.{Answers, EndpointAnswers, IsTurned, context_of};
 ghost use Rattle.api_description.specs.Registering.{AreAccepted};
 ghost use Rattle.api_description.specs.Replies.{ShapePasses};
@@ -72,9 +72,9 @@ impl ApiDescription {
         config: &ServerConfig,
     ) -> Result<Exchange, ExchangeError>
         requires { AreAccepted
-            (λ e. ⟦<dyn RouteHandler as RouteHandler>⟧ e.handler.vtable) [] self.now.endpoints.items }
+            (boxed ⟦<dyn RouteHandler as RouteHandler>⟧) [] self.now.endpoints.items }
         ensures { Answers
-            (λ e. ⟦<dyn RouteHandler as RouteHandler>⟧ e.handler.vtable) config.now self.now.endpoints.items
+            (boxed ⟦<dyn RouteHandler as RouteHandler>⟧) config.now self.now.endpoints.items
             request.now body.now store.old result store.new }
     {
         let request_id = match RequestId::new(alloc, request.request_id.as_str()) {
@@ -102,10 +102,10 @@ fn answer(
     config: &ServerConfig,
 ) -> Result<Exchange, ExchangeError>
     requires shape { ShapePasses
-        (shape_at (λ e. ⟦<dyn RouteHandler as RouteHandler>⟧ e.handler.vtable) endpoint.now) }
+        (shape_at (boxed ⟦<dyn RouteHandler as RouteHandler>⟧) endpoint.now) }
     requires id { request_id ≡ request.now.request_id }
     ensures { EndpointAnswers
-        (λ e. ⟦<dyn RouteHandler as RouteHandler>⟧ e.handler.vtable) config.now endpoint.now request.now
+        (boxed ⟦<dyn RouteHandler as RouteHandler>⟧) config.now endpoint.now request.now
         body.now store.old result store.new }
 {
     let shape = endpoint.shape();
@@ -135,7 +135,7 @@ fn refusal(
     request_id: &RequestId,
 ) -> Result<Response, AllocError>
     ensures { IfOk result (λ response. IsTurned
-        (λ e. ⟦<dyn RouteHandler as RouteHandler>⟧ e.handler.vtable) endpoint.now message request_id.now
+        (boxed ⟦<dyn RouteHandler as RouteHandler>⟧) endpoint.now message request_id.now
         response) }
 {
     let error = HttpError::for_bad_request(alloc, None, message)?;

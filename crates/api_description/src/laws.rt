@@ -3,6 +3,7 @@ ghost use Rattle.std.specs.Prelude.{ℕ, List, []};
 ghost use Rattle.std.specs.declared.result.Result.{Result};
 ghost use Rattle.semver.specs.Identifiers.{parts_of};
 ghost use Rattle.semver.specs.Parse.{Parts};
+ghost use Rattle.api_description.specs.Endpoints.{boxed};
 ghost use Rattle.api_description.specs.declared.api_extract.request.RequestParts.{RequestParts};
 ghost use Rattle.api_description.specs.declared.api_extract.request.ServerConfig.{ServerConfig};
 ghost use Rattle.api_description.specs.declared.exchange.Exchange.{Exchange};
@@ -18,36 +19,36 @@ use crate::description::ApiDescription;
 
 impl ApiDescription {
     /// The document of an API at a version lists its endpoints, and admits exactly the requests of it that
-    /// one of them takes. What the endpoints answer follows it: a request is handled only where the document
-    /// admits it, and refused, or told that it names no operation, only where the document does not.
+    /// one of them takes. What the endpoints answer follows it: a request with a valid id that is answered is
+    /// handled exactly where the document admits it.
     pub fn agrees(&self)
         requires { AreAccepted
-            (λ e. ⟦<dyn RouteHandler as RouteHandler>⟧ e.handler.vtable) [] self.now.endpoints.items }
+            (boxed ⟦<dyn RouteHandler as RouteHandler>⟧) [] self.now.endpoints.items }
         ensures listed { (title : List ℕ) (version : Parts)
             → IsListed
-            (λ e. ⟦<dyn RouteHandler as RouteHandler>⟧ e.handler.vtable) version self.now.endpoints.items
+            (boxed ⟦<dyn RouteHandler as RouteHandler>⟧) version self.now.endpoints.items
             (document_of
-            (λ e. ⟦<dyn RouteHandler as RouteHandler>⟧ e.handler.vtable) self.now.endpoints.items
+            (boxed ⟦<dyn RouteHandler as RouteHandler>⟧) self.now.endpoints.items
             title version) }
         ensures agreed { (title : List ℕ) (version : Parts)
             → IsCountedTwice (document_of
-            (λ e. ⟦<dyn RouteHandler as RouteHandler>⟧ e.handler.vtable) self.now.endpoints.items
+            (boxed ⟦<dyn RouteHandler as RouteHandler>⟧) self.now.endpoints.items
             title version)
             → IsAgreed
-            (λ e. ⟦<dyn RouteHandler as RouteHandler>⟧ e.handler.vtable) version self.now.endpoints.items
+            (boxed ⟦<dyn RouteHandler as RouteHandler>⟧) version self.now.endpoints.items
             (document_of
-            (λ e. ⟦<dyn RouteHandler as RouteHandler>⟧ e.handler.vtable) self.now.endpoints.items
+            (boxed ⟦<dyn RouteHandler as RouteHandler>⟧) self.now.endpoints.items
             title version) }
         ensures followed { (title : List ℕ) (config : ServerConfig) (request : RequestParts) (body : List ℕ)
             (before : Tables) (outcome : Result Exchange ExchangeError) (after : Tables)
             → IsCountedTwice (document_of
-            (λ e. ⟦<dyn RouteHandler as RouteHandler>⟧ e.handler.vtable) self.now.endpoints.items
+            (boxed ⟦<dyn RouteHandler as RouteHandler>⟧) self.now.endpoints.items
             title (parts_of request.version))
             → Answers
-            (λ e. ⟦<dyn RouteHandler as RouteHandler>⟧ e.handler.vtable) config self.now.endpoints.items
+            (boxed ⟦<dyn RouteHandler as RouteHandler>⟧) config self.now.endpoints.items
             request body before outcome after
             → FollowsDocument (document_of
-            (λ e. ⟦<dyn RouteHandler as RouteHandler>⟧ e.handler.vtable) self.now.endpoints.items
+            (boxed ⟦<dyn RouteHandler as RouteHandler>⟧) self.now.endpoints.items
             title (parts_of request.version)) request body outcome }
     {}
 }

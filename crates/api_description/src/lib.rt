@@ -1,4 +1,5 @@
-//! The endpoints of an API: when one may be registered, the document of those that are, and what answers a request.
+//! The endpoints of an API: when one may be registered, the document of those that are, and what answers a
+//! request.
 #![tactic(auto)]
 
 pub mod api_extract;

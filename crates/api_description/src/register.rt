@@ -4,6 +4,7 @@ ghost use Rattle.std.specs.Prelude.{option_map};
 ghost use Rattle.std.specs.Str.{chars};
 ghost use Rattle.typed_values.specs.Definitions.{entry_of};
 ghost use Rattle.typed_values.specs.declared.desc.Desc.{Ref};
+ghost use Rattle.api_description.specs.Endpoints.{boxed};
 ghost use Rattle.api_description.specs.Registering.{IsBuilt, IsBuiltShape, IsFirstCause, MayRegister};
 ghost use Rattle.api_description.specs.Registering.{message_of};
 ghost use Rattle.api_description.specs.Registering.{begins_with_slash, path_bytes, path_message, reason_of};
@@ -43,6 +44,17 @@ pub struct ApiDescriptionRegisterError {
 }
 
 impl ApiDescriptionRegisterError {
+    /// An error equal to this one.
+    pub fn copy(&self, alloc: Global) -> Result<ApiDescriptionRegisterError, AllocError>
+        ensures { IfOk result (λ copy. copy ≡ self.now) }
+    {
+        Ok(ApiDescriptionRegisterError {
+            operation_id: self.operation_id.copy(alloc)?,
+            message: self.message.copy(alloc)?,
+            cause: self.cause,
+        })
+    }
+
     /// The operation id of the endpoint.
     pub fn operation_id(&self) -> &str
         ensures { self.now.operation_id ≡ chars result.now }
@@ -266,7 +278,7 @@ fn is_built(
     endpoint: &ApiEndpoint,
 ) -> Result<bool, AllocError>
     ensures { IfOk result (λ holds. IsTrue holds
-        ↔ IsBuilt (λ e. ⟦<dyn RouteHandler as RouteHandler>⟧ e.handler.vtable) before.now endpoint.now) }
+        ↔ IsBuilt (boxed ⟦<dyn RouteHandler as RouteHandler>⟧) before.now endpoint.now) }
 {
     if !is_built_shape(alloc, endpoint.shape())? {
         return Ok(false);
@@ -281,9 +293,9 @@ pub(crate) fn first_cause(
     endpoint: &ApiEndpoint,
 ) -> Result<Option<RegisterCause>, AllocError>
     ensures { IfOk result (λ cause. MatchOption cause
-        (MayRegister (λ e. ⟦<dyn RouteHandler as RouteHandler>⟧ e.handler.vtable) before.now endpoint.now)
+        (MayRegister (boxed ⟦<dyn RouteHandler as RouteHandler>⟧) before.now endpoint.now)
         (λ cause. IsFirstCause
-        (λ e. ⟦<dyn RouteHandler as RouteHandler>⟧ e.handler.vtable) before.now endpoint.now cause)) }
+        (boxed ⟦<dyn RouteHandler as RouteHandler>⟧) before.now endpoint.now cause)) }
 {
     if !is_built(alloc, before, endpoint)? {
         return Ok(Some(RegisterCause::NotBuilt));

@@ -8,8 +8,8 @@ use std::collections::BTreeMap;
 use std::marker::Model;
 use typed_values::Tree;
 
-/// A table: trees by key, in ascending order of the keys' bytes. Contracts see the bytes of its name and the pairs of
-/// a key's bytes and a tree.
+/// A table: trees by key, in ascending order of the keys' bytes. Contracts see the bytes of its name and the
+/// pairs of a key's bytes and a tree.
 #[derive(Drop)]
 struct Table {
     name: String,
@@ -66,10 +66,11 @@ impl Table {
     }
 }
 
-/// Tables by name, each with trees by key in ascending order of the keys' bytes. A table that is absent is an empty one.
+/// Tables by name, each with trees by key in ascending order of the keys' bytes. A table that is absent is an
+/// empty one.
 ///
-/// Contracts see a name and a key as their bytes. A table is found by a walk over the tables, and a key in time
-/// logarithmic in the number of the table's keys.
+/// Contracts see a name and a key as their bytes. A table is found by a walk over the tables, and a key in
+/// time logarithmic in the number of the table's keys.
 #[derive(Drop)]
 pub struct Store {
     alloc: Global,
@@ -110,8 +111,8 @@ impl Store {
         }
     }
 
-    /// Puts a tree at a key of a table, which is made where it is absent, and returns the tree that was there. Fails
-    /// only for want of memory, and drops the tree then.
+    /// Puts a tree at a key of a table, which is made where it is absent, and returns the tree that was
+    /// there. Fails only for want of memory, and drops the tree then.
     pub fn insert(&mut self, table: &str, key: &str, tree: Tree) -> Result<Option<Tree>, AllocError>
         ensures ok { OnOk result (self.new ≡ store_with table.now key.now tree self.old) }
         ensures replaced { IfOk result (λ old. old ≡ stored table.now key.now self.old) }

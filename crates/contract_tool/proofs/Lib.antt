@@ -4,4 +4,3 @@ pub mod RequestLemmas
 pub mod ReplyLemmas
 pub mod AnswerLemmas
 pub mod RunLemmas
-pub mod CloneLemmas

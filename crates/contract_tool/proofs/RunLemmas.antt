@@ -1,5 +1,5 @@
 -- How a run ends, by how its session ends.
-use Rattle.std.proofs.Common.{◌≡◌, ◌+◌, ℕ, List, [], ◌∷◌, ◌++◌, length, ◌<◌, Option, take, ◌⊎◌, sym, ap, ◌∙◌, inl, inr, subst, true, false, refl}
+use Rattle.std.proofs.Common.{◌≡◌, ◌≢◌, ◌+◌, ℕ, List, [], ◌∷◌, ◌++◌, length, ◌<◌, Option, take, ◌⊎◌, Result, Err, sym, ap, ◌∙◌, inl, inr, subst, true, false, refl}
 use Rattle.line_session.specs.Lines.{HasLongLine, IsTooMuch, PassesNoLimit}
 use Rattle.line_session.specs.Session.{IsAnswered}
 use Rattle.line_session.specs.Status.{IsServed}
@@ -8,6 +8,9 @@ use Rattle.line_session.specs.declared.outside.Source.{Ghosts as SourceGhosts}
 use Rattle.line_session.specs.declared.serving.SessionEnd.{SessionEnd}
 use Rattle.line_session.specs.declared.serving.SessionEnd.TheVariants as ended
 use Rattle.api_description.specs.declared.endpoint.ApiEndpoint.{ApiEndpoint}
+use Rattle.api_description.specs.declared.exchange.Exchange.{Exchange}
+use Rattle.api_description.specs.declared.exchange.ExchangeError.{ExchangeError}
+use Rattle.api_description.specs.declared.exchange.ExchangeError.TheVariants.{OutOfMemory as NoMemory}
 use Rattle.api_description.specs.declared.register.ApiDescriptionRegisterError.{ApiDescriptionRegisterError}
 use Rattle.api_description.specs.declared.register.RegisterCause.{RegisterCause}
 use Rattle.api_description.specs.declared.register.RegisterCause.TheVariants.{NotBuilt, BadTemplate, UnsupportedSchema}
@@ -16,6 +19,7 @@ use Rattle.api_description.specs.Documents.{document_of}
 use Rattle.api_description.specs.Endpoints.{Meanings}
 use Rattle.api_description.specs.Registering.{AreAccepted, IsFirstCause, MayRegister, SomeRefused}
 use Rattle.api_description.specs.Stores.{Tables}
+use Rattle.schema_values.specs.declared.json_value.Json.{Json}
 use Rattle.std.specs.declared.alloc.Global.{Global}
 use Rattle.std.specs.declared.string.String.{String}
 use Rattle.semver.specs.Parse.{Parts}
@@ -23,6 +27,7 @@ use Rattle.contract_tool.specs.declared.config.ToolStatus.{ToolStatus}
 use Rattle.contract_tool.specs.declared.config.ToolStatus.TheVariants.{Done, Usage, Refused, ReadFault, WriteFault, LineTooLong, TooMuchInput, OutOfMemory}
 use Rattle.contract_tool.specs.declared.config.ToolConfig.{ToolConfig}
 use Rattle.contract_tool.specs.LineAnswers.{LineAnswers}
+use Rattle.contract_tool.specs.ReplyLines.{Tells}
 use Rattle.contract_tool.specs.Words.{AskForSession}
 use Rattle.api_description.proofs.Agreed.{request_agrees}
 use Rattle.api_description.proofs.Followed.{answers_follow}
@@ -75,6 +80,10 @@ called-for config all end result status is calls none long much = by-status stat
     by-status WriteFault calls = absurd calls
     by-status OutOfMemory calls = absurd calls
 
+-- want of memory is told by no line
+told-is-answer : (outcome : Result Exchange ExchangeError) (told : Json) → Tells outcome told → outcome ≢ Err NoMemory
+told-is-answer outcome told tells same = subst (λ (o : Result Exchange ExchangeError). Tells o told) same tells
+
 module _ {X : Type 0} {F : X → Type 0} (m : Meanings X F) where
   no-cause : (before : List (ApiEndpoint X F)) (e : ApiEndpoint X F) (cause : RegisterCause) → MayRegister m before e → IsFirstCause m before e cause → ⊥
   no-cause before e NotBuilt may first = first may.built
@@ -99,7 +108,7 @@ module _ {X : Type 0} {F : X → Type 0} (m : Meanings X F) where
         accepted = accepted;
         listed = is_listed m version es config.title (accepted_methods m [] es accepted);
         agreed = agreed;
-        followed = λ before line reply after x. answers_follow m config.server version es (document_of m es config.title version) agreed x.request x.body x.asks_for.at_version before after x.outcome x.answers;
+        followed = λ before line reply after x id. answers_follow m config.server version es (document_of m es config.title version) agreed x.request x.body x.asks_for.at_version before after x.outcome x.answers id (told-is-answer x.outcome x.told x.tells);
       }
 
   -- what was served, of endpoints and a front that are equal

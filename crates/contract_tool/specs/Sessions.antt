@@ -1,16 +1,16 @@
 -- What a run writes and leaves: a document, and a reply line for each request line.
-use Rattle.std.specs.Prelude.{ℕ, List, []}
+use Rattle.std.specs.Prelude.{◌↔◌, ℕ, List, []}
 use Rattle.std.specs.declared.option.Option.{Option}
 use Rattle.std.specs.Str.{encode_utf8_all}
 use Rattle.line_session.specs.Session.{IsAnswered}
 use Rattle.line_session.specs.declared.serving.SessionEnd.{SessionEnd}
 use Rattle.line_session.specs.declared.serving.SessionEnd.TheVariants as ended
 use Rattle.semver.specs.Parse.{Parts}
-use Rattle.api_description.specs.declared.api_respond.handler.RouteHandler.{Ghosts}
 use Rattle.api_description.specs.declared.endpoint.ApiEndpoint.{ApiEndpoint}
-use Rattle.api_description.specs.Agreement.{FollowsDocument, IsAgreed, IsListed}
+use Rattle.api_description.specs.Agreement.{IsAdmitted, IsAgreed, IsHandled, IsListed}
 use Rattle.api_description.specs.Documents.{document_of, document_text}
 use Rattle.api_description.specs.Endpoints.{Meanings}
+use Rattle.api_description.specs.Exchanges.{HasId}
 use Rattle.api_description.specs.Registering.{AreAccepted}
 use Rattle.api_description.specs.Stores.{Tables}
 use Rattle.std.specs.declared.alloc.Global.{Global}
@@ -21,22 +21,17 @@ use Rattle.contract_tool.specs.declared.config.ToolStatus.TheVariants.{Done, Rea
 use Rattle.contract_tool.specs.LineAnswers.{IsExchanged, LineAnswers}
 use Rattle.contract_tool.specs.Words.{AskForSession}
 
--- the meanings of boxed handlers, of the meanings by what stands in a box beside the handler
-abbrev pub boxed : {X : Type 0} {F : X → Type 0} → ((x : X) → Ghosts (F x)) → Meanings X F
-boxed m e = m e.handler.vtable
-
 -- the text of the endpoints' document at a version
 abbrev pub front_of : {X : Type 0} {F : X → Type 0} → Meanings X F → ToolConfig → Parts → List (ApiEndpoint X F) → List ℕ
 front_of m config version endpoints = encode_utf8_all (document_text m endpoints config.title version)
 
--- whatever line is answered, from whatever store, its request is handled only where the endpoints' document admits it,
--- and refused, or told that it names no operation, only where the document does not
+-- whatever line is answered, from whatever store: a request with a valid id is handled exactly where the endpoints' document admits it
 abbrev pub FollowDocument : {X : Type 0} {F : X → Type 0} → Meanings X F → ToolConfig → Parts → List (ApiEndpoint X F) → Type 0
 FollowDocument m config version endpoints = (before : Tables) (line reply : List ℕ) (after : Tables) (exchanged : IsExchanged m config version endpoints before line reply after)
-    → FollowsDocument (document_of m endpoints config.title version) exchanged.request exchanged.body exchanged.outcome
+    → HasId exchanged.request → IsHandled exchanged.outcome ↔ IsAdmitted (document_of m endpoints config.title version) exchanged.request exchanged.body
 
 -- The words ask for a session of a version, and the endpoints are accepted. Their document lists them, and admits
--- exactly the requests of the version that one of them takes; and what is answered follows the document.
+-- exactly the requests of the version that one of them takes; and a request that is answered is handled exactly where it admits it.
 pub record IsOpened {X : Type 0} {F : X → Type 0} (m : Meanings X F) (config : ToolConfig) (version : Parts) (endpoints : List (ApiEndpoint X F)) (words : List (String Global)) : Type 0 where
   pub asked : AskForSession words version
   pub accepted : AreAccepted m [] endpoints

@@ -2,10 +2,10 @@
 ghost use Rattle.std.specs.Prelude.{◌≡◌, ◌⊎◌, ℕ, [], List as ListOf, IfOk, OnErr};
 ghost use Rattle.std.specs.Str.{encode_utf8_all};
 ghost use Rattle.semver.specs.Identifiers.{parts_of};
+ghost use Rattle.api_description.specs.Endpoints.{boxed};
 ghost use Rattle.api_description.specs.Registering.{AreAccepted};
 ghost use Rattle.contract_tool.specs.LineAnswers.{LineAnswers, most_body};
 ghost use Rattle.contract_tool.specs.RequestLines.{AsksFor};
-ghost use Rattle.contract_tool.specs.Sessions.{boxed};
 
 use crate::config::ToolConfig;
 use crate::reply_line::{outcome_line, reply_line};

@@ -1,9 +1,10 @@
-ghost use Rattle.std.specs.Prelude.{◌≡◌};
+ghost use Rattle.std.specs.Prelude.{◌≡◌, IfOk};
 ghost use Rattle.contract_tool.specs.Codes.{code_of};
 
 use api_description::ApiDescriptionRegisterError;
 use api_description::api_extract::ServerConfig;
 use schema_values::Text;
+use std::alloc::{AllocError, Global};
 use std::fmt;
 
 /// The title of documents, and the limits of a run.
@@ -19,6 +20,21 @@ pub struct ToolConfig {
     pub longest_line: u64,
     /// The bytes of the whole input.
     pub most_input: u64,
+}
+
+impl ToolConfig {
+    /// A configuration equal to this one.
+    pub fn copy(&self, alloc: Global) -> Result<ToolConfig, AllocError>
+        ensures { IfOk result (λ copy. copy ≡ self.now) }
+    {
+        Ok(ToolConfig {
+            title: self.title.copy(alloc)?,
+            server: self.server,
+            frame_budget: self.frame_budget,
+            longest_line: self.longest_line,
+            most_input: self.most_input,
+        })
+    }
 }
 
 /// How a run ended.

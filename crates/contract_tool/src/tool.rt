@@ -2,11 +2,12 @@
 ghost use Rattle.std.specs.Prelude.{◌≡◌, ◌↔◌, ◌⊎◌, Some, ◌-◌, ◌^◌, ◌<◌, ◌≤◌, [], List as ListOf, ℕ, IfOk};
 ghost use Rattle.line_session.specs.Causes.{Rose};
 ghost use Rattle.semver.specs.Identifiers.{parts_of};
+ghost use Rattle.api_description.specs.Endpoints.{boxed};
 ghost use Rattle.api_description.specs.Registering.{AreAccepted};
 ghost use Rattle.api_description.specs.declared.register.ApiDescriptionRegisterError.{ApiDescriptionRegisterError as ErrorValue};
 ghost use Rattle.contract_tool.specs.declared.config.ToolStatus.{ToolStatus as StatusValue};
 ghost use Rattle.contract_tool.specs.Ends.{CallsFor, IsEnded, outside};
-ghost use Rattle.contract_tool.specs.Sessions.{boxed, IsSession, front_of, status_of};
+ghost use Rattle.contract_tool.specs.Sessions.{IsSession, front_of, status_of};
 ghost use Rattle.contract_tool.specs.Words.{IsCommand};
 
 use crate::answering::Desk;

@@ -3,12 +3,12 @@
 
 use api_description::api_versions::ApiEndpointVersions;
 use api_description::tree_store::Store;
-use api_description::{ApiEndpoint, TagConfig};
+use api_description::{ApiEndpoint, NewEndpointError, TagConfig};
 use contract_tool::sample::{self, PointCreate};
 use contract_tool::{StdSink, StdSource, ToolStatus, run};
 use http::Method;
 use schema_values::Text;
-use std::alloc::AllocError;
+use std::alloc::{AllocError, Global};
 use std::env;
 use std::io::ErrorKind;
 use std::process::ExitCode;
@@ -33,11 +33,9 @@ fn command_words(rt: &HostRuntime) -> Result<Vec<String>, ToolStatus> {
     }
 }
 
-// Runs a command of the sample API over the standard streams.
-fn run_sample(rt: &HostRuntime, words: &[String]) -> Result<ToolStatus, AllocError> {
-    let alloc = rt.alloc();
-    let mut endpoints = Vec::new(alloc);
-    let Ok(endpoint) = ApiEndpoint::new(
+// The sample's endpoint.
+fn point_create(alloc: Global) -> Result<ApiEndpoint, AllocError> {
+    let endpoint = ApiEndpoint::new(
         alloc,
         Text::from_ascii(alloc, "point_create")?,
         Box::new(alloc, PointCreate::new(alloc)?)?,
@@ -45,10 +43,19 @@ fn run_sample(rt: &HostRuntime, words: &[String]) -> Result<ToolStatus, AllocErr
         "application/json",
         Text::from_ascii(alloc, "/points")?,
         ApiEndpointVersions::all(),
-    ) else {
-        return Err(AllocError);
-    };
-    endpoints.push(endpoint)?;
+    );
+    match endpoint {
+        Ok(endpoint) => Ok(endpoint),
+        Err(NewEndpointError::OutOfMemory) => Err(AllocError),
+        Err(NewEndpointError::UnsupportedMime(_)) => unreachable!(),
+    }
+}
+
+// Runs a command of the sample API over the standard streams.
+fn run_sample(rt: &HostRuntime, words: &[String]) -> Result<ToolStatus, AllocError> {
+    let alloc = rt.alloc();
+    let mut endpoints = Vec::new(alloc);
+    endpoints.push(point_create(alloc)?)?;
     let config = sample::config(alloc)?;
     Ok(run(
         alloc,

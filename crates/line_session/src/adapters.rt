@@ -9,7 +9,8 @@ pub struct StdSource<R: Read> {
     faults: u64,
 }
 
-/// A writer of std as a sink. Each error that it meets is a fault, and so is a write that takes no byte of some.
+/// A writer of std as a sink. Each error that it meets is a fault, and so is a write that takes no byte of
+/// some.
 #[derive(Drop)]
 pub struct StdSink<W: Write> {
     inner: W,

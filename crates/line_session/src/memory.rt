@@ -10,7 +10,8 @@ use schema_values::List;
 use std::alloc::Global;
 use std::marker::Model;
 
-/// Bytes to be read, and the numbers, from 0, of the calls that fail. Calls after the first 2^64-1 do not fail.
+/// Bytes to be read, and the numbers, from 0, of the calls that fail. Calls after the first 2^64-1 do not
+/// fail.
 #[derive(Drop)]
 pub struct MemorySource {
     content: List<u8>,
@@ -27,8 +28,8 @@ pub struct SafeSource {
     at: usize,
 }
 
-/// Bytes that were written, and the numbers, from 0, of the calls that fail. Calls after the first 2^64-1 fail only
-/// for memory.
+/// Bytes that were written, and the numbers, from 0, of the calls that fail. Calls after the first 2^64-1
+/// fail only for memory.
 #[derive(Drop)]
 pub struct MemorySink {
     content: Vec<u8>,

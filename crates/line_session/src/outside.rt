@@ -25,8 +25,8 @@ pub trait Source {
     /// How often it has failed.
     ghost faults: { Self → ℕ };
 
-    /// Takes bytes from the front of what is left, and gives their number; 0 only at the end or for an empty buffer.
-    /// At an `Err` nothing was taken.
+    /// Takes bytes from the front of what is left, and gives their number; 0 only at the end or for an empty
+    /// buffer. At an `Err` nothing was taken.
     fn read(&mut self, buf: &mut [u8]) -> Result<usize, Failed>
         ensures bound { ReadsAtMost result buf.new }
         ensures bytes { ReadConsumes (left self.old) (left self.new) result buf.new }
@@ -41,8 +41,8 @@ pub trait Sink {
     /// How often it has failed.
     ghost faults: { Self → ℕ };
 
-    /// Takes bytes from the front of a piece, at least one of a piece that is not empty, and gives their number.
-    /// At an `Err` nothing was taken.
+    /// Takes bytes from the front of a piece, at least one of a piece that is not empty, and gives their
+    /// number. At an `Err` nothing was taken.
     fn write(&mut self, piece: &[u8]) -> Result<usize, SinkError>
         ensures bound { WritesAtMost result piece.now }
         ensures progress { 0 < length piece.now → IfOk result (λ n. 0 < n) }

@@ -12,7 +12,8 @@ use crate::writing::{write_all, write_line};
 use schema_values::List;
 use std::alloc::{AllocError, Global};
 
-/// What answers lines. It may choose among replies, and each line goes on from the state that the line before left.
+/// What answers lines. It may choose among replies, and each line goes on from the state that the line before
+/// left.
 pub trait Answering {
     /// What is carried from line to line.
     type State;
@@ -23,8 +24,8 @@ pub trait Answering {
     /// From a state the line may be answered by this reply, which leaves that state.
     ghost answers: { Self → Self.State → ListOf ℕ → ListOf ℕ → Self.State → Type 0 };
 
-    /// The reply to a line, without a newline. Fails only for want of memory: then the line was not answered, or it
-    /// was and the reply is lost.
+    /// The reply to a line, without a newline. Fails only for want of memory: then the line was not answered,
+    /// or it was and the reply is lost.
     fn answer(
         &self,
         alloc: Global,
@@ -140,9 +141,9 @@ fn serve_lines<A: Answering, S: Source, K: Sink>(
 
 /// Writes the front, and then the reply to each line of the source, each with a newline behind it.
 ///
-/// A line ends at a newline; the last needs none, where it is not empty. At most `most_input` bytes are handled, in
-/// lines of at most `longest_line` bytes without their newline. The first byte beyond either ends the session, and the
-/// first of them counts; at the same byte it is too much input.
+/// A line ends at a newline; the last needs none, where it is not empty. At most `most_input` bytes are
+/// handled, in lines of at most `longest_line` bytes without their newline. The first byte beyond either ends
+/// the session, and the first of them counts; at the same byte it is too much input.
 pub fn serve<A: Answering, S: Source, K: Sink>(
     alloc: Global,
     answering: &A,
@@ -162,7 +163,8 @@ pub fn serve<A: Answering, S: Source, K: Sink>(
     // Of a source and a sink that tell their bytes.
     ensures session { result ≡ SessionEnd.Done → (all before : ListOf ℕ) →
         S.left source.old ≡ Some all → K.taken sink.old ≡ Some before →
-        IsAnswered (A.answers answering.now) front.now all before (S.left source.new) (K.taken sink.new) state.old state.new }
+        IsAnswered (A.answers answering.now) front.now all before
+        (S.left source.new) (K.taken sink.new) state.old state.new }
     // Of a source that tells its bytes.
     ensures limits { (all : ListOf ℕ) → S.left source.old ≡ Some all
         → MeetsLimits most_input longest_line all result }

@@ -5,7 +5,8 @@ ghost use Rattle.schema_values.specs.Get.{get_of, first_named};
 use crate::json_value::{Json, Member};
 
 impl Json {
-    /// The value of the first member of this name. `None` exactly where this is no object, or has no such member.
+    /// The value of the first member of this name. `None` exactly where this is no object, or has no such
+    /// member.
     pub fn get(&self, name: &str) -> Option<&Json>
         ensures { option_map (λ json. json.now) result ≡ get_of (chars name.now) self.now }
     {

@@ -30,7 +30,8 @@ pub struct Member {
 }
 
 impl Json {
-    /// Whether names are distinct in every object and every number lies from -2^63 to 2^64-1. Takes no memory.
+    /// Whether names are distinct in every object and every number lies from -2^63 to 2^64-1. Takes no
+    /// memory.
     #[cycle(sound)]
     pub fn sound(&self) -> bool
         ensures { IsTrue result ↔ IsSound self.now }
@@ -76,7 +77,8 @@ fn all_values_sound(members: &[Member]) -> bool
     true
 }
 
-// One pass where the names ascend, as those of a value that was read do; else each is tested against those behind it.
+// One pass where the names ascend, as those of a value that was read do; else each is tested against those
+// behind it.
 fn names_distinct(members: &[Member]) -> bool
     ensures { IsTrue result ↔ AreDistinct (map name_of members.now) }
 {

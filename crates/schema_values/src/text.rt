@@ -11,7 +11,8 @@ use std::fmt;
 use std::hash::{Hash, Hasher};
 use std::marker::Model;
 
-/// A `String` that contracts see as the list of its characters. A call that appends fails only for want of memory.
+/// A `String` that contracts see as the list of its characters. A call that appends fails only for want of
+/// memory.
 #[derive(Drop)]
 pub struct Text {
     text: String,

@@ -1,8 +1,10 @@
+ghost use Rattle.std.specs.Prelude.{◌≡◌, IfOk};
+
 use schema_values::{List, Text};
-use std::alloc::AllocError;
+use std::alloc::{AllocError, Global};
 
 /// Why a value is not decoded. A payload is the name of a field.
-#[derive(Drop)]
+#[derive(Debug, Drop)]
 pub enum FaultKind {
     Missing(Text),
     Unknown(Text),
@@ -14,14 +16,43 @@ pub enum FaultKind {
 }
 
 /// A fault, and the path to it: `.` at the root, else names joined by dots, with `[k]` for item k of a list.
-#[derive(Drop)]
+#[derive(Debug, Drop)]
 pub struct Fault {
     pub path: Text,
     pub kind: FaultKind,
 }
 
+impl FaultKind {
+    /// A kind equal to this one.
+    pub fn copy(&self, alloc: Global) -> Result<FaultKind, AllocError>
+        ensures { IfOk result (λ copy. copy ≡ self.now) }
+    {
+        match self {
+            FaultKind::Missing(name) => Ok(FaultKind::Missing(name.copy(alloc)?)),
+            FaultKind::Unknown(name) => Ok(FaultKind::Unknown(name.copy(alloc)?)),
+            FaultKind::WrongKind => Ok(FaultKind::WrongKind),
+            FaultKind::OutOfRange => Ok(FaultKind::OutOfRange),
+            FaultKind::BadLength => Ok(FaultKind::BadLength),
+            FaultKind::NoAlternative => Ok(FaultKind::NoAlternative),
+            FaultKind::NotJson => Ok(FaultKind::NotJson),
+        }
+    }
+}
+
+impl Fault {
+    /// A fault equal to this one.
+    pub fn copy(&self, alloc: Global) -> Result<Fault, AllocError>
+        ensures { IfOk result (λ copy. copy ≡ self.now) }
+    {
+        Ok(Fault {
+            path: self.path.copy(alloc)?,
+            kind: self.kind.copy(alloc)?,
+        })
+    }
+}
+
 /// Why there is no tree.
-#[derive(Drop)]
+#[derive(Debug, Drop)]
 pub enum DecodeError {
     Fault(Fault),
     OutOfMemory,

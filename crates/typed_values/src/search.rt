@@ -1,4 +1,5 @@
-// Searches along references. A search meets each definition once, and its lists are frames of its own recursion.
+// Searches along references. A search meets each definition once, and its lists are frames of its own
+// recursion.
 ghost use Rattle.std.specs.Prelude.{◌↔◌, IsTrue, IfNone, IfSome, Contains};
 ghost use Rattle.std.specs.Option.{option_copied};
 ghost use Rattle.typed_values.specs.declared.desc.Desc.{Desc};

@@ -13,7 +13,7 @@ use std::alloc::{AllocError, Global};
 use typed_values::{DecodeError, Desc, DescTable, Fault, FaultKind, Tree, decode_json};
 
 /// Why a request gives a handler no arguments.
-#[derive(Drop)]
+#[derive(Debug, Drop)]
 pub enum ExtractError {
     /// The first slot that is given nothing, with the message for the client.
     Refused(Fault, Text),

@@ -1,10 +1,11 @@
 //! Requests and the limits of a server.
 ghost use Rattle.std.specs.Prelude.{◌≡◌, IfOk};
+ghost use Rattle.semver.specs.Identifiers.{parts_of};
 
 use http::Method;
 use schema_values::Text;
 use semver::Version;
-use std::alloc::AllocError;
+use std::alloc::{AllocError, Global};
 use std::num::NonZeroU32;
 
 /// The limits of a server: bytes of a body, and items of a page.
@@ -49,7 +50,8 @@ impl RequestInfo {
     }
 }
 
-/// A request without its body: the version of the API and the template of the path that it asks for, its id and head.
+/// A request without its body: the version of the API and the template of the path that it asks for, its id
+/// and its head.
 #[derive(Drop)]
 pub struct RequestParts {
     /// The version of the API.
@@ -60,4 +62,21 @@ pub struct RequestParts {
     pub request_id: Text,
     /// The head.
     pub info: RequestInfo,
+}
+
+impl RequestParts {
+    /// A request of the same version, template, id and head.
+    pub fn copy(&self, alloc: Global) -> Result<RequestParts, AllocError>
+        ensures version { IfOk result (λ copy. parts_of copy.version ≡ parts_of self.now.version) }
+        ensures template { IfOk result (λ copy. copy.template ≡ self.now.template) }
+        ensures request_id { IfOk result (λ copy. copy.request_id ≡ self.now.request_id) }
+        ensures info { IfOk result (λ copy. copy.info ≡ self.now.info) }
+    {
+        Ok(RequestParts {
+            version: self.version.clone()?,
+            template: self.template.copy(alloc)?,
+            request_id: self.request_id.copy(alloc)?,
+            info: self.info.copy()?,
+        })
+    }
 }

@@ -3,6 +3,7 @@ ghost use Rattle.std.specs.Prelude.{◌≡◌, ◌↔◌, IsOk, IfOk, codes};
 ghost use Rattle.api_description.specs.Requests.{mime_of};
 
 use schema_values::{List, Text};
+use std::alloc::{AllocError, Global};
 use typed_values::{Desc, Tree};
 
 /// What a handler takes of a request.
@@ -10,6 +11,30 @@ use typed_values::{Desc, Tree};
 pub enum Slot {
     /// The body, decoded under a descriptor, and the name of its type.
     TypedBody(Desc, Text),
+}
+
+impl Slot {
+    /// A slot equal to this one.
+    pub fn copy(&self, alloc: Global) -> Result<Slot, AllocError>
+        ensures { IfOk result (λ copy. copy ≡ self.now) }
+    {
+        match self {
+            Slot::TypedBody(desc, name) => {
+                Ok(Slot::TypedBody(desc.copy(alloc)?, name.copy(alloc)?))
+            }
+        }
+    }
+}
+
+/// The same slots in the same order.
+pub(crate) fn copy_slots(alloc: Global, slots: &List<Slot>) -> Result<List<Slot>, AllocError>
+    ensures { IfOk result (λ copy. copy ≡ slots.now) }
+{
+    let mut copies = List::new(alloc);
+    for slot in slots.as_slice() {
+        copies.push(slot.copy(alloc)?)?;
+    }
+    Ok(copies)
 }
 
 /// What a slot is given.

@@ -1,10 +1,11 @@
 //! What answers the requests of an endpoint, and what it is told.
 ghost use Rattle.std.specs.Prelude.{◌≡◌, ◌⊎◌, List, IfOk, OnErr};
 ghost use Rattle.api_description.specs.Requests.{ArgsFit};
-ghost use Rattle.api_description.specs.Replies.{ReplyFits, ShapePasses};
+ghost use Rattle.api_description.specs.Replies.{HasHttpErrors, ReplyFits, ShapePasses};
 ghost use Rattle.api_description.specs.Stores.{Tables};
 ghost use Rattle.api_description.specs.declared.api_extract.slot.Arg.{Arg as ArgValue};
 ghost use Rattle.api_description.specs.declared.api_respond.reply.ErrorReply.{ErrorReply as ErrorReplyValue};
+ghost use Rattle.api_description.specs.declared.api_respond.reply.ErrorReply.TheVariants.{Http};
 ghost use Rattle.api_description.specs.declared.api_respond.reply.Reply.{Reply as ReplyValue};
 ghost use Rattle.api_description.specs.declared.api_respond.shape.HandlerShape.{HandlerShape as Shape};
 ghost use Rattle.api_description.specs.declared.http_status.error.HttpError.{HttpError as ErrorValue};
@@ -36,6 +37,32 @@ pub struct RequestContext {
     pub request: RequestInfo,
     /// The limits of the server.
     pub config: ServerConfig,
+}
+
+impl RequestEndpointMetadata {
+    /// The same, once more.
+    pub fn copy(&self, alloc: Global) -> Result<RequestEndpointMetadata, AllocError>
+        ensures { IfOk result (λ copy. copy ≡ self.now) }
+    {
+        Ok(RequestEndpointMetadata {
+            operation_id: self.operation_id.copy(alloc)?,
+            body_content_type: self.body_content_type,
+        })
+    }
+}
+
+impl RequestContext {
+    /// A context equal to this one.
+    pub fn copy(&self, alloc: Global) -> Result<RequestContext, AllocError>
+        ensures { IfOk result (λ copy. copy ≡ self.now) }
+    {
+        Ok(RequestContext {
+            endpoint: self.endpoint.copy(alloc)?,
+            request_id: self.request_id.copy(alloc)?,
+            request: self.request.copy()?,
+            config: self.config,
+        })
+    }
 }
 
 ghost use Rattle.api_description.specs.declared.api_respond.handler.RequestContext.{RequestContext as Context};
@@ -75,7 +102,9 @@ pub trait RouteHandler: Drop {
             ⊎ ((reply : ReplyValue) × ReplyFits (shape_of self.now) reply
             × allows self.now ctx.now store.old args.old reply store.new)) };
 
-    /// The reply that tells the client of an error.
+    /// The reply that tells the client of an error: the error itself where the shape's errors are
+    /// `HttpError`s.
     fn refuse(&self, alloc: Global, error: HttpError) -> Result<ErrorReply, AllocError>
-        ensures { IfOk result (λ reply. turns self.now error reply) };
+        ensures turned { IfOk result (λ reply. turns self.now error reply) }
+        ensures itself { HasHttpErrors (shape_of self.now) → IfOk result (λ reply. reply ≡ Http error) };
 }

@@ -1,8 +1,10 @@
 //! What a handler takes and gives.
+ghost use Rattle.std.specs.Prelude.{◌≡◌, IfOk};
 
-use crate::api_extract::Slot;
+use crate::api_extract::{Slot, copy_slots};
 use http::StatusCode;
 use schema_values::{List, Text};
+use std::alloc::{AllocError, Global};
 use typed_values::{Desc, DescTable};
 
 /// What a handler takes and gives. Its descriptors are read in its table.
@@ -43,4 +45,60 @@ pub struct ApiEndpointErrorResponse {
     pub desc: Desc,
     /// The name in a document.
     pub name: Text,
+}
+
+impl HandlerShape {
+    /// A shape equal to this one.
+    pub fn copy(&self, alloc: Global) -> Result<HandlerShape, AllocError>
+        ensures { IfOk result (λ copy. copy ≡ self.now) }
+    {
+        let error = match &self.error {
+            Some(error) => Some(error.copy(alloc)?),
+            None => None,
+        };
+        Ok(HandlerShape {
+            table: self.table.copy(alloc)?,
+            slots: copy_slots(alloc, &self.slots)?,
+            response: self.response.copy(alloc)?,
+            error,
+        })
+    }
+}
+
+impl ApiEndpointResponse {
+    /// A response equal to this one.
+    pub fn copy(&self, alloc: Global) -> Result<ApiEndpointResponse, AllocError>
+        ensures { IfOk result (λ copy. copy ≡ self.now) }
+    {
+        Ok(ApiEndpointResponse {
+            content: self.content.copy(alloc)?,
+            success: self.success,
+            description: self.description.copy(alloc)?,
+        })
+    }
+}
+
+impl ContentShape {
+    /// A content equal to this one.
+    pub fn copy(&self, alloc: Global) -> Result<ContentShape, AllocError>
+        ensures { IfOk result (λ copy. copy ≡ self.now) }
+    {
+        match self {
+            ContentShape::Json(desc, name) => {
+                Ok(ContentShape::Json(desc.copy(alloc)?, name.copy(alloc)?))
+            }
+        }
+    }
+}
+
+impl ApiEndpointErrorResponse {
+    /// An error response equal to this one.
+    pub fn copy(&self, alloc: Global) -> Result<ApiEndpointErrorResponse, AllocError>
+        ensures { IfOk result (λ copy. copy ≡ self.now) }
+    {
+        Ok(ApiEndpointErrorResponse {
+            desc: self.desc.copy(alloc)?,
+            name: self.name.copy(alloc)?,
+        })
+    }
 }

@@ -4,7 +4,7 @@ ghost use Rattle.semver.specs.Identifiers.{parts_of};
 ghost use Rattle.api_description.specs.Documents.{by_name, components_of, entries_of_error, error_entries};
 ghost use Rattle.api_description.specs.Documents.{error_object, reached_definitions, schema_entries};
 ghost use Rattle.api_description.specs.Documents.{schema_entry, with_entry};
-ghost use Rattle.api_description.specs.Endpoints.{held_at};
+ghost use Rattle.api_description.specs.Endpoints.{boxed, held_at};
 
 use crate::api_respond::{ApiEndpointErrorResponse, HandlerShape, RouteHandler};
 use crate::document::operations::content;
@@ -18,15 +18,15 @@ use std::collections::BTreeMap;
 use typed_values::{Definition, DescTable};
 use written_schemas::definition_schema;
 
-/// The responses and schemas that the operations of a version refer to, by names in the order of their characters.
-/// Where several have something of one name, that of the first stands.
+/// The responses and schemas that the operations of a version refer to, by names in the order of their
+/// characters. Where several have something of one name, that of the first stands.
 pub(crate) fn components(
     alloc: Global,
     endpoints: &[ApiEndpoint],
     version: &Version,
 ) -> Result<Components, AllocError>
     ensures { IfOk result (λ components. components ≡ components_of
-        (λ e. ⟦<dyn RouteHandler as RouteHandler>⟧ e.handler.vtable) (parts_of version.now) endpoints.now) }
+        (boxed ⟦<dyn RouteHandler as RouteHandler>⟧) (parts_of version.now) endpoints.now) }
 {
     Ok(Components {
         responses: listed(alloc, responses(alloc, endpoints, version)?)?,
@@ -40,7 +40,7 @@ fn responses(
     version: &Version,
 ) -> Result<BTreeMap<Text, ResponseObject>, AllocError>
     ensures { IfOk result (λ responses. responses.entries ≡ by_name
-        (error_entries (λ e. ⟦<dyn RouteHandler as RouteHandler>⟧ e.handler.vtable)
+        (error_entries (boxed ⟦<dyn RouteHandler as RouteHandler>⟧)
         (held_at (parts_of version.now) endpoints.now))) }
 {
     let mut responses = BTreeMap::new(alloc);
@@ -59,7 +59,7 @@ fn schemas(
     version: &Version,
 ) -> Result<BTreeMap<Text, Json>, AllocError>
     ensures { IfOk result (λ schemas. schemas.entries ≡ by_name
-        (schema_entries (λ e. ⟦<dyn RouteHandler as RouteHandler>⟧ e.handler.vtable)
+        (schema_entries (boxed ⟦<dyn RouteHandler as RouteHandler>⟧)
         (held_at (parts_of version.now) endpoints.now))) }
 {
     let mut schemas = BTreeMap::new(alloc);

@@ -5,6 +5,7 @@ ghost use Rattle.std.specs.Str.{chars, encode_utf8_all};
 ghost use Rattle.line_session.specs.Causes.{Rose};
 ghost use Rattle.line_session.specs.Parts.{AppendsPart};
 ghost use Rattle.semver.specs.Identifiers.{parts_of};
+ghost use Rattle.api_description.specs.Endpoints.{boxed};
 ghost use Rattle.api_description.specs.Documents.{document_of, document_text};
 
 use crate::api_respond::RouteHandler;
@@ -69,7 +70,7 @@ impl OpenApiDefinition<'_> {
     /// The document as JSON.
     pub fn json(&self, alloc: Global) -> Result<Json, AllocError>
         ensures { IfOk result (λ json. json ≡ document_of
-            (λ e. ⟦<dyn RouteHandler as RouteHandler>⟧ e.handler.vtable) self.now.api.now.endpoints.items
+            (boxed ⟦<dyn RouteHandler as RouteHandler>⟧) self.now.api.now.endpoints.items
             self.now.title (parts_of self.now.version)) }
     {
         let endpoints = self.api.endpoints();
@@ -87,7 +88,7 @@ impl OpenApiDefinition<'_> {
     /// The pretty text of the document and a newline.
     pub fn text(&self, alloc: Global) -> Result<Text, AllocError>
         ensures { IfOk result (λ text. text ≡ document_text
-            (λ e. ⟦<dyn RouteHandler as RouteHandler>⟧ e.handler.vtable) self.now.api.now.endpoints.items
+            (boxed ⟦<dyn RouteHandler as RouteHandler>⟧) self.now.api.now.endpoints.items
             self.now.title (parts_of self.now.version)) }
     {
         let mut text = self.json(alloc)?.pretty(alloc)?;
@@ -100,12 +101,12 @@ impl OpenApiDefinition<'_> {
         ensures ok { OnOk result (Appends (K.taken sink.old) (K.taken sink.new)
             (encode_utf8_all
             (document_text
-            (λ e. ⟦<dyn RouteHandler as RouteHandler>⟧ e.handler.vtable) self.now.api.now.endpoints.items
+            (boxed ⟦<dyn RouteHandler as RouteHandler>⟧) self.now.api.now.endpoints.items
             self.now.title (parts_of self.now.version)))) }
         ensures part { OnErr result (AppendsPart (K.taken sink.old) (K.taken sink.new)
             (encode_utf8_all
             (document_text
-            (λ e. ⟦<dyn RouteHandler as RouteHandler>⟧ e.handler.vtable) self.now.api.now.endpoints.items
+            (boxed ⟦<dyn RouteHandler as RouteHandler>⟧) self.now.api.now.endpoints.items
             self.now.title (parts_of self.now.version)))) }
         ensures later { K.faults sink.old ≤ K.faults sink.new }
         ensures failed { IsErrOf result WriteError.WriteFault → Rose (K.faults sink.old) (K.faults sink.new) }

@@ -3,6 +3,7 @@ ghost use Rattle.std.specs.Prelude.{◌≡◌, ◌++◌, ◌∷◌, [], IfOk, Is
 ghost use Rattle.std.specs.Fmt.{decimal};
 ghost use Rattle.schema_values.specs.Ascii.{all_ascii};
 ghost use Rattle.typed_values.specs.SchemaTable.{schema_json_titled};
+ghost use Rattle.api_description.specs.Endpoints.{boxed};
 ghost use Rattle.api_description.specs.Documents.{body_of, error_references, media, operation_at};
 ghost use Rattle.api_description.specs.Documents.{operation_of, path_item_of, paths_of, reference_to};
 ghost use Rattle.api_description.specs.Documents.{response_of_success, responses_by, template_of, templates};
@@ -30,7 +31,7 @@ pub(crate) fn paths(
     version: &Version,
 ) -> Result<List<(Text, PathItem)>, AllocError>
     ensures { IfOk result (λ paths. paths ≡ paths_of
-        (λ e. ⟦<dyn RouteHandler as RouteHandler>⟧ e.handler.vtable) (parts_of version.now) endpoints.now) }
+        (boxed ⟦<dyn RouteHandler as RouteHandler>⟧) (parts_of version.now) endpoints.now) }
 {
     let mut paths = List::new(alloc);
     for template in templates(alloc, endpoints, version)? {
@@ -69,7 +70,7 @@ fn path_item(
     template: &Text,
 ) -> Result<PathItem, AllocError>
     ensures { IfOk result (λ item. item ≡ path_item_of
-        (λ e. ⟦<dyn RouteHandler as RouteHandler>⟧ e.handler.vtable) (parts_of version.now) endpoints.now
+        (boxed ⟦<dyn RouteHandler as RouteHandler>⟧) (parts_of version.now) endpoints.now
         template.now) }
 {
     Ok(PathItem {
@@ -92,7 +93,7 @@ fn operation(
     method: &str,
 ) -> Result<Option<Operation>, AllocError>
     ensures { IfOk result (λ operation. operation ≡ operation_at
-        (λ e. ⟦<dyn RouteHandler as RouteHandler>⟧ e.handler.vtable) (parts_of version.now) endpoints.now
+        (boxed ⟦<dyn RouteHandler as RouteHandler>⟧) (parts_of version.now) endpoints.now
         template.now method.now) }
 {
     match endpoint_for(endpoints, version, method, template.as_str()) {
@@ -103,7 +104,7 @@ fn operation(
 
 fn operation_of(alloc: Global, endpoint: &ApiEndpoint) -> Result<Operation, AllocError>
     ensures { IfOk result (λ operation. operation ≡ operation_of
-        (λ e. ⟦<dyn RouteHandler as RouteHandler>⟧ e.handler.vtable) endpoint.now) }
+        (boxed ⟦<dyn RouteHandler as RouteHandler>⟧) endpoint.now) }
 {
     let shape = endpoint.shape();
     Ok(Operation {
@@ -152,8 +153,8 @@ fn responses(
     alloc: Global,
     shape: &HandlerShape,
 ) -> Result<List<(Text, ResponseObject)>, AllocError>
-    ensures { IfOk result
-        (λ responses. responses ≡ responses_by shape.now.response.success shape.now.response shape.now.error) }
+    ensures { IfOk result (λ responses.
+        responses ≡ responses_by shape.now.response.success shape.now.response shape.now.error) }
 {
     let mut responses = List::new(alloc);
     let success = success(alloc, &shape.table, &shape.response)?;

@@ -71,23 +71,15 @@ impl fmt::Display for NotAnError {
 }
 
 impl ErrorStatusCode {
-    /// Status 400.
-    pub fn bad_request() -> ErrorStatusCode
-        ensures { result ≡ 400 }
-    {
-        ErrorStatusCode {
-            status: StatusCode::BAD_REQUEST,
-        }
-    }
+    /// 400 Bad Request (RFC 9110, section 15.5.1).
+    pub const BAD_REQUEST: ErrorStatusCode = ErrorStatusCode {
+        status: StatusCode::BAD_REQUEST,
+    };
 
-    /// Status 500.
-    pub fn internal_server_error() -> ErrorStatusCode
-        ensures { result ≡ 500 }
-    {
-        ErrorStatusCode {
-            status: StatusCode::INTERNAL_SERVER_ERROR,
-        }
-    }
+    /// 500 Internal Server Error (RFC 9110, section 15.6.1).
+    pub const INTERNAL_SERVER_ERROR: ErrorStatusCode = ErrorStatusCode {
+        status: StatusCode::INTERNAL_SERVER_ERROR,
+    };
 
     /// The code of a status, or the status where it is none of an error.
     pub fn from_status(status: StatusCode) -> Result<ErrorStatusCode, NotAnError>

@@ -14,8 +14,9 @@ use std::alloc::{AllocError, Global};
 use std::fmt;
 use typed_values::{Definition, Desc, Field, Presence};
 
-/// An error that is answered: its status, its code for programs, and a message for the client and one for the log.
-#[derive(Drop)]
+/// An error that is answered: its status, its code for programs, and a message for the client and one for the
+/// log.
+#[derive(Debug, Drop)]
 pub struct HttpError {
     /// The status.
     pub status_code: ErrorStatusCode,
@@ -75,7 +76,7 @@ impl HttpError {
         ensures { IfOk result (λ error. error ≡ bad_request error_code message) }
     {
         Ok(HttpError {
-            status_code: ErrorStatusCode::bad_request(),
+            status_code: ErrorStatusCode::BAD_REQUEST,
             error_code,
             external_message: message.copy(alloc)?,
             internal_message: message,
@@ -86,13 +87,9 @@ impl HttpError {
     pub fn copy(&self, alloc: Global) -> Result<HttpError, AllocError>
         ensures { IfOk result (λ copy. copy ≡ self.now) }
     {
-        let error_code = match &self.error_code {
-            Some(code) => Some(code.copy(alloc)?),
-            None => None,
-        };
         Ok(HttpError {
             status_code: self.status_code,
-            error_code,
+            error_code: copy_code(alloc, &self.error_code)?,
             external_message: self.external_message.copy(alloc)?,
             internal_message: self.internal_message.copy(alloc)?,
         })
@@ -106,7 +103,7 @@ impl HttpError {
         ensures { IfOk result (λ error. error ≡ internal_error internal_message) }
     {
         Ok(HttpError {
-            status_code: ErrorStatusCode::internal_server_error(),
+            status_code: ErrorStatusCode::INTERNAL_SERVER_ERROR,
             error_code: Some(Text::from_ascii(alloc, "Internal")?),
             external_message: Text::from_ascii(alloc, "Internal Server Error")?,
             internal_message,
@@ -147,6 +144,17 @@ impl HttpError {
 }
 
 impl HttpErrorResponseBody {
+    /// A body equal to this one.
+    pub fn copy(&self, alloc: Global) -> Result<HttpErrorResponseBody, AllocError>
+        ensures { IfOk result (λ copy. copy ≡ self.now) }
+    {
+        Ok(HttpErrorResponseBody {
+            request_id: self.request_id.copy(alloc)?,
+            error_code: copy_code(alloc, &self.error_code)?,
+            message: self.message.copy(alloc)?,
+        })
+    }
+
     /// The body as JSON: the code is left out where there is none.
     pub fn to_json(self, alloc: Global) -> Result<Json, AllocError>
         ensures { IfOk result (λ json. json ≡ error_body_json self) }
@@ -161,6 +169,15 @@ impl HttpErrorResponseBody {
         push_code(alloc, &mut members, error_code)?;
         push_text(alloc, &mut members, "message", message)?;
         Ok(Json::Object(members))
+    }
+}
+
+fn copy_code(alloc: Global, code: &Option<Text>) -> Result<Option<Text>, AllocError>
+    ensures { IfOk result (λ copy. copy ≡ code.now) }
+{
+    match code {
+        Some(code) => Ok(Some(code.copy(alloc)?)),
+        None => Ok(None),
     }
 }
 

@@ -76,4 +76,14 @@ impl RequestId {
     {
         self.value.clone()
     }
+
+    /// An id equal to this one.
+    pub fn copy(&self, alloc: Global) -> Result<RequestId, AllocError>
+        ensures { IfOk result (λ copy. copy ≡ self.now) }
+    {
+        Ok(RequestId {
+            text: self.text.copy(alloc)?,
+            value: self.value.clone()?,
+        })
+    }
 }

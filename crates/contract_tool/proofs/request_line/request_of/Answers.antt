@@ -1,4 +1,4 @@
-use Rattle.contract_tool.proofs.CloneLemmas.{parts_of-copied}
+use Rattle.api_description.proofs.CloneLemmas.{parts_of-copied}
 use Rattle.contract_tool.proofs.request_line.request_of.Goals as goal
 
 pub returns-clause-version : goal.returns-clause-version

@@ -3,7 +3,7 @@ use Rattle.std.specs.Str.{encode_utf8_all}
 use Rattle.semver.specs.Identifiers.{parts_of}
 use Rattle.semver.specs.Parse.{Parts}
 use Rattle.contract_tool.specs.Sessions.{front_of}
-use Rattle.contract_tool.proofs.CloneLemmas.{parts_of-copied}
+use Rattle.api_description.proofs.CloneLemmas.{parts_of-copied}
 use Rattle.contract_tool.proofs.tool.front.Goals as goal
 
 pub returns : goal.returns
