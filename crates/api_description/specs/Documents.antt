@@ -54,6 +54,7 @@ template_of e = chars (served_path e)
 abbrev pub templates : {X : Type 0} {F : X → Type 0} → Parts → List (ApiEndpoint X F) → List (List ℕ)
 templates version endpoints = with_texts [] (map template_of (held_at version endpoints))
 
+-- a schema under a media type
 abbrev pub media : List ℕ → Json → List ℕ × MediaType
 media type schema = (type, record { schema = schema })
 
@@ -62,15 +63,19 @@ abbrev pub body_of : ApiEndpointBodyContentType → List Slot → Option Request
 body_of kind [] = None
 body_of kind (TypedBody desc name ∷ slots) = Some (record { content = media (mime_of kind) (schema_json_titled name desc) ∷ []; required = true })
 
+-- the content of a success, as JSON
 abbrev pub content_of : ContentShape → List (List ℕ × MediaType)
 content_of (JsonShape desc name) = media (codes "application/json") (schema_json_titled name desc) ∷ []
 
+-- the response of a success, in full
 abbrev pub response_of_success : ApiEndpointResponse → ResponseObject
 response_of_success response = record { description = Some response.description; content = content_of response.content; reference = None }
 
+-- the response of an error, by reference to its component
 abbrev pub reference_to : ApiEndpointErrorResponse → ResponseObject
 reference_to error = record { description = None; content = []; reference = Some (codes "#/components/responses/" ++ error.name) }
 
+-- the error as the responses to `4XX` and `5XX`, where the shape names one
 abbrev pub error_references : Option ApiEndpointErrorResponse → List (List ℕ × ResponseObject)
 error_references None = []
 error_references (Some error) = (codes "4XX", reference_to error) ∷ (codes "5XX", reference_to error) ∷ []
@@ -80,6 +85,7 @@ abbrev pub responses_by : Option ℕ → ApiEndpointResponse → Option ApiEndpo
 responses_by None response error = (codes "default", response_of_success response) ∷ []
 responses_by (Some code) response error = (decimal code, response_of_success response) ∷ error_references error
 
+-- the operation that an endpoint is listed as
 abbrev pub operation_of : {X : Type 0} {F : X → Type 0} → Meanings X F → ApiEndpoint X F → Operation
 operation_of m e = record {
   operation_id = e.operation_id;
@@ -87,9 +93,11 @@ operation_of m e = record {
   responses = responses_by (shape_at m e).response.success (shape_at m e).response (shape_at m e).error;
 }
 
+-- the operation at a template and a method, of the endpoint that serves them at the version
 abbrev pub operation_at : {X : Type 0} {F : X → Type 0} → Meanings X F → Parts → List (ApiEndpoint X F) → List ℕ → List ℕ → Option Operation
 operation_at m version endpoints template method = option_map (operation_of m) (endpoint_for version method (encode_utf8_all template) endpoints)
 
+-- the operations at a template, one for each method that is served
 abbrev pub path_item_of : {X : Type 0} {F : X → Type 0} → Meanings X F → Parts → List (ApiEndpoint X F) → List ℕ → PathItem
 path_item_of m version endpoints template = record {
   get = operation_at m version endpoints template (codes "GET");
@@ -102,6 +110,7 @@ path_item_of m version endpoints template = record {
   trace = operation_at m version endpoints template (codes "TRACE");
 }
 
+-- each template at which an endpoint is served at the version, with its operations
 abbrev pub paths_of : {X : Type 0} {F : X → Type 0} → Meanings X F → Parts → List (ApiEndpoint X F) → List (List ℕ × PathItem)
 paths_of m version endpoints = map (λ template. (template, path_item_of m version endpoints template)) (templates version endpoints)
 
@@ -114,12 +123,15 @@ references_step (Desc-F.Untagged names) = flat_map (λ some. some) names
 references_step (Desc-F.Ref name) = name ∷ []
 references_step _ = []
 
+-- those of a field are those of its type
 abbrev pub references_of_field : Field-F (List (List ℕ)) (List (List ℕ)) → List (List ℕ)
 references_of_field field = field.desc
 
+-- the names of all references that stand in a descriptor
 abbrev pub references : Desc → List (List ℕ)
 references = fold-Desc (List (List ℕ)) (List (List ℕ)) references_step references_of_field
 
+-- whether a name is one of some names
 abbrev pub is_among : List ℕ → List (List ℕ) → Bool
 is_among name names = list_any (is_at (text_order name)) names
 
@@ -132,12 +144,15 @@ abbrev pub reached_within : List Definition → List (List ℕ) → ℕ → List
 reached_within table roots zero = with_texts [] roots
 reached_within table roots (suc n) = with_texts (reached_within table roots n) (referred_by (reached_within table roots n) table)
 
+-- the names that the descriptor of a slot refers to
 abbrev pub roots_of_slot : Slot → List (List ℕ)
 roots_of_slot (TypedBody desc name) = references desc
 
+-- the names that the descriptor of a content refers to
 abbrev pub roots_of_content : ContentShape → List (List ℕ)
 roots_of_content (JsonShape desc name) = references desc
 
+-- the names that the descriptor of an error refers to, none where the shape names no error
 abbrev pub roots_of_error : Option ApiEndpointErrorResponse → List (List ℕ)
 roots_of_error None = []
 roots_of_error (Some error) = references error.desc
@@ -150,12 +165,15 @@ roots_of shape = flat_map roots_of_slot shape.slots ++ roots_of_content shape.re
 abbrev pub reached_definitions : HandlerShape → List Definition
 reached_definitions shape = filter (λ e. is_among e.name (reached_within shape.table (roots_of shape) (length shape.table))) shape.table
 
+-- a definition's name, and its schema with the description
 abbrev pub schema_entry : Definition → List ℕ × Json
 schema_entry e = (e.name, schema_json_described e.description e.desc)
 
+-- the definitions that the endpoints reach, each with its schema
 abbrev pub schema_entries : {X : Type 0} {F : X → Type 0} → Meanings X F → List (ApiEndpoint X F) → List (List ℕ × Json)
 schema_entries m = flat_map (λ e. map schema_entry (reached_definitions (shape_at m e)))
 
+-- the response of an error, in full
 abbrev pub error_object : ApiEndpointErrorResponse → ResponseObject
 error_object error = record {
   description = Some error.name;
@@ -163,10 +181,12 @@ error_object error = record {
   reference = None;
 }
 
+-- the response of an error under its name, where the shape names one
 abbrev pub entries_of_error : Option ApiEndpointErrorResponse → List (List ℕ × ResponseObject)
 entries_of_error None = []
 entries_of_error (Some error) = (error.name, error_object error) ∷ []
 
+-- the responses of the endpoints' errors, under their names
 abbrev pub error_entries : {X : Type 0} {F : X → Type 0} → Meanings X F → List (ApiEndpoint X F) → List (List ℕ × ResponseObject)
 error_entries m = flat_map (λ e. entries_of_error (shape_at m e).error)
 
@@ -193,6 +213,7 @@ open_api_of m endpoints title version = record {
   components = components_of m version endpoints;
 }
 
+-- that document as JSON
 abbrev pub document_of : {X : Type 0} {F : X → Type 0} → Meanings X F → List (ApiEndpoint X F) → List ℕ → Parts → Json
 document_of m endpoints title version = open_api_json (open_api_of m endpoints title version)
 

@@ -11,10 +11,11 @@ use Rattle.api_description.specs.Endpoints.{Meanings, shape_at}
 use Rattle.api_description.specs.Replies.{HasHttpErrors, ShapePasses}
 use Rattle.api_description.specs.Templates.{has_brace, is_template}
 
+-- the bytes of an endpoint's path, as it was given
 abbrev pub path_bytes : {X : Type 0} {F : X → Type 0} → ApiEndpoint X F → List ℕ
 path_bytes e = encode_utf8_all e.path
 
--- what is built so far takes a shape: it takes a body alone, and succeeds with 200 or 201
+-- what is built so far takes a shape: one body, a success of 200 or 201, and errors of `HttpError`
 pub record IsBuiltShape (shape : HandlerShape) : Type 0 where
   pub body : (slot : Slot) × (shape.slots ≡ slot ∷ [])
   pub code : (shape.response.success ≡ Some 200) ⊎ (shape.response.success ≡ Some 201)
@@ -39,13 +40,16 @@ IsFirstCause m before e NotBuilt = IsBuilt m before e → ⊥
 IsFirstCause m before e BadTemplate = IsBuilt m before e × (is_template (path_bytes e) ≡ false)
 IsFirstCause m before e UnsupportedSchema = IsBuilt m before e × (is_template (path_bytes e) ≡ true) × (ShapePasses (shape_at m e) → ⊥)
 
+-- whether the first character is a slash
 abbrev pub begins_with_slash : List ℕ → Bool
 begins_with_slash [] = false
 begins_with_slash (c ∷ rest) = c == 47
 
+-- what is wrong with a path that is no template
 abbrev pub reason_of : List ℕ → List ℕ
 reason_of path = if begins_with_slash path then codes "bad route path: " else codes "route paths must begin with a '/': "
 
+-- the reason, and the path in quotation marks
 abbrev pub path_message : List ℕ → List ℕ
 path_message path = reason_of path ++ codes "'" ++ path ++ codes "'"
 

@@ -27,6 +27,7 @@ use Rattle.api_description.specs.Responses.{json_line, error_definition, error_r
 abbrev pub ContentPasses : List Definition → ContentShape → Type 0
 ContentPasses table (JsonShape desc name) = DescPasses table desc
 
+-- the descriptor of an error passes its checks, where the shape names one
 abbrev pub ErrorPasses : List Definition → Option ApiEndpointErrorResponse → Type 0
 ErrorPasses table None = ⊤
 ErrorPasses table (Some error) = DescPasses table error.desc
@@ -61,6 +62,7 @@ ReplyFits shape (Failure error) = ErrorFits shape error
 abbrev pub content_bytes : List Definition → ContentShape → Content → List ℕ
 content_bytes table (JsonShape desc name) (JsonContent tree) = encode_utf8_all (compact_of (json_of_tree table desc tree))
 
+-- the code of the reply, the header line of JSON, and the content
 abbrev pub success_response : HandlerShape → SuccessReply → Response
 success_response shape reply = record {
   status = reply.status;
@@ -68,6 +70,7 @@ success_response shape reply = record {
   body = content_bytes shape.table shape.response.content reply.content;
 }
 
+-- an error is sent as `HttpError` says
 abbrev pub failure_response : ErrorReply → List ℕ → Response
 failure_response (Http error) id = error_response error id
 

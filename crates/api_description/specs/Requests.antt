@@ -19,6 +19,7 @@ use Rattle.api_description.specs.declared.api_extract.slot.Arg.TheVariants.{Tree
 use Rattle.api_description.specs.declared.api_extract.slot.ApiEndpointBodyContentType.{ApiEndpointBodyContentType}
 use Rattle.api_description.specs.declared.api_extract.slot.ApiEndpointBodyContentType.TheVariants.{Json as JsonBody}
 
+-- the media type of a body
 abbrev pub mime_of : ApiEndpointBodyContentType → List ℕ
 mime_of JsonBody = codes "application/json"
 
@@ -26,6 +27,7 @@ mime_of JsonBody = codes "application/json"
 abbrev pub SlotPasses : List Definition → Slot → Type 0
 SlotPasses table (TypedBody desc name) = DescPasses table desc
 
+-- the descriptor of each slot passes its checks
 abbrev pub SlotsPass : List Definition → List Slot → Type 0
 SlotsPass table slots = All (SlotPasses table) slots
 
@@ -55,6 +57,7 @@ ArgsDenoted table body [] (arg ∷ args) = ⊥
 ArgsDenoted table body (slot ∷ slots) [] = ⊥
 ArgsDenoted table body (slot ∷ slots) (arg ∷ args) = SlotDenotes table body slot arg × ArgsDenoted table body slots args
 
+-- the fault of bytes that are no JSON
 abbrev pub not_json : Fault
 not_json = fault_of (at_root NotJson)
 

@@ -37,9 +37,11 @@ internal_error message =
 abbrev pub error_body : HttpError → List ℕ → HttpErrorResponseBody
 error_body error id = record { request_id = id; error_code = error.error_code; message = error.external_message }
 
+-- a text of any length
 abbrev pub any_text : Desc
 any_text = TextDesc None None None
 
+-- a field that is a text, without a description
 abbrev pub text_field : List ℕ → Presence → Field
 text_field name presence = record { name = name; desc = any_text; presence = presence; description = None }
 
@@ -61,9 +63,11 @@ abbrev pub error_body_json : HttpErrorResponseBody → Json
 error_body_json body =
     Object ((member (codes "request_id") (Words body.request_id) ∷ code_members body.error_code) ++ member (codes "message") (Words body.message) ∷ [])
 
+-- the header line that says that the body is JSON
 abbrev pub json_line : List ℕ × FieldValue
 json_line = (codes "content-type", plain_value (codes "application/json"))
 
+-- the header line of the request's id
 abbrev pub id_line : List ℕ → List ℕ × FieldValue
 id_line id = (codes "x-request-id", plain_value (encode_utf8_all id))
 

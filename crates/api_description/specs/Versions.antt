@@ -8,7 +8,7 @@ use Rattle.api_description.specs.declared.api_versions.ApiEndpointVersions.TheVa
 abbrev pub holds : ApiEndpointVersions → Parts → Bool
 holds All version = true
 
--- no version lies in every range
+-- a version that is not given lies in every range
 abbrev pub matches : ApiEndpointVersions → Option Parts → Bool
 matches range None = true
 matches range (Some version) = holds range version

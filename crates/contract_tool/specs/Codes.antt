@@ -3,6 +3,7 @@ use Rattle.std.specs.Prelude.{ℕ}
 use Rattle.contract_tool.specs.declared.config.ToolStatus.{ToolStatus}
 use Rattle.contract_tool.specs.declared.config.ToolStatus.TheVariants.{Done, Usage, Refused, ReadFault, WriteFault, LineTooLong, OutOfMemory, TooMuchInput}
 
+-- each status has its own number
 abbrev pub code_of : ToolStatus → ℕ
 code_of Done = 0
 code_of Usage = 2

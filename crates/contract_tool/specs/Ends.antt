@@ -27,6 +27,7 @@ pub record Outside (S K : Type 0) : Type 0 where
   pub sink : K
   pub store : Tables
 
+-- a moment by its parts
 abbrev pub outside : {S K : Type 0} → S → K → Tables → Outside S K
 outside source sink store = record { source = source; sink = sink; store = store }
 

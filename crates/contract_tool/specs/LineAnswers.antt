@@ -14,6 +14,7 @@ use Rattle.contract_tool.specs.declared.config.ToolConfig.{ToolConfig}
 use Rattle.contract_tool.specs.ReplyLines.{Tells, line_of, outcome_alone}
 use Rattle.contract_tool.specs.RequestLines.{AsksFor, IsBadLine, IsUnbuilt}
 
+-- the most bytes that a body may have
 abbrev pub most_body : ToolConfig → ℕ
 most_body config = config.server.default_request_body_max_bytes
 

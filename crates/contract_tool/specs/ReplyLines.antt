@@ -29,6 +29,7 @@ IsShownAs bytes json =
 abbrev pub IsPairOf : List ℕ × FieldValue → Json → Type 0
 IsPairOf line json = (value : Json) × IsShownAs line.1.bytes value × (json ≡ Items (Words (chars line.0) ∷ value ∷ []))
 
+-- one pair for each header line, in order
 abbrev pub ArePairsOf : List (List ℕ × FieldValue) → List Json → Type 0
 ArePairsOf [] [] = ⊤
 ArePairsOf [] (json ∷ jsons) = ⊥
@@ -41,9 +42,11 @@ IsBodyMember bytes m =
     (IsUtf8 bytes × (m ≡ member (codes "body") (Words (chars bytes))))
     ⊎ ((IsUtf8 bytes → ⊥) × (m ≡ member (codes "body_hex") (Words (encode_lower bytes))))
 
+-- the member that tells the outcome
 abbrev pub outcome_member : List ℕ → Member
 outcome_member outcome = member (codes "outcome") (Words outcome)
 
+-- an object that tells the outcome and nothing else
 abbrev pub outcome_alone : List ℕ → Json
 outcome_alone outcome = Object (outcome_member outcome ∷ [])
 

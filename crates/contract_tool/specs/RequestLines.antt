@@ -13,10 +13,12 @@ use Rattle.api_description.specs.declared.api_extract.request.RequestParts.{Requ
 use Rattle.contract_tool.specs.declared.request_line.RequestLine.{RequestLine}
 use Rattle.contract_tool.specs.declared.request_line.RequestLine.TheVariants.{Bad, NotBuilt, Request}
 
+-- the text that one level of a JSON value is
 abbrev pub text_in : Json-F Json Member → Option (List ℕ)
 text_in (Json-F.Text text) = Some text
 text_in _ = None
 
+-- the text that a JSON value is
 abbrev pub as_text : Json → Option (List ℕ)
 as_text json = text_in (out-Json json)
 
@@ -40,14 +42,17 @@ pub record IsRequest (line : List ℕ) (json : Json) (method template id : List 
 abbrev pub IsBadLine : List ℕ → Type 0
 IsBadLine line = (json : Json) (method template id : List ℕ) → IsRequest line json method template id → ⊥
 
+-- the text of a list of one item
 abbrev pub only_text : List Json → Option (List ℕ)
 only_text (frame ∷ []) = as_text frame
 only_text _ = None
 
+-- the text of the one item that a level of a JSON value holds, where it is a list
 abbrev pub frame_in : Json-F Json Member → Option (List ℕ)
 frame_in (Json-F.List frames) = only_text frames
 frame_in _ = None
 
+-- the text of the one item of `frames`
 abbrev pub frame_of : Json → Option (List ℕ)
 frame_of json = option_and_then (λ frames. frame_in (out-Json frames)) (get_of (codes "frames") json)
 

@@ -20,6 +20,7 @@ use Rattle.api_description.specs.declared.api_respond.shape.HandlerShape.{Handle
 use Rattle.api_description.specs.Responses.{error_definition, internal_error}
 use Rattle.api_description.specs.Stores.{Tables, store_with}
 
+-- a field that has to be there, without a description
 abbrev pub required : List ℕ → Desc → Field
 required name desc = record { name = name; desc = desc; presence = Required; description = None }
 
@@ -42,14 +43,17 @@ point_shape = record {
   error = Some (record { desc = Ref (codes "Error"); name = codes "Error" });
 }
 
+-- the text that one level of a tree is
 abbrev pub text_in : Tree-F Tree → Option (List ℕ)
 text_in (Tree-F.Text text) = Some text
 text_in _ = None
 
+-- the text that the first of some trees is
 abbrev pub first_text : List Tree → Option (List ℕ)
 first_text [] = None
 first_text (tree ∷ trees) = text_in (out-Tree tree)
 
+-- the first field of one level of a tree, where it is a text
 abbrev pub label_in : Tree-F Tree → Option (List ℕ)
 label_in (Tree-F.Fields trees) = first_text trees
 label_in _ = None

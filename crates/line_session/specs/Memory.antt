@@ -2,7 +2,7 @@
 use Rattle.std.specs.Prelude.{ℕ, ◌≡◌, ◌+◌, ◌<◌, ◌≤◌, Bool, min, ◌-◌, ◌^◌, nat_lt, ◌&&◌, ◌==◌, if◌then◌else◌, List, [], length, take, drop}
 use Rattle.std.specs.List.{list_any}
 
--- the first `count` bytes of buf are those of content from `at` on: as many as there are and fit
+-- the first `count` bytes of buf are those of content from `at` on; none only at the end or for no room
 pub record CopiesFront (content : List ℕ) (at : ℕ) (buf : List ℕ) (count : ℕ) : Type 0 where
   pub fits : count ≤ length buf
   pub there : count + at ≤ length content

@@ -21,6 +21,7 @@ methods =
     ∷ (codes "TRACE", codes "trace")
     ∷ []
 
+-- the name under which a path has the operation of a method
 abbrev pub method_member : List ℕ → Option (List ℕ)
 method_member method = option_map (λ pair. pair.1) (find (λ pair. bytes_eq pair.0 method) methods)
 
@@ -32,6 +33,7 @@ path_item_at doc path = member_in (get_of (codes "paths") doc) path
 abbrev pub operation_at : Json → List ℕ → List ℕ → Option Json
 operation_at doc path method = option_and_then (member_in (path_item_at doc path)) (method_member method)
 
+-- the parameters of an operation, none where it has no list of them
 abbrev pub parameters_of : Json → List Json
 parameters_of operation = unwrap_or (option_and_then (λ parameters. as_list (out-Json parameters)) (get_of (codes "parameters") operation)) []
 

@@ -7,18 +7,22 @@ use Rattle.openapi_values.specs.declared.document.OpenApi.{OpenApi}
 use Rattle.openapi_values.specs.Objects.{Entry, object_of, map_members, unless_empty}
 use Rattle.openapi_values.specs.Operation.{response_json, path_item_json}
 
+-- title and version, always (OpenAPI 3.0.3, Info Object)
 abbrev pub info_json : Info → Json
 info_json info = object_of ((codes "title", Some (Text info.title)) ∷ (codes "version", Some (Text info.version)) ∷ [])
 
+-- responses and schemas by name, each map left out where it is empty
 abbrev pub components_entries : Components → List Entry
 components_entries components =
     (codes "responses", unless_empty (map_members response_json components.responses))
     ∷ (codes "schemas", unless_empty (map_members (λ schema. schema) components.schemas))
     ∷ []
 
+-- the reusable parts of a document (OpenAPI 3.0.3, Components Object)
 unfoldable pub components_json : Components → Json
 components_json components = object_of (components_entries components)
 
+-- the members of a document, in their order
 abbrev pub open_api_entries : OpenApi → List Entry
 open_api_entries document =
     (codes "openapi", Some (Text (codes "3.0.3")))
@@ -27,5 +31,6 @@ open_api_entries document =
     ∷ (codes "components", Some (components_json document.components))
     ∷ []
 
+-- the document as JSON
 unfoldable pub open_api_json : OpenApi → Json
 open_api_json document = object_of (open_api_entries document)

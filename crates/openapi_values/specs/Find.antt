@@ -22,8 +22,10 @@ method_of method item =
     (if bytes_eq (codes "TRACE") method then item.trace else
     None)))))))
 
+-- the operation of a path and a method
 abbrev pub operation_in : OpenApi → List ℕ → List ℕ → Option Operation
 operation_in document path method = option_and_then (method_of method) (value_at path document.paths)
 
+-- the schema of a name among the components
 abbrev pub definition_in : OpenApi → List ℕ → Option Json
 definition_in document name = value_at name document.components.schemas

@@ -18,6 +18,7 @@ object_admits smaller next j schema = in_subset schema && (is_set (codes "nullab
 abbrev pub members_admit : {X : Type 0} → Json → (X → Json → Bool) → (Json → Bool) → Level X → List Member → Bool
 members_admit doc smaller next j schema = option_map_or (λ name. is_some_and (definition doc name) next) (reference_in schema) (object_admits smaller next j schema)
 
+-- a schema that is no object admits nothing
 abbrev pub schema_admits : {X : Type 0} → Json → (X → Json → Bool) → (Json → Bool) → Level X → Json → Bool
 schema_admits doc smaller next j s = is_some_and (as_object (out-Json s)) (members_admit doc smaller next j)
 
@@ -30,9 +31,11 @@ unfoldable pub admits_at : Json → ℕ → Level Admission → Admission
 admits_at doc room j zero s = false
 admits_at doc room j (suc n) s = schema_admits doc (λ smaller. smaller room) (admits_at doc room j n) j s
 
+-- a member's name, and whether its value is admitted
 abbrev pub member_admission : Member-F Admission (Named Admission) → Named Admission
 member_admission m = record { name = m.name; value = m.value }
 
+-- whether a value is admitted, where the steps at each smaller value are these
 unfoldable pub admits_within : Json → ℕ → Json → Admission
 admits_within doc room = fold-Json Admission (Named Admission) (admits_at doc room) member_admission
 

@@ -10,7 +10,7 @@ after [] text = Some text
 after (c ∷ prefix) [] = None
 after (c ∷ prefix) (d ∷ text) = if nat_eq c d then after prefix text else None
 
--- the names of members that have no effect on what is admitted
+-- the names of members that are read as of no effect on what is admitted; `xml` and `externalDocs` are not
 abbrev pub annotation_names : List (List ℕ)
 annotation_names =
     codes "title" ∷ codes "description" ∷ codes "default" ∷ codes "readOnly" ∷ codes "writeOnly" ∷ codes "deprecated" ∷ codes "example" ∷ []
@@ -51,5 +51,6 @@ part_of name =
     (if bytes_eq name (codes "not") then Not else
     Other)))))))))))
 
+-- the keyword that a member's name stands for
 abbrev pub keyword_of : List ℕ → Keyword
 keyword_of name = if is_annotation name then Annotation else bound_or (part_of name) name

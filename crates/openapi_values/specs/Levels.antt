@@ -7,9 +7,11 @@ use Rattle.schema_values.specs.declared.json_value.Json.TheOpen.{Json-F, Member-
 abbrev pub Named : Type 0 → Type 0
 Named X = Member-F X (Unit {0})
 
+-- one level: null, a truth value, a number, a text, a list or an object of such values
 abbrev pub Level : Type 0 → Type 0
 Level X = Json-F X (Named X)
 
+-- the number, text, items or members that a level is, where it is of that kind
 abbrev pub as_number : {X : Type 0} → Level X → Option ℤ
 as_number (Json-F.Int n) = Some n
 as_number _ = None
@@ -26,10 +28,12 @@ abbrev pub as_object : {X : Type 0} → Level X → Option (List (Named X))
 as_object (Json-F.Object ms) = Some ms
 as_object _ = None
 
+-- whether a level is null
 abbrev pub is_null : {X : Type 0} → Level X → Bool
 is_null Json-F.Null = true
 is_null _ = false
 
+-- whether a level is true
 abbrev pub is_true : {X : Type 0} → Level X → Bool
 is_true (Json-F.Bool b) = b
 is_true _ = false

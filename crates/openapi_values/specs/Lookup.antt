@@ -15,6 +15,7 @@ member_in json name = option_and_then (get_of name) json
 abbrev pub definition : Json → List ℕ → Option Json
 definition doc name = member_in (member_in (get_of (codes "components") doc) (codes "schemas")) name
 
+-- the name behind `#/components/schemas/` in a text
 abbrev name_in : Option (List ℕ) → Option (List ℕ)
 name_in text = option_and_then (after (codes "#/components/schemas/")) text
 

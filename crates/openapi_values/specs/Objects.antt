@@ -7,6 +7,7 @@ use Rattle.schema_values.specs.declared.json_value.Member.{Member}
 abbrev pub Entry : Type 0
 Entry = List ℕ × Option Json
 
+-- a member by its name and value
 abbrev pub member : List ℕ → Json → Member
 member name value = record { name = name; value = value }
 
@@ -15,10 +16,12 @@ abbrev pub present : List ℕ → Option Json → List Member → List Member
 present name None rest = rest
 present name (Some value) rest = member name value ∷ rest
 
+-- the members of the entries that have a value, in order
 abbrev pub members_of : List Entry → List Member
 members_of [] = []
 members_of (entry ∷ rest) = present entry.0 entry.1 (members_of rest)
 
+-- the object of the entries that have a value
 abbrev pub object_of : List Entry → Json
 object_of entries = Object (members_of entries)
 
@@ -26,6 +29,7 @@ object_of entries = Object (members_of entries)
 abbrev pub reference_json : List ℕ → Json
 reference_json reference = object_of ((codes "$ref", Some (Text reference)) ∷ [])
 
+-- a pair of a name and a value, as a member
 abbrev pub pair_member : List ℕ × Json → Member
 pair_member pair = member pair.0 pair.1
 

@@ -10,21 +10,27 @@ use Rattle.openapi_values.specs.declared.operation.PathItem.{PathItem}
 use Rattle.openapi_values.specs.IfTrue.{if_true}
 use Rattle.openapi_values.specs.Objects.{Entry, object_of, reference_json, map_members, unless_empty}
 
+-- the schema, always
 abbrev pub media_type_entries : MediaType → List Entry
 media_type_entries media = (codes "schema", Some media.schema) ∷ []
 
+-- the content of one media type (OpenAPI 3.0.3, Media Type Object)
 abbrev pub media_type_json : MediaType → Json
 media_type_json media = object_of (media_type_entries media)
 
+-- the contents by media type, left out where there are none
 abbrev pub content_json : List (List ℕ × MediaType) → Option Json
 content_json content = unless_empty (map_members media_type_json content)
 
+-- the contents, and `required` where it is true
 abbrev pub request_body_entries : RequestBody → List Entry
 request_body_entries body = (codes "content", content_json body.content) ∷ (codes "required", if_true body.required) ∷ []
 
+-- the body of a request (OpenAPI 3.0.3, Request Body Object)
 unfoldable pub request_body_json : RequestBody → Json
 request_body_json body = object_of (request_body_entries body)
 
+-- a response in full: its description and its contents, where it has them
 unfoldable pub described_json : ResponseObject → Json
 described_json response = object_of ((codes "description", option_map Text response.description) ∷ (codes "content", content_json response.content) ∷ [])
 
@@ -32,6 +38,7 @@ described_json response = object_of ((codes "description", option_map Text respo
 abbrev pub response_json : ResponseObject → Json
 response_json response = option_map_or reference_json response.reference (described_json response)
 
+-- the id, the request body where there is one, and the responses unless there are none
 abbrev pub operation_entries : Operation → List Entry
 operation_entries operation =
     (codes "operationId", Some (Text operation.operation_id))
@@ -39,9 +46,11 @@ operation_entries operation =
     ∷ (codes "responses", unless_empty (map_members response_json operation.responses))
     ∷ []
 
+-- one operation (OpenAPI 3.0.3, Operation Object)
 unfoldable pub operation_json : Operation → Json
 operation_json operation = object_of (operation_entries operation)
 
+-- the operation of each method that has one
 abbrev pub path_item_entries : PathItem → List Entry
 path_item_entries item =
     (codes "get", option_map operation_json item.get)
@@ -54,5 +63,6 @@ path_item_entries item =
     ∷ (codes "trace", option_map operation_json item.trace)
     ∷ []
 
+-- the operations of one path (OpenAPI 3.0.3, Path Item Object)
 unfoldable pub path_item_json : PathItem → Json
 path_item_json item = object_of (path_item_entries item)

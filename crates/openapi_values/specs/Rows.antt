@@ -11,6 +11,7 @@ use Rattle.openapi_values.specs.Levels.{Named, Level, as_number, as_text, as_lis
 use Rattle.openapi_values.specs.Lookup.{is_set, is_integer}
 use Rattle.openapi_values.specs.Options.{is_some_and, is_none_or}
 
+-- whether a number is one of these two or lies between them
 abbrev pub is_between : ℤ → ℤ → ℤ → Bool
 is_between low high n = int_le low n && int_le n high
 
@@ -31,16 +32,19 @@ in_format name n =
 abbrev pub is_under : Bool → ℤ → ℤ → Bool
 is_under strictly low high = if strictly then int_lt low high else int_le low high
 
--- a number, a length or a count is within the bound that a member gives
+-- a number is not below the least bound that a member gives
 abbrev pub is_least : Bool → ℤ → Json → Bool
 is_least strictly n s = is_some_and (as_number (out-Json s)) (λ least. is_under strictly least n)
 
+-- a number is not above the greatest bound that a member gives
 abbrev pub is_greatest : Bool → ℤ → Json → Bool
 is_greatest strictly n s = is_some_and (as_number (out-Json s)) (λ greatest. is_under strictly n greatest)
 
+-- a length or a count is not below the least that a member gives
 abbrev pub is_enough : ℕ → Json → Bool
 is_enough count s = is_least false (pos count) s
 
+-- a length or a count is not above the greatest that a member gives
 abbrev pub is_not_too_many : ℕ → Json → Bool
 is_not_too_many count s = is_greatest false (pos count) s
 
@@ -56,6 +60,7 @@ names_stand s ms = is_some_and (as_list (out-Json s)) (list_all (λ name. is_som
 abbrev pub property_admitted : {X : Type 0} → (X → Json → Bool) → List Member → Named X → Bool
 property_admitted smaller properties m = is_none_or (first_named m.name properties) (smaller m.value)
 
+-- each member that is a property is admitted by its schema
 abbrev pub properties_admitted : {X : Type 0} → (X → Json → Bool) → Json → List (Named X) → Bool
 properties_admitted smaller s ms = is_some_and (as_object (out-Json s)) (λ properties. list_all (property_admitted smaller properties) ms)
 
@@ -63,19 +68,22 @@ properties_admitted smaller s ms = is_some_and (as_object (out-Json s)) (λ prop
 abbrev pub other_admitted : {X : Type 0} → (X → Json → Bool) → List Member → Json → Named X → Bool
 other_admitted smaller schema s m = is_property schema m.name || (is_true (out-Json s) || smaller m.value s)
 
--- of the schemas of a list each, at least one, exactly one admits
+-- each schema of the list admits
 abbrev pub every_admits : (Json → Bool) → Json → Bool
 every_admits next s = is_some_and (as_list (out-Json s)) (list_all next)
 
+-- at least one schema of the list admits
 abbrev pub some_admits : (Json → Bool) → Json → Bool
 some_admits next s = is_some_and (as_list (out-Json s)) (list_any next)
 
+-- exactly one schema of the list admits
 abbrev pub one_admits : (Json → Bool) → Json → Bool
 one_admits next s = is_some_and (as_list (out-Json s)) (λ schemas. count_by next schemas == 1)
 
 -- One row for each member of a schema: whether its value `s` holds of the value `j`. `smaller` says whether a smaller
 -- value is admitted by a schema, and `next` whether `j` is admitted by one with one step less.
 module _ {X : Type 0} (smaller : X → Json → Bool) (next : Json → Bool) (j : Level X) (schema : List Member) where
+  -- whether a member of a keyword, whose value is `s`, holds
   abbrev pub row : Keyword → Json → Bool
   row OfType s = is_some_and (as_text (out-Json s)) (λ name. has_type name j)
   row Format s = is_none_or (as_number j) (λ n. not (is_integer schema) || is_some_and (as_text (out-Json s)) (λ name. in_format name n))
@@ -108,6 +116,7 @@ module _ {X : Type 0} (smaller : X → Json → Bool) (next : Json → Bool) (j 
   abbrev pub members_hold : Bool
   members_hold = list_all (λ m. row (keyword_of m.name) m.value) schema
 
+-- one item alone
 abbrev is_single : {X : Type 0} → List X → Bool
 is_single xs = length xs == 1
 

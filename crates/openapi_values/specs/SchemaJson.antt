@@ -24,6 +24,7 @@ pub record Written : Type 0 where
   pub truth : Option Bool
   pub under : Option (List ℕ) → Json
 
+-- what a schema is written as where no title is given
 abbrev pub untitled : Written → Json
 untitled written = written.under None
 
@@ -36,22 +37,28 @@ abbrev pub truth_json : Bool → Json
 truth_json true = object_of []
 truth_json false = object_of ((codes "not", Some (object_of [])) ∷ [])
 
+-- a truth value, or a schema object under a title
 abbrev pub schema_step : Level Schema-F → Written
 schema_step (open_types.Bool truth) = record { truth = Some truth; under = λ title. truth_json truth }
 schema_step (open_types.Object under) = record { truth = None; under = under }
 
+-- the schema of each item, without a title
 abbrev pub items_step : Level Items-F → Json
 items_step (open_types.One written) = untitled written
 
+-- a count, left out where there is none
 abbrev pub count_json : Option ℕ → Option Json
 count_json = option_map (λ n. Int (pos n))
 
+-- `items` and their least and greatest number
 abbrev pub array_step : Level ArrayParts-F → List Entry
 array_step array = (codes "items", array.items) ∷ (codes "minItems", count_json array.min) ∷ (codes "maxItems", count_json array.max) ∷ []
 
+-- a property's name, and its schema without a title
 abbrev pub property_step : Level Property-F → List ℕ × Json
 property_step property = (property.name, untitled property.schema)
 
+-- names as a list, left out where there are none
 abbrev pub names_json : List (List ℕ) → Option Json
 names_json [] = None
 names_json (name ∷ names) = Some (ListOf (map Text (name ∷ names)))
@@ -60,6 +67,7 @@ names_json (name ∷ names) = Some (ListOf (map Text (name ∷ names)))
 abbrev pub additional_json : Written → Json
 additional_json written = option_map_or Truth written.truth (untitled written)
 
+-- the properties in their order, the names that are required, and what other properties may be
 abbrev pub object_parts_step : Level ObjectParts-F → List Entry
 object_parts_step object =
     (codes "properties", unless_empty (map pair_member object.properties))
@@ -67,12 +75,15 @@ object_parts_step object =
     ∷ (codes "additionalProperties", option_map additional_json object.additional)
     ∷ []
 
+-- some schemas as a list, left out where none is given, and not where the list is empty
 abbrev pub schemas_json : Option (List Written) → Option Json
 schemas_json = option_map (λ schemas. ListOf (map untitled schemas))
 
+-- `allOf` and `anyOf`
 abbrev pub subschemas_step : Level Subschemas-F → List Entry
 subschemas_step subschemas = (codes "allOf", schemas_json subschemas.all_of) ∷ (codes "anyOf", schemas_json subschemas.any_of) ∷ []
 
+-- the name of a type (OpenAPI 3.0.3, Data Types)
 abbrev pub type_name : InstanceType → List ℕ
 type_name Boolean = codes "boolean"
 type_name Object = codes "object"
@@ -80,10 +91,12 @@ type_name Array = codes "array"
 type_name String = codes "string"
 type_name Integer = codes "integer"
 
+-- `nullable` where it is true, the given title or else the schema's own, and the description
 abbrev pub annotations : Option (List ℕ) → Option (List ℕ) → Option (List ℕ) → Bool → List Entry
 annotations given title description nullable =
     (codes "nullable", if_true nullable) ∷ (codes "title", option_map Text (option_or given title)) ∷ (codes "description", option_map Text description) ∷ []
 
+-- the format and the bounds of a number
 abbrev pub number_entries : Option (List ℕ) → Option NumberBounds → List Entry
 number_entries format bounds =
     (codes "format", option_map Text format)
@@ -91,6 +104,7 @@ number_entries format bounds =
     ∷ (codes "maximum", option_map Int (option_and_then (λ b. b.maximum) bounds))
     ∷ []
 
+-- the format of a text and the bounds of its length
 abbrev pub text_entries : Option (List ℕ) → Option LengthBounds → List Entry
 text_entries format bounds =
     (codes "format", option_map Text format)
@@ -106,6 +120,7 @@ kind_entries Array format number text array object = unwrap_or array []
 kind_entries String format number text array object = text_entries format text
 kind_entries Integer format number text array object = number_entries format number
 
+-- the name of the type and what it has beside; nothing without a type
 abbrev pub type_entries : Option InstanceTypes → Option (List ℕ) → Option NumberBounds → Option LengthBounds → Option (List Entry) → Option (List Entry) → List Entry
 type_entries None format number text array object = []
 type_entries (Some (Single type)) format number text array object = (codes "type", Some (Text (type_name type))) ∷ kind_entries type format number text array object
@@ -119,25 +134,31 @@ object_step schema given =
     ++ type_entries schema.instance_type schema.format schema.number schema.string schema.array schema.object)
     ++ unwrap_or schema.subschemas []))
 
--- each type, as it is written
+-- a schema, as it is written: under each title, and beside it the truth value that it is
 unfoldable pub schema_written : Schema → Written
 schema_written = fold-Schema Json Written (List Entry) (List Entry) (List ℕ × Json) (Option (List ℕ) → Json) (List Entry) items_step schema_step array_step object_parts_step property_step object_step subschemas_step
 
+-- the schema of items, as it is written
 unfoldable pub items_written : Items → Json
 items_written = fold-Items Json Written (List Entry) (List Entry) (List ℕ × Json) (Option (List ℕ) → Json) (List Entry) items_step schema_step array_step object_parts_step property_step object_step subschemas_step
 
+-- what an array has, as it is written
 unfoldable pub array_written : ArrayParts → List Entry
 array_written = fold-ArrayParts Json Written (List Entry) (List Entry) (List ℕ × Json) (Option (List ℕ) → Json) (List Entry) items_step schema_step array_step object_parts_step property_step object_step subschemas_step
 
+-- what an object has, as it is written
 unfoldable pub object_parts_written : ObjectParts → List Entry
 object_parts_written = fold-ObjectParts Json Written (List Entry) (List Entry) (List ℕ × Json) (Option (List ℕ) → Json) (List Entry) items_step schema_step array_step object_parts_step property_step object_step subschemas_step
 
+-- a property's name, and its schema as it is written
 unfoldable pub property_written : Property → List ℕ × Json
 property_written = fold-Property Json Written (List Entry) (List Entry) (List ℕ × Json) (Option (List ℕ) → Json) (List Entry) items_step schema_step array_step object_parts_step property_step object_step subschemas_step
 
+-- a schema object, as it is written under each title
 unfoldable pub object_written : SchemaObject → Option (List ℕ) → Json
 object_written = fold-SchemaObject Json Written (List Entry) (List Entry) (List ℕ × Json) (Option (List ℕ) → Json) (List Entry) items_step schema_step array_step object_parts_step property_step object_step subschemas_step
 
+-- subschemas, as they are written
 unfoldable pub subschemas_written : Subschemas → List Entry
 subschemas_written = fold-Subschemas Json Written (List Entry) (List Entry) (List ℕ × Json) (Option (List ℕ) → Json) (List Entry) items_step schema_step array_step object_parts_step property_step object_step subschemas_step
 

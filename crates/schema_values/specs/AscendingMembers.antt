@@ -9,9 +9,11 @@ use Rattle.schema_values.specs.declared.json_value.Member.{Member}
 use Rattle.schema_values.specs.Ascending.{IsAscending}
 use Rattle.schema_values.specs.Member.{name_of, value_of}
 
+-- in the value of a member each object is in order
 abbrev pub HasAscendingValue : Member → Type 0
 HasAscendingValue member = IsAscending (value_of member)
 
+-- the members ascend by name, and so do those of each object in their values
 abbrev pub HasAscendingMembers : List Member → Type 0
 HasAscendingMembers members = AllByRecursion HasAscendingValue members × IsStrictlySortedBy (slice_cmp nat_cmp) (map name_of members)
 

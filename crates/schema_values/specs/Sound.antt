@@ -7,6 +7,7 @@ use Rattle.schema_values.specs.declared.json_value.Json.{Json, Null, Bool, Int, 
 abbrev pub IsWhole : ℤ → Type 0
 IsWhole n = (negsuc (2 ^ 63 - 1) ≤ℤ n) × (n ≤ℤ pos (2 ^ 64 - 1))
 
+-- the names of some members, in their order
 abbrev pub names : {m : _} → Row_of-Member m → List (List ℕ)
 names end_of-Member = []
 names (more_of-Member name value rest) = name ∷ names rest
@@ -17,6 +18,7 @@ AreDistinct [] = ⊤
 AreDistinct (name ∷ rest) = AllByRecursion (λ other. name ≢ other) rest × AreDistinct rest
 
 abbrev mutual
+  -- the value and all values in it are sound
   pub IsSound : Json → Type 0
   IsSound Null = ⊤
   IsSound (Bool b) = ⊤
@@ -25,10 +27,12 @@ abbrev mutual
   IsSound (List' shape items) = AreSound items
   IsSound (Object' shape members) = AreSoundMembers members × AreDistinct (names members)
 
+  -- each item is sound
   pub AreSound : {m : _} → Row_of-Json m → Type 0
   AreSound end_of-Json = ⊤
   AreSound (more_of-Json item rest) = IsSound item × AreSound rest
 
+  -- the value of each member is sound
   pub AreSoundMembers : {m : _} → Row_of-Member m → Type 0
   AreSoundMembers end_of-Member = ⊤
   AreSoundMembers (more_of-Member name value rest) = IsSound value × AreSoundMembers rest

@@ -3,6 +3,7 @@ use Rattle.std.specs.Prelude.{ℕ, ℤ, pos, negsuc, Bool, true, ◌&&◌, nat_l
 use Rattle.typed_values.specs.declared.desc.IntKind.{IntKind}
 use Rattle.typed_values.specs.declared.desc.IntKind.TheVariants.{I8, I16, I32, I64, U8, U16, U32, U64}
 
+-- the least number of a kind
 abbrev pub least_of : IntKind → ℤ
 least_of I8 = negsuc 127
 least_of I16 = negsuc 32767
@@ -13,6 +14,7 @@ least_of U16 = pos 0
 least_of U32 = pos 0
 least_of U64 = pos 0
 
+-- the greatest number of a kind
 abbrev pub greatest_of : IntKind → ℤ
 greatest_of I8 = pos 127
 greatest_of I16 = pos 32767
@@ -23,11 +25,12 @@ greatest_of U16 = pos 65535
 greatest_of U32 = pos 4294967295
 greatest_of U64 = pos 18446744073709551615
 
--- a bound that is not given bounds nothing
+-- a number is not below a least bound, where one is given
 abbrev pub is_at_least : Option ℤ → ℤ → Bool
 is_at_least None n = true
 is_at_least (Some least) n = int_le least n
 
+-- a number is not above a greatest bound, where one is given
 abbrev pub is_at_most : Option ℤ → ℤ → Bool
 is_at_most None n = true
 is_at_most (Some greatest) n = int_le n greatest
@@ -36,14 +39,16 @@ is_at_most (Some greatest) n = int_le n greatest
 abbrev pub is_number_of : IntKind → Option ℤ → Option ℤ → ℤ → Bool
 is_number_of kind min max n = (int_le (least_of kind) n && int_le n (greatest_of kind)) && (is_at_least min n && is_at_most max n)
 
--- a length within the bounds
+-- a length is not below a least bound, where one is given
 abbrev pub is_long_enough : Option ℕ → ℕ → Bool
 is_long_enough None n = true
 is_long_enough (Some least) n = nat_le least n
 
+-- a length is not above a greatest bound, where one is given
 abbrev pub is_short_enough : Option ℕ → ℕ → Bool
 is_short_enough None n = true
 is_short_enough (Some greatest) n = nat_le n greatest
 
+-- a length within both bounds
 abbrev pub is_length_within : Option ℕ → Option ℕ → ℕ → Bool
 is_length_within min max n = is_long_enough min n && is_short_enough max n

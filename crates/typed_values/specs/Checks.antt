@@ -21,6 +21,7 @@ HasDoubledName d = (fs : List Field) × (deny : Bool) × (out-Desc d ≡ Desc-F.
 abbrev pub is_name_character : ℕ → Bool
 is_name_character c = ((nat_le 97 c && nat_le c 122) || (nat_le 65 c && nat_le c 90)) || ((nat_le 48 c && nat_le c 57) || ((c == 46) || ((c == 45) || (c == 95))))
 
+-- one or more of these characters (OpenAPI 3.0.3, Components Object)
 abbrev pub IsName : List ℕ → Type 0
 IsName name = (name ≢ []) × AllByRecursion (λ c. IsTrue (is_name_character c)) name
 
@@ -42,18 +43,22 @@ pub data TakesNull (table : List Definition) : Desc → Type 0 where
 abbrev pub IsNullOfNull : List Definition → Desc → Type 0
 IsNullOfNull table d = (x : Desc) × (out-Desc d ≡ Desc-F.Option x) × TakesNull table x
 
+-- the least length is not above the greatest, where both are given
 abbrev pub is_length_order : Option ℕ → Option ℕ → Bool
 is_length_order (Some min) (Some max) = nat_le min max
 is_length_order _ _ = true
 
+-- the least number is not above the greatest, where both are given
 abbrev pub is_number_order : Option ℤ → Option ℤ → Bool
 is_number_order (Some min) (Some max) = int_le min max
 is_number_order _ _ = true
 
+-- a bound is a number of the kind, where it is given
 abbrev pub is_bound_of : IntKind → Option ℤ → Bool
 is_bound_of kind None = true
 is_bound_of kind (Some bound) = int_le (least_of kind) bound && int_le bound (greatest_of kind)
 
+-- bounds are in order and of their kind, and alternatives no more than 2^32
 abbrev pub are_bounds_right : Desc-F Desc Field → Bool
 are_bounds_right (Desc-F.Int kind min max) = is_number_order min max && (is_bound_of kind min && is_bound_of kind max)
 are_bounds_right (Desc-F.Text min max format) = is_length_order min max
@@ -65,6 +70,7 @@ are_bounds_right _ = true
 abbrev pub HasBadRange : Desc → Type 0
 HasBadRange d = are_bounds_right (out-Desc d) ≡ false
 
+-- the descriptor is an option itself, and no reference to one
 abbrev pub IsOption : Desc → Type 0
 IsOption d = (x : Desc) × (out-Desc d ≡ Desc-F.Option x)
 
@@ -72,6 +78,7 @@ IsOption d = (x : Desc) × (out-Desc d ≡ Desc-F.Option x)
 abbrev pub IsBadField : List Definition → Field → Type 0
 IsBadField table f = ((f.presence ≡ Nullable) × (IsOption f.desc → ⊥)) ⊎ ((f.presence ≡ Skipped) × TakesNull table f.desc)
 
+-- a field of a struct is such
 abbrev pub HasBadPresence : List Definition → Desc → Type 0
 HasBadPresence table d = (fs : List Field) × (deny : Bool) × (f : Field) × (out-Desc d ≡ Desc-F.Struct fs deny) × Contains fs f × IsBadField table f
 

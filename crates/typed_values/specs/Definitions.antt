@@ -14,9 +14,11 @@ abbrev pub definition : List Definition → List ℕ → Option Desc
 definition [] name = None
 definition (e ∷ es) name = if bytes_eq e.name name then Some e.desc else definition es name
 
+-- the name of a field
 abbrev pub field_name : Field → List ℕ
 field_name field = field.name
 
+-- the name of a definition
 abbrev pub definition_name : Definition → List ℕ
 definition_name e = e.name
 

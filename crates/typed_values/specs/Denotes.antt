@@ -34,10 +34,11 @@ Told = Result Tree Trouble
 abbrev pub Meaning : Type 0
 Meaning = ℕ → Desc → Told
 
--- one level of a JSON value, where each smaller value stands as what it denotes
+-- a member, where its value stands as its meaning
 abbrev pub NamedMeaning : Type 0
 NamedMeaning = Member-F Meaning (Unit {0})
 
+-- one level of a JSON value, where each smaller value stands as its meaning
 abbrev pub Level : Type 0
 Level = Json-F Meaning NamedMeaning
 
@@ -51,6 +52,7 @@ abbrev pub below : Place → Told → Told
 below place (Ok tree) = Ok tree
 below place (Err trouble) = Err (record { path = place ∷ trouble.path; kind = trouble.kind })
 
+-- a tree as the value of an option
 abbrev pub just : Told → Told
 just (Ok tree) = Ok (Just tree)
 just (Err trouble) = Err trouble
@@ -60,33 +62,41 @@ abbrev pub and_rest : Tree → Result (List Tree) Trouble → Result (List Tree)
 and_rest tree (Ok trees) = Ok (tree ∷ trees)
 and_rest tree (Err trouble) = Err trouble
 
+-- the tree of one part before those of the rest, or the first fault of all
 abbrev pub and_then : Told → Result (List Tree) Trouble → Result (List Tree) Trouble
 and_then (Ok tree) rest = and_rest tree rest
 and_then (Err trouble) rest = Err trouble
 
+-- the trees of some parts, where each is told with its place, or the first fault
 abbrev pub all_told : {X : Type 0} → (ℕ → X → Told) → ℕ → List X → Result (List Tree) Trouble
 all_told told i [] = Ok []
 all_told told i (x ∷ xs) = and_then (told i x) (all_told told (i + 1) xs)
 
+-- the tree that is made of some trees
 abbrev pub as_tree : (List Tree → Tree) → Result (List Tree) Trouble → Told
 as_tree node (Ok trees) = Ok (node trees)
 as_tree node (Err trouble) = Err trouble
 
+-- a fault at this value
 abbrev pub refused : FaultKind → Told
 refused kind = Err (at_root kind)
 
+-- what is told where a test holds, else a fault
 abbrev pub if_holds : Bool → FaultKind → Told → Told
 if_holds true kind told = told
 if_holds false kind told = refused kind
 
+-- a truth value
 abbrev pub truth : {X Y : Type 0} → Json-F X Y → Told
 truth (Json-F.Bool b) = Ok (Truth b)
 truth _ = refused WrongKind
 
+-- a number of a kind, within bounds
 abbrev pub number : {X Y : Type 0} → IntKind → Option ℤ → Option ℤ → Json-F X Y → Told
 number kind min max (Json-F.Int n) = if_holds (is_number_of kind min max n) OutOfRange (Ok (Number n))
 number kind min max _ = refused WrongKind
 
+-- a text whose length is within bounds
 abbrev pub words : {X Y : Type 0} → Option ℕ → Option ℕ → Json-F X Y → Told
 words min max (Json-F.Text text) = if_holds (is_length_within min max (length text)) BadLength (Ok (Words text))
 words min max _ = refused WrongKind
@@ -100,6 +110,7 @@ optional _ inner = just inner
 abbrev pub items_told : {X : Type 0} → (ℕ → X → Told) → Option ℕ → Option ℕ → List X → Told
 items_told told min max xs = if_holds (is_length_within min max (length xs)) BadLength (as_tree Items (all_told told 0 xs))
 
+-- a list, item by item; each item has all steps again
 abbrev pub items : ℕ → Desc → Option ℕ → Option ℕ → Level → Told
 items room d min max (Json-F.List xs) = items_told (λ i x. below (Item i) (x room d)) min max xs
 items room d min max _ = refused WrongKind
@@ -121,10 +132,12 @@ abbrev pub by_presence : Field → Option Told → Told
 by_presence f None = if_absent f.presence f.name
 by_presence f (Some told) = if_present f.presence (below (Name f.name) told)
 
+-- what a value denotes, where it is there
 abbrev pub value_told : ℕ → Desc → Option Meaning → Option Told
 value_told room d None = None
 value_told room d (Some meaning) = Some (meaning room d)
 
+-- what a field gives among some members
 abbrev pub field_told : ℕ → List NamedMeaning → Field → Told
 field_told room ms f = by_presence f (value_told room f.desc (value_named ms f.name))
 
@@ -133,20 +146,23 @@ abbrev pub is_declared : List Field → List ℕ → Bool
 is_declared [] name = false
 is_declared (f ∷ fs) name = if bytes_eq f.name name then true else is_declared fs name
 
--- the least of some names, in the order of their characters
+-- the lesser of two names, in the order of their characters
 abbrev pub lesser : Ordering → List ℕ → List ℕ → List ℕ
 lesser Less a b = a
 lesser Equal a b = a
 lesser Greater a b = b
 
+-- the lesser of a name and the least of others
 abbrev pub least_with : List ℕ → Option (List ℕ) → Option (List ℕ)
 least_with name None = Some name
 least_with name (Some other) = Some (lesser (slice_cmp nat_cmp name other) name other)
 
+-- the least of some names, none of none
 abbrev pub least_name : List (List ℕ) → Option (List ℕ)
 least_name [] = None
 least_name (name ∷ names) = least_with name (least_name names)
 
+-- the name of a member
 abbrev pub member_name : {X : Type 0} → Member-F X (Unit {0}) → List ℕ
 member_name m = m.name
 
@@ -161,10 +177,12 @@ unless_denied None told = told
 unless_denied (Some name) (Ok tree) = refused (Unknown name)
 unless_denied (Some name) (Err trouble) = Err trouble
 
+-- the struct of an object: its fields in order, and no unknown name where these are denied
 abbrev pub fields : ℕ → List Field → Bool → Level → Told
 fields room fs deny (Json-F.Object ms) = unless_denied (denied_name deny fs ms) (as_tree Parts (all_told (λ i f. field_told room ms f) 0 fs))
 fields room fs deny _ = refused WrongKind
 
+-- what is told under the definition of a name; a name without one denotes nothing
 abbrev pub at_definition : (Desc → Told) → Option Desc → Told
 at_definition told None = refused WrongKind
 at_definition told (Some d) = told d
@@ -174,6 +192,7 @@ abbrev pub or_else : ℕ → Told → Told → Told
 or_else i (Ok tree) rest = Ok (Choice i tree)
 or_else i (Err trouble) rest = rest
 
+-- the tree of the first alternative that has one, or a fault where none has
 abbrev pub first_told : ℕ → (Desc → Told) → List Desc → Told
 first_told i told [] = refused NoAlternative
 first_told i told (d ∷ ds) = or_else i (told d) (first_told (i + 1) told ds)
@@ -194,6 +213,7 @@ unfoldable pub told_at : List Definition → ℕ → Level → Meaning
 told_at table room j zero d = refused WrongKind
 told_at table room j (suc n) d = told_by table room j (told_at table room j n) (out-Desc d)
 
+-- a member's name, and what its value denotes
 abbrev pub named_meaning : Member-F Meaning NamedMeaning → NamedMeaning
 named_meaning m = record { name = m.name; value = m.value }
 
@@ -201,7 +221,7 @@ named_meaning m = record { name = m.name; value = m.value }
 abbrev pub told_within : List Definition → ℕ → Json → Meaning
 told_within table room = fold-Json Meaning NamedMeaning (told_at table room) named_meaning
 
--- the number of descriptors in a descriptor
+-- the number of descriptors at one level, where each smaller one stands as its number
 abbrev pub nodes_step : Desc-F ℕ ℕ → ℕ
 nodes_step (Desc-F.Option n) = suc n
 nodes_step (Desc-F.List n min max) = suc n
@@ -209,12 +229,15 @@ nodes_step (Desc-F.Struct ns deny) = suc (sum ns)
 nodes_step (Desc-F.Untagged ns) = suc (sum ns)
 nodes_step _ = 1
 
+-- a field has the descriptors of its type
 abbrev pub field_nodes : Field-F ℕ ℕ → ℕ
 field_nodes f = f.desc
 
+-- the number of descriptors in a descriptor, with itself
 abbrev pub nodes : Desc → ℕ
 nodes = fold-Desc ℕ ℕ nodes_step field_nodes
 
+-- the number of descriptors in all definitions
 abbrev pub nodes_of_table : List Definition → ℕ
 nodes_of_table [] = 0
 nodes_of_table (e ∷ es) = nodes e.desc + nodes_of_table es

@@ -20,6 +20,7 @@ pub record Writing : Type 0 where
   pub is_none : Bool
   pub json : ℕ → Desc → Json
 
+-- a member by its name and value
 abbrev pub member : List ℕ → Json → Member
 member name value = record { name = name; value = value }
 
@@ -29,16 +30,19 @@ is_left_out Skipped is_none = is_none
 is_left_out Required is_none = false
 is_left_out Nullable is_none = false
 
+-- the member before others, unless it is left out
 abbrev pub unless : Bool → Member → List Member → List Member
 unless true m ms = ms
 unless false m ms = m ∷ ms
 
+-- the fields with their trees as members, without those that are left out
 abbrev pub members_written : {X : Type 0} → (X → Bool) → (X → Desc → Json) → List Field → List X → List Member
 members_written is_none written [] xs = []
 members_written is_none written (f ∷ fs) [] = []
 members_written is_none written (f ∷ fs) (x ∷ xs) =
     unless (is_left_out f.presence (is_none x)) (member f.name (written x (field_desc f))) (members_written is_none written fs xs)
 
+-- what is written under a descriptor, null where there is none
 abbrev pub written_if_there : (Desc → Json) → Option Desc → Json
 written_if_there written None = Null
 written_if_there written (Some d) = written d
@@ -50,18 +54,22 @@ scalar_written (Tree-F.Int n) = Number n
 scalar_written (Tree-F.Text text) = Words text
 scalar_written _ = Null
 
+-- the tree of an option that has one, else null
 abbrev pub option_written : {X : Type 0} → (X → Json) → Tree-F X → Json
 option_written written (Tree-F.Some x) = written x
 option_written written _ = Null
 
+-- each tree of a list, in order
 abbrev pub items_written : {X : Type 0} → (X → Json) → Tree-F X → Json
 items_written written (Tree-F.List xs) = Items (map written xs)
 items_written written _ = Null
 
+-- the trees of a struct, as an object
 abbrev pub parts_written : {X : Type 0} → (X → Bool) → (X → Desc → Json) → List Field → Tree-F X → Json
 parts_written is_none written fs (Tree-F.Fields xs) = Object (members_written is_none written fs xs)
 parts_written is_none written fs _ = Null
 
+-- the tree of an alternative, under the descriptor at its place
 abbrev pub choice_written : {X : Type 0} → (X → Desc → Json) → List Desc → Tree-F X → Json
 choice_written written ds (Tree-F.Variant i x) = written_if_there (written x) (alternative_at ds i)
 choice_written written ds _ = Null
@@ -77,20 +85,25 @@ written_by table is_none written next (Desc-F.Struct fs deny) tree = parts_writt
 written_by table is_none written next (Desc-F.Untagged ds) tree = choice_written written ds tree
 written_by table is_none written next (Desc-F.Ref name) tree = written_if_there next (definition table name)
 
+-- whether a written tree is `None`
 abbrev pub is_none_written : Writing → Bool
 is_none_written x = x.is_none
 
+-- with no step left null is written
 unfoldable pub written_at : List Definition → ℕ → Tree-F Writing → ℕ → Desc → Json
 written_at table room tree zero d = Null
 written_at table room tree (suc n) d = written_by table is_none_written (λ x e. x.json room e) (written_at table room tree n) (out-Desc d) tree
 
+-- whether one level of a tree is `None`
 abbrev pub is_none_level : {X : Type 0} → Tree-F X → Bool
 is_none_level Tree-F.None = true
 is_none_level _ = false
 
+-- one level, where each smaller tree stands as it is written
 abbrev pub writing_step : List Definition → ℕ → Tree-F Writing → Writing
 writing_step table room tree = record { is_none = is_none_level tree; json = written_at table room tree }
 
+-- the steps are renewed at each smaller tree
 abbrev pub writing : List Definition → ℕ → Tree → Writing
 writing table room = fold-Tree Writing (writing_step table room)
 

@@ -12,6 +12,7 @@ pub record Trouble : Type 0 where
   pub path : List Place
   pub kind : FaultKind
 
+-- a fault that no place leads to
 abbrev pub at_root : FaultKind → Trouble
 at_root kind = record { path = []; kind = kind }
 
@@ -20,6 +21,7 @@ abbrev pub place_behind : Place → List ℕ
 place_behind (Name name) = 46 ∷ name
 place_behind (Item k) = 91 ∷ decimal k ++ 93 ∷ []
 
+-- some places, one behind another
 abbrev pub places_behind : List Place → List ℕ
 places_behind [] = []
 places_behind (place ∷ rest) = place_behind place ++ places_behind rest
@@ -30,6 +32,7 @@ path_text [] = codes "."
 path_text (Name name ∷ rest) = name ++ places_behind rest
 path_text (Item k ∷ rest) = places_behind (Item k ∷ rest)
 
+-- what a kind of fault is told as
 abbrev pub kind_text : FaultKind → List ℕ
 kind_text (Missing name) = codes "missing field `" ++ name ++ codes "`"
 kind_text (Unknown name) = codes "unknown field `" ++ name ++ codes "`"

@@ -18,14 +18,17 @@ use Rattle.typed_values.specs.Denotes.{room}
 abbrev pub Fitting : Type 0
 Fitting = ℕ → Desc → Bool
 
+-- a truth value
 abbrev pub truth_fits : {X : Type 0} → Tree-F X → Bool
 truth_fits (Tree-F.Bool b) = true
 truth_fits _ = false
 
+-- a number of the kind, within the bounds
 abbrev pub number_fits : {X : Type 0} → IntKind → Option ℤ → Option ℤ → Tree-F X → Bool
 number_fits kind min max (Tree-F.Int n) = is_number_of kind min max n
 number_fits kind min max _ = false
 
+-- a text whose length is within the bounds
 abbrev pub words_fit : {X : Type 0} → Option ℕ → Option ℕ → Tree-F X → Bool
 words_fit min max (Tree-F.Text text) = is_length_within min max (length text)
 words_fit min max _ = false
@@ -36,10 +39,12 @@ option_fits fits Tree-F.None = true
 option_fits fits (Tree-F.Some x) = fits x
 option_fits fits _ = false
 
+-- each of some trees fits
 abbrev pub each_fits : {X : Type 0} → (X → Bool) → List X → Bool
 each_fits fits [] = true
 each_fits fits (x ∷ xs) = fits x && each_fits fits xs
 
+-- a list whose length is within the bounds, and each of whose trees fits
 abbrev pub items_fit : {X : Type 0} → (X → Bool) → Option ℕ → Option ℕ → Tree-F X → Bool
 items_fit fits min max (Tree-F.List xs) = is_length_within min max (length xs) && each_fits fits xs
 items_fit fits min max _ = false
@@ -59,6 +64,7 @@ fields_fit fits [] (x ∷ xs) = false
 fields_fit fits (f ∷ fs) [] = false
 fields_fit fits (f ∷ fs) (x ∷ xs) = fits x (field_desc f) && fields_fit fits fs xs
 
+-- a struct, whose trees fit the fields
 abbrev pub parts_fit : {X : Type 0} → (X → Desc → Bool) → List Field → Tree-F X → Bool
 parts_fit fits fs (Tree-F.Fields xs) = fields_fit fits fs xs
 parts_fit fits fs _ = false
@@ -69,10 +75,12 @@ alternative_at [] i = None
 alternative_at (d ∷ ds) zero = Some d
 alternative_at (d ∷ ds) (suc i) = alternative_at ds i
 
+-- a test of a descriptor, which fails where there is none
 abbrev pub if_there : (Desc → Bool) → Option Desc → Bool
 if_there fits None = false
 if_there fits (Some d) = fits d
 
+-- an alternative, whose tree fits the descriptor at its place
 abbrev pub choice_fits : {X : Type 0} → (X → Desc → Bool) → List Desc → Tree-F X → Bool
 choice_fits fits ds (Tree-F.Variant i x) = if_there (fits x) (alternative_at ds i)
 choice_fits fits ds _ = false

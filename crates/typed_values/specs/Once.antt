@@ -8,14 +8,17 @@ use Rattle.typed_values.specs.Definitions.{definition}
 use Rattle.typed_values.specs.Denotes.{room}
 use Rattle.typed_values.specs.Sound.{EachRests, RestsBy, Rests, IsSound}
 
+-- there is one way at most to say it of the definition of a name
 once_found : (Next : Desc → Type 0) → ((d : Desc) → IsProp (Next d)) → (o : Option Desc) → IsProp (MatchOption o ⊥ Next)
 once_found Next p None = λ a b. absurd a
 once_found Next p (Some d) = p d
 
+-- there is one way at most to say it of each of some descriptors
 once_each : (Next : Desc → Type 0) → ((d : Desc) → IsProp (Next d)) → (ds : List Desc) → IsProp (EachRests Next ds)
 once_each Next p [] = λ a b. refl
 once_each Next p (d ∷ ds) = λ a b i. (p d a.0 b.0 i, once_each Next p ds a.1 b.1 i)
 
+-- there is one way at most to say it of a descriptor of any form
 once_by : (table : List Definition) (Next : Desc → Type 0) → ((d : Desc) → IsProp (Next d)) → (x : Desc-F Desc Field) → IsProp (RestsBy table Next x)
 once_by table Next p Desc-F.Bool = λ a b. refl
 once_by table Next p (Desc-F.Int kind min max) = λ a b. refl
@@ -26,10 +29,12 @@ once_by table Next p (Desc-F.Struct fs deny) = λ a b. refl
 once_by table Next p (Desc-F.Untagged ds) = once_each Next p ds
 once_by table Next p (Desc-F.Ref name) = once_found Next p (definition table name)
 
+-- a descriptor rests in one way at most
 once_rests : (table : List Definition) (n : ℕ) (d : Desc) → IsProp (Rests table n d)
 unfolding Rests
 once_rests table zero d = λ a b. absurd a
 once_rests table (suc n) d = once_by table (Rests table n) (once_rests table n) (out-Desc d)
 
+-- a table and a whole descriptor are sound in one way at most
 pub once_sound : (table : List Definition) (whole : Desc) → IsProp (IsSound table whole)
 once_sound table whole = λ a b i d p. once_rests table (room table whole) d (a d p) (b d p) i

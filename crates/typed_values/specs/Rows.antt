@@ -16,26 +16,33 @@ use Rattle.typed_values.specs.Faults.{Trouble}
 use Rattle.typed_values.specs.Denotes.{Told, below, told, all_told, as_tree, refused, truth, number, words, optional, items_told, by_presence, value_named, unless_denied, denied_name, at_definition, first_told}
 use Rattle.typed_values.specs.Parts.{IsPart}
 
+-- what is told of an item, at its place in the list
 abbrev pub told_item : List Definition → Desc → Desc → ℕ → Json → Told
 told_item table whole d i j = below (Item i) (told table whole j d)
 
+-- what is told of a value, where it is there
 abbrev pub value_denotes : List Definition → Desc → Desc → Option Json → Option Told
 value_denotes table whole d None = None
 value_denotes table whole d (Some j) = Some (told table whole j d)
 
+-- what a field gives among the members of an object
 abbrev pub told_field : List Definition → Desc → List Member → Field → Told
 told_field table whole ms f = by_presence f (value_denotes table whole f.desc (value_named ms f.name))
 
+-- the trees of all fields in order, or the first fault
 abbrev pub told_fields : List Definition → Desc → List Member → List Field → Result (List Tree) Trouble
 told_fields table whole ms fs = all_told (λ i f. told_field table whole ms f) 0 fs
 
+-- the struct of some members, with its unknown names
 abbrev pub told_struct : List Definition → Desc → List Field → Bool → List Member → Told
 told_struct table whole fs deny ms = unless_denied (denied_name deny fs ms) (as_tree Parts (told_fields table whole ms fs))
 
+-- what is told of a list, item by item
 abbrev pub list_row : List Definition → Desc → Desc → Option ℕ → Option ℕ → Json-F Json Member → Told
 list_row table whole d min max (Json-F.List js) = items_told (told_item table whole d) min max js
 list_row table whole d min max _ = refused WrongKind
 
+-- what is told of an object under a struct
 abbrev pub struct_row : List Definition → Desc → List Field → Bool → Json-F Json Member → Told
 struct_row table whole fs deny (Json-F.Object ms) = told_struct table whole fs deny ms
 struct_row table whole fs deny _ = refused WrongKind
@@ -55,5 +62,6 @@ row table whole j x (Desc-F.Ref name) = at_definition (told table whole j) (defi
 abbrev pub AreParts : List Definition → Desc → List Desc → Type 0
 AreParts table whole ds = (d : Desc) → Contains ds d → IsPart table whole d
 
+-- the same of the descriptors of some fields
 abbrev pub AreFieldsOf : List Definition → Desc → List Field → Type 0
 AreFieldsOf table whole fs = (f : Field) → Contains fs f → IsPart table whole f.desc

@@ -22,9 +22,11 @@ pub record Drawn : Type 0 where
   pub is_reference : Bool
   pub members : List Member
 
+-- a schema without annotations, of these members
 abbrev pub plain : List Member → Drawn
 plain members = record { nullable = false; title = None; description = None; is_reference = false; members = members }
 
+-- a reference to a definition (OpenAPI 3.0.3, Reference Object)
 abbrev pub reference : List ℕ → Drawn
 reference name = record {
   nullable = false;
@@ -63,6 +65,7 @@ abbrev pub if_denied : Bool → List Member
 if_denied true = member (codes "additionalProperties") (Truth false) ∷ []
 if_denied false = []
 
+-- the member `type` before others
 abbrev pub of_type : List ℕ → List Member → List Member
 of_type name rest = member (codes "type") (Words name) ∷ rest
 
@@ -72,9 +75,11 @@ annotated [] is_reference members = members
 annotated (a ∷ annotations) true members = (a ∷ annotations) ++ member (codes "allOf") (Items (Object members ∷ [])) ∷ []
 annotated (a ∷ annotations) false members = (a ∷ annotations) ++ members
 
+-- the schema as JSON: annotations first
 abbrev pub drawn_json : Drawn → Json
 drawn_json s = Object (annotated (if_true s.nullable (codes "nullable") (if_text s.title (codes "title") (if_text s.description (codes "description") []))) s.is_reference s.members)
 
+-- the format of a kind of numbers (OpenAPI 3.0.3, Data Types, has int32 and int64)
 abbrev pub format_of : IntKind → List ℕ
 format_of I8 = codes "int8"
 format_of I16 = codes "int16"
@@ -101,13 +106,16 @@ least_shown U64 None = Some (pos 0)
 abbrev pub DrawnField : Type 0
 DrawnField = Field-F Drawn (Unit {0})
 
+-- a schema with a description, where there is one
 abbrev pub described : Option (List ℕ) → Drawn → Drawn
 described None s = s
 described (Some text) s = record s { description = Some text }
 
+-- a field as a member of `properties`, with its description
 abbrev pub property_of : DrawnField → Member
 property_of f = member f.name (drawn_json (described f.description f.desc))
 
+-- the names of the fields that are required
 abbrev pub required_names : List DrawnField → List (List ℕ)
 required_names [] = []
 required_names (f ∷ fs) = with_required f.presence (required_names fs) where
@@ -116,6 +124,7 @@ required_names (f ∷ fs) = with_required f.presence (required_names fs) where
   with_required Nullable names = names
   with_required Skipped names = names
 
+-- a name is sorted by itself
 abbrev pub same_name : List ℕ → List ℕ
 same_name name = name
 
@@ -135,9 +144,11 @@ drawn_step (Desc-F.Struct fs deny) =
 drawn_step (Desc-F.Untagged ss) = plain (member (codes "anyOf") (Items (map drawn_json ss)) ∷ [])
 drawn_step (Desc-F.Ref name) = reference name
 
+-- a field of one level, with the schema of its type
 abbrev pub drawn_field : Field-F Drawn DrawnField → DrawnField
 drawn_field f = record { name = f.name; desc = f.desc; presence = f.presence; description = f.description }
 
+-- the schema of a descriptor, with its annotations apart
 abbrev pub drawn : Desc → Drawn
 drawn = fold-Desc Drawn DrawnField drawn_step drawn_field
 
@@ -152,6 +163,7 @@ titled name d = by_form (out-Desc d) where
   by_form (Desc-F.Ref other) = drawn d
   by_form _ = record (drawn d) { title = Some name }
 
+-- the schema of a type, with its name as the title
 abbrev pub schema_json_titled : List ℕ → Desc → Json
 schema_json_titled name d = drawn_json (titled name d)
 

@@ -38,6 +38,7 @@ abbrev pub all_met : Option Met → List Definition
 all_met None = []
 all_met (Some met) = fold-Met (List Definition) with_met met
 
+-- one level, where those before stand as a list
 abbrev pub with_path : Path-F (List Desc) → List Desc
 with_path p = elim p.before [ None ↦ p.desc.now ∷ [] | Some r ↦ p.desc.now ∷ r.now ]
 

@@ -8,10 +8,12 @@ use Rattle.typed_values.specs.Definitions.{definition}
 use Rattle.typed_values.specs.Denotes.{room}
 use Rattle.typed_values.specs.Parts.{IsPart}
 
+-- the same of each descriptor of a list
 abbrev pub EachRests : (Desc → Type 0) → List Desc → Type 0
 EachRests Next [] = ⊤
 EachRests Next (d ∷ ds) = Next d × EachRests Next ds
 
+-- one row for each descriptor: what is said of those that it leads to at one value
 abbrev pub RestsBy : List Definition → (Desc → Type 0) → Desc-F Desc Field → Type 0
 RestsBy table Next (Desc-F.Option d) = Next d
 RestsBy table Next (Desc-F.Untagged ds) = EachRests Next ds

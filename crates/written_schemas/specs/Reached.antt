@@ -23,6 +23,7 @@ abbrev pub DefinesReached : Json → List Definition → Desc → Type 0
 DefinesReached doc table desc =
     (name : List ℕ) (e : Definition) → IsReached table desc name → entry_of table name ≡ Some e → schema_of_name doc name ≡ Some (schema_json_described e.description e.desc)
 
+-- the descriptor is an untagged union itself
 abbrev pub IsUntagged : Desc → Type 0
 IsUntagged d = (ds : List Desc) × (out-Desc d ≡ Desc-F.Untagged ds)
 
