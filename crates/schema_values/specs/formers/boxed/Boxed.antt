@@ -1,89 +1,94 @@
--- How a `Boxed` holds its value, so that a type may hold boxes of itself. Its value is the one inside, so that it splits
--- as that one does; the `Box` in its field has a pointer and an allocator beside the value.
-use mathlib.Core.Path.{refl}
-use mathlib.Core.Former.{Former, this, const, pair, via}
-use base.Fml.{Fml, Lft, ftrue}
+-- How a `Boxed<T>` holds its value. A check reads this where a type refers to itself through a `Boxed`.
+-- Contracts see a `Boxed<T>` as the `T` in it. So it has that value's shape, and contains what that contains.
+use Rattle.std.specs.Prelude.{◌≡◌, List, [], ◌∷◌}
+use Rattle.std.specs.Ptr.{Ptr}
+use Rattle.std.specs.contracts.alloc.Global as global
+use Rattle.std.specs.contracts.boxed.Box as box
+use Rattle.std.specs.contracts.impls.GlobalAllocator.TheImpl as global_allocator
+use Rattle.std.specs.declared.alloc.Global.{Global}
+use Rattle.std.specs.declared.boxed.Box.{Box}
+use Rattle.schema_values.specs.contracts.boxed.Boxed as contract
+use Rattle.schema_values.specs.contracts.boxed.Boxed.TheInside as inside
+use Rattle.schema_values.specs.declared.boxed.Boxed as declared
+use Rattle.schema_values.specs.declared.boxed.Boxed.TheInside.{Inside}
+use Rattle.schema_values.specs.declared.boxed.Boxed.TheView as seen
 use base.Stored.{gnil}
-use mir.Syntax.{Ty}
-use mir.Val.{Val}
-use Prim.Native.Nat.{ℕ}
-use mathlib.Core.List.{List}
-use denote.Memory.{part_of}
-use denote.RattleType.{RattleType}
-use denote.RawPtr.{Ptr}
-use denote.Sharing.{nothing}
+use denote.Hole.Carrier.{listed}
 use denote.Hole.Fix.{over}
 use denote.HoleLaws.{Alike}
 use denote.HolePlaces.{Recodes, laid, one_value, struct_places}
+use denote.Memory.{part_of}
 use denote.Model.Placed.{view_places}
 use denote.Param.Weighed.{Weighed}
-use Rattle.std.specs.declared.alloc.Global.{Global}
-use Rattle.std.specs.declared.boxed.Box.{Box}
-use Rattle.std.specs.contracts.alloc.Global as memory
-use Rattle.std.specs.contracts.boxed.Box as std_box
-use Rattle.std.specs.contracts.impls.GlobalAllocator.TheImpl.{ghosts}
-use Rattle.schema_values.specs.declared.boxed.Boxed.TheInside.{Inside}
-use Rattle.schema_values.specs.declared.boxed.Boxed.TheView.{view, invariant}
-use Rattle.schema_values.specs.contracts.boxed.Boxed as boxed
-use Rattle.schema_values.specs.contracts.boxed.Boxed.TheInside as field
+use denote.RattleType.{RattleType}
+use mathlib.Core.Former.{Former, children, const, none_left, one_more, pair, this, via}
+use mathlib.Core.Path.{refl}
 
--- the value of a box is the value inside
+-- The value in the box, which is g's.
 abbrev pub the_former : Former {0} → Former {0}
-the_former value = value
+the_former g = g
 
--- it is as large as the value inside
+-- The largest measure in a box is the largest in its value.
 abbrev pub the_weighed : {g : Former {0}} → Weighed g → Weighed (the_former g)
-the_weighed measure = measure
+the_weighed w = w
 
--- what stands in the field beside the value
-abbrev Rest : Type 0
-Rest = Ptr × Global
+-- The struct's only field, a `Box`: where it lies and its allocator are its shape, and it contains one value.
+abbrev fields : Former {0}
+fields = via (pair (const (Ptr × Global)) this) Inside
+    (λ X r. ((r.inner.ptr, r.inner.alloc), r.inner.value))
+    (λ X p. record { inner = record { ptr = p.0.0; alloc = p.0.1; value = p.1 } })
+    (λ X r. refl) (λ X p. refl)
 
--- the field by its parts: what stands beside the value, and the value
-abbrev unpacked : (X : Type 0) → Inside X → Rest × X
-unpacked X inside = ((inside.inner.ptr, inside.inner.alloc), inside.inner.value)
+-- A `Box` in which x stands in the place of its value.
+abbrev holding : {X Y : Type 0} → Y → Box X Global → Box Y Global
+holding x b = record { ptr = b.ptr; alloc = b.alloc; value = x }
 
--- the parts, put together again
-abbrev packed : (X : Type 0) → Rest × X → Inside X
-packed X parts = record { inner = record { ptr = parts.0.0; alloc = parts.0.1; value = parts.1 } }
+-- The type of the `Box` of an R.
+abbrev box_of : RattleType → RattleType
+box_of R = box.the_row R global.the_row global_allocator.ghosts
 
--- the field, as a form of the value inside
-abbrev inside : Former {0}
-inside = via (pair (const Rest) this) Inside unpacked packed (λ X whole. refl) (λ X parts. refl)
+-- Two types of value, and a function h from the values of the first to those of the second.
+module _ (R R' : RattleType) (h : R.Denot → R'.Denot) where
+  -- Where h keeps a value's layout and what it owns and lends ...
+  module _ (a : Alike R R' h) where
+    -- ... the `Box` of the value keeps them too, since it goes by nothing else of the value. What R says of x
+    -- and what R' says of h x are equal. So `between x` goes from the one to the other, by types of one value
+    -- that are laid out, owned and lent as x is, and their boxes go from the `Box` of x to that of h x,
+    box_places : Alike (box_of R) (box_of R') (λ b. holding (h b.value) b)
+    unfolding part_of
+    box_places =
+        let between : R.Denot → 𝕀 → RattleType
+        = λ x i. one_value R (a.mir_same i) (a.own_same x i) (a.shr_same x i) gnil in
+        record {
+          mir_same = refl;
+          own_same = λ b i. (box_of (between b.value i)).own_val (holding tt b);
+          shr_same = λ b i. (box_of (between b.value i)).shr_at (holding tt b);
+        }
 
-module _ (R S : RattleType) (h : R.Denot → S.Denot) where
-  -- a box with its value changed
-  abbrev in_box : Box R.Denot Global → Box S.Denot Global
-  in_box b = record { ptr = b.ptr; alloc = b.alloc; value = h b.value }
+    -- ... and the struct with its `Box`,
+    inside_places : Alike (inside.the_row R) (inside.the_row R') (fields.map R.Denot R'.Denot h)
+    inside_places = struct_places (inside.the_type R) (inside.the_type R')
+        ((λ b. holding (h b.value) b), tt) (fields.map R.Denot R'.Denot h)
+        (λ r. refl) refl (laid _ _ _ box_places, tt)
 
-  -- a box of the one value of a type with this layout, which owns this and lends this
-  abbrev box_of : List Ty → (List Val → Fml) → (ℕ → ℕ → Lft → Fml) → RattleType
-  box_of layout owned lent = std_box.the_row (one_value R layout owned lent gnil) memory.the_row ghosts
+    -- ... and so does the value that is seen in it.
+    pub the_places : Alike (contract.the_row R) (contract.the_row R') h
+    the_places = view_places fields this seen.view (λ X Y k r. refl) (λ X r. refl)
+        R.Denot R'.Denot h
+        (declared.the_code R.Denot R.coded) (declared.the_code R'.Denot R'.coded)
+        (seen.invariant R.Denot) (seen.invariant R'.Denot)
+        (λ r x y. refl) (λ r x y. refl) (λ r x. x) (λ r x. x)
+        (over (inside.the_row R)) (over (inside.the_row R')) inside_places
 
-  -- a box without its value
-  abbrev empty_box : Box R.Denot Global → Box (Unit {0}) Global
-  empty_box b = record { ptr = b.ptr; alloc = b.alloc; value = tt }
+  -- Where h keeps a value's code, the box keeps its own, which is the same.
+  pub the_codes_placed : Recodes R R' h → Recodes (contract.the_row R) (contract.the_row R') h
+  the_codes_placed c = c
 
-  -- boxes of values that lie alike in memory lie alike
-  box_alike : Alike R S h → Alike (std_box.the_row R memory.the_row ghosts) (std_box.the_row S memory.the_row ghosts) in_box
-  unfolding part_of
-  box_alike same = record {
-    mir_same = λ at. (box_of (same.mir_same at) (λ values. ftrue) (λ base offset. nothing)).mir;
-    own_same = λ b at. (box_of (same.mir_same at) (same.own_same b.value at) (same.shr_same b.value at)).own_val (empty_box b);
-    shr_same = λ b at. (box_of (same.mir_same at) (same.own_same b.value at) (same.shr_same b.value at)).shr_at (empty_box b);
-  }
+-- The values in a box: the one.
+abbrev pub the_items : (X : Type 0) → X → List X
+the_items X x = x ∷ []
 
-  -- the same of the field
-  field_alike : Alike R S h → Alike (field.the_row R) (field.the_row S) (inside.map R.Denot S.Denot h)
-  field_alike same = struct_places (field.the_type R) (field.the_type S) (in_box, tt) _ (λ whole. refl) refl (laid _ _ in_box (box_alike same), tt)
-
-  -- the same of a `Boxed`
-  pub the_places : Alike R S h → Alike (boxed.the_row R) (boxed.the_row S) h
-  the_places same = view_places inside this view (λ X Y k whole. refl) (λ X whole. refl) R.Denot S.Denot h
-      (boxed.the_row R).coded (boxed.the_row S).coded (invariant R.Denot) (invariant S.Denot)
-      (λ whole one other. refl) (λ whole one other. refl) (λ whole holds. tt) (λ whole holds. tt)
-      (over (field.the_row R)) (over (field.the_row S)) (field_alike same)
-
-  -- its value has one code on both sides
-  pub the_codes_placed : Recodes R S h → Recodes (boxed.the_row R) (boxed.the_row S) h
-  the_codes_placed same value = same value
+-- What the former finds in a box is its value.
+pub the_items_listed : (X : Type 0) (x : X)
+    → listed (one_more none_left) (children (the_former this) X x) ≡ the_items X x
+the_items_listed X x = refl
