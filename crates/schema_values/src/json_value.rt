@@ -85,7 +85,8 @@ fn names_distinct(members: &[Member]) -> bool
     names_ascend(members) || each_name_new(members)
 }
 
-fn names_ascend(members: &[Member]) -> bool
+/// Whether each member stands before the next in the order of names. Takes no memory.
+pub fn names_ascend(members: &[Member]) -> bool
     ensures { IsTrue result ↔ AllAdjacentBelow Precedes members.now (length members.now) }
 {
     for index in 1..members.len() {

@@ -18,7 +18,7 @@ mod text;
 mod value;
 
 pub use boxed::Boxed;
-pub use json_value::{Json, Member};
+pub use json_value::{Json, Member, names_ascend};
 pub use laws::{compact_reads_back, in_order_stays, pretty_reads_back, sorted_ascends};
 pub use list::List;
 pub use read::ReadError;

@@ -19,5 +19,6 @@ pub mod Paths
 pub mod Naming
 pub mod Searching
 pub mod Fields
+pub mod Places
 pub mod Within
 pub mod First

@@ -11,7 +11,7 @@ ghost use Rattle.typed_values.specs.Rows.{AreFieldsOf, AreParts};
 use crate::bounds::is_length_within;
 use crate::desc::{Desc, Field, Presence};
 use crate::fault::{DecodeError, FaultKind, Place, Stop};
-use crate::members::{denied_name, value_named};
+use crate::members::Members;
 use crate::scalars::{decode_bool, decode_int, decode_text};
 use crate::scope::Scope;
 use crate::table::DescTable;
@@ -130,8 +130,9 @@ impl Scope<'_> {
         ensures { Tells result
             (told_struct self.now.table.now self.now.whole.now fields.now deny_unknown members.now) }
     {
-        let tree = self.decode_fields(alloc, fields, members)?;
-        match denied_name(deny_unknown, fields, members) {
+        let members = Members::new(members);
+        let tree = self.decode_fields(alloc, fields, &members)?;
+        match members.denied_name(alloc, deny_unknown, fields)? {
             Some(name) => {
                 let unknown = FaultKind::Unknown(name.copy(alloc)?);
                 Err(Stop::refused(alloc, unknown))
@@ -146,11 +147,11 @@ impl Scope<'_> {
         &self,
         alloc: Global,
         fields: &[Field],
-        members: &[Member],
+        members: &Members,
     ) -> Result<Tree, Stop>
         requires { AreFieldsOf self.now.table.now self.now.whole.now fields.now }
         ensures { Tells result (as_tree Tree.Fields
-            (told_fields self.now.table.now self.now.whole.now members.now fields.now)) }
+            (told_fields self.now.table.now self.now.whole.now members.now.items.now fields.now)) }
     {
         let mut trees = List::new(alloc);
         for field in fields {
@@ -161,11 +162,12 @@ impl Scope<'_> {
 
     /// Decodes a field by its presence.
     #[cycle(decode)]
-    fn decode_field(&self, alloc: Global, field: &Field, members: &[Member]) -> Result<Tree, Stop>
+    fn decode_field(&self, alloc: Global, field: &Field, members: &Members) -> Result<Tree, Stop>
         requires { IsPart self.now.table.now self.now.whole.now field.now.desc }
-        ensures { Tells result (told_field self.now.table.now self.now.whole.now members.now field.now) }
+        ensures { Tells result
+            (told_field self.now.table.now self.now.whole.now members.now.items.now field.now) }
     {
-        let Some(json) = value_named(members, &field.name) else {
+        let Some(json) = members.value_named(&field.name) else {
             return self.absent(alloc, field);
         };
         let tree = match self.decode_at(alloc, &field.desc, json) {

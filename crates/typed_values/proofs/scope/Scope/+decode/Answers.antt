@@ -102,7 +102,7 @@ decode_at-unreachable-requires t c = no_dangling _ _ c.args.desc.now c.in-Ref.na
 
 pub decode_field-decode_at-requires : goal.decode_field-decode_at-requires
 decode_field-decode_at-requires t c =
-    let less = at-lt-alone c.args.self.now.table.now c.args.self.now.whole.now (size-Json c.in-Some.json.now) (most size-Member c.args.members.now) c.args.field.now.desc (value_smaller c.args.members.now c.args.field.now.name c.in-Some.json.now (sym c.in-Some.ensures)) in
+    let less = at-lt-alone c.args.self.now.table.now c.args.self.now.whole.now (size-Json c.in-Some.json.now) (most size-Member c.args.members.now.items.now) c.args.field.now.desc (value_smaller c.args.members.now.items.now c.args.field.now.name c.in-Some.json.now (sym c.in-Some.ensures)) in
     (omega (arith, c.decreases, less), c.requires)
 
 pub decode_fields-decode_field-requires : goal.decode_fields-decode_field-requires
@@ -112,21 +112,21 @@ decode_fields-decode_field-requires t c =
 pub decode_fields-returns-in_err-decode_field : goal.decode_fields-returns-in_err-decode_field
 decode_fields-returns-in_err-decode_field t c =
     let fs = c.args.fields.now in
-    let f : ℕ → Field → Told = λ i x. told_field c.args.self.now.table.now c.args.self.now.whole.now c.args.members.now x in
+    let f : ℕ → Field → Told = λ i x. told_field c.args.self.now.table.now c.args.self.now.whole.now c.args.members.now.items.now x in
     let p = err_from_is_err_and c.from_residual.result c.from_residual.ensures.1 in
     rw (p.1, p.2) (all_err f (all_told f 0 fs) fs c.loop-field.field-index c.loop-field.trees c.loop-field.invariant (as_tree Parts) (λ k. refl) c.field-item.result c.in_err-decode_field.field-0.0 (omega arith) c.field-item.is c.in_err-decode_field.ensures)
 
 pub decode_fields-loop-field-preserved : goal.decode_fields-loop-field-preserved
 decode_fields-loop-field-preserved t c =
     let fs = c.args.fields.now in
-    let f : ℕ → Field → Told = λ i x. told_field c.args.self.now.table.now c.args.self.now.whole.now c.args.members.now x in
+    let f : ℕ → Field → Told = λ i x. told_field c.args.self.now.table.now c.args.self.now.whole.now c.args.members.now.items.now x in
     all_step f (all_told f 0 fs) fs c.loop-field.field-index c.loop-field.trees c.loop-field.invariant c.field-item.result _ (omega arith) c.field-item.is c.in_ok-decode_field.ensures
     ∙ ap (λ (ts : List Tree). after ts (all_told f (c.loop-field.field-index + 1) (drop (c.loop-field.field-index + 1) fs))) (sym c.in_ok-push.ensures.ok)
 
 pub decode_fields-returns : goal.decode_fields-returns
 decode_fields-returns t c =
     let fs = c.args.fields.now in
-    let f : ℕ → Field → Told = λ i x. told_field c.args.self.now.table.now c.args.self.now.whole.now c.args.members.now x in
+    let f : ℕ → Field → Told = λ i x. told_field c.args.self.now.table.now c.args.self.now.whole.now c.args.members.now.items.now x in
     ap (as_tree Parts) (all_end f (all_told f 0 fs) fs c.loop-field.field-index c.loop-field.trees c.loop-field.invariant (omega arith))
 
 pub decode_items-decode_at-requires : goal.decode_items-decode_at-requires

@@ -21,15 +21,15 @@ abbrev pub decreases-decode_struct : goal.decreases-decode_struct
 decreases-decode_struct l = suc (suc (size_alone l.self.now.table.now l.self.now.whole.now (most size-Member l.members.now)))
 
 abbrev pub decreases-decode_fields : goal.decreases-decode_fields
-decreases-decode_fields l = suc (size_alone l.self.now.table.now l.self.now.whole.now (most size-Member l.members.now))
+decreases-decode_fields l = suc (size_alone l.self.now.table.now l.self.now.whole.now (most size-Member l.members.now.items.now))
 
 abbrev pub decreases-decode_field : goal.decreases-decode_field
-decreases-decode_field l = size_alone l.self.now.table.now l.self.now.whole.now (most size-Member l.members.now)
+decreases-decode_field l = size_alone l.self.now.table.now l.self.now.whole.now (most size-Member l.members.now.items.now)
 
 abbrev pub invariant-decode_fields-loop-field : goal.invariant-decode_fields-loop-field
 invariant-decode_fields-loop-field l =
-    told_fields l.self.table.now l.self.whole.now l.members l.fields
-    ≡ after l.trees (all_told (λ i f. told_field l.self.table.now l.self.whole.now l.members f) l.field-index (drop l.field-index l.fields))
+    told_fields l.self.table.now l.self.whole.now l.members.items.now l.fields
+    ≡ after l.trees (all_told (λ i f. told_field l.self.table.now l.self.whole.now l.members.items.now f) l.field-index (drop l.field-index l.fields))
 
 abbrev pub invariant-decode_items-loop-i : goal.invariant-decode_items-loop-i
 invariant-decode_items-loop-i l =
