@@ -16,13 +16,13 @@ use Rattle.schema_values.specs.Member.{name_of}
 use Rattle.schema_values.specs.SortedMembers.{placed, in_order_after, sorted_members, sorted_items, sorted_values}
 use Rattle.schema_values.proofs.Rows.{items_row, items_of_row, members_row, members_of_row, names-items}
 use Rattle.schema_values.proofs.DistinctLemmas.{Below, below_all}
-use Rattle.schema_values.proofs.Utf8Order.{reversed, cmp-encodes}
+use Rattle.schema_values.proofs.Utf8Order.{reversed, cmp-chars}
 use Rattle.schema_values.specs.AscendingMembers.{HasAscendingValue, HasAscendingMembers}
 use Rattle.schema_values.proofs.ReadingLemmas.{entry_name}
 use Rattle.serde_json.proofs.Views.{Entry}
 use Rattle.std.specs.Map.{keys_of}
 use Rattle.std.proofs.Common.{string_bytes, string_cmp}
-use Rattle.std.proofs.lemmas.Str.{encodes-chars, IsUtf8-string_bytes}
+use Rattle.std.proofs.lemmas.Str.{IsUtf8-string_bytes}
 
 -- ---- members that go in one after another
 
@@ -145,9 +145,7 @@ IsAscending-Object xs h =
 -- ---- the keys of a map
 
 below_name : (e x : Entry) → string_cmp e.0 x.0 ≡ Less → slice_cmp nat_cmp (entry_name e) (entry_name x) ≡ Less
-below_name e x h =
-    sym (cmp-encodes (entry_name e) (entry_name x))
-    ∙ ap₂ (slice_cmp nat_cmp) (encodes-chars (string_bytes e.0) (IsUtf8-string_bytes e.0)) (encodes-chars (string_bytes x.0) (IsUtf8-string_bytes x.0)) ∙ h
+below_name e x h = cmp-chars (string_bytes e.0) (string_bytes x.0) (IsUtf8-string_bytes e.0) (IsUtf8-string_bytes x.0) ∙ h
 
 below_names : (e : Entry) (es : List Entry) → AllByRecursion (λ k. string_cmp e.0 k ≡ Less) (keys_of es) → AllByRecursion (λ k. slice_cmp nat_cmp (entry_name e) k ≡ Less) (map entry_name es)
 below_names e [] h = tt

@@ -3,6 +3,7 @@ pub mod TextLemmas
 pub mod Rows
 pub mod SoundLemmas
 pub mod PrintLemmas
+pub mod Options
 pub mod Collected
 pub mod DistinctLemmas
 pub mod ReadingLemmas
@@ -17,3 +18,7 @@ pub mod ScalarLemmas
 pub mod ReadsBack
 pub mod AscendingLemmas
 pub mod DepthLemmas
+pub mod ReadTexts
+pub mod ReadTokens
+pub mod ReadNumbers
+pub mod SoundReadings

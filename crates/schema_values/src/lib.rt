@@ -19,7 +19,9 @@ mod value;
 
 pub use boxed::Boxed;
 pub use json_value::{Json, Member, names_ascend};
-pub use laws::{compact_reads_back, in_order_stays, pretty_reads_back, sorted_ascends};
+pub use laws::{
+    compact_reads_back, in_order_stays, pretty_reads_back, reads_sound, sorted_ascends,
+};
 pub use list::List;
 pub use read::ReadError;
 pub use schema::{

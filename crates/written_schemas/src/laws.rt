@@ -38,7 +38,7 @@ pub fn bodies_agree()
     ensures { (document : Document) (path method name : List ℕ) (table : List Entry) (desc : Descriptor)
         → TakesJson document path method name desc → IsWritten (open_api_json document) table desc
         → IsCounted (open_api_json document) (schema_json_titled name desc)
-        → (request : Request) (json : JsonValue) → Reads request.body json → IsSound json
+        → (request : Request) (json : JsonValue) → Reads request.body json
         → Admits (open_api_json document) path method request
         ↔ ((tree : Value) × JsonDenotes table desc json tree) }
 {}
