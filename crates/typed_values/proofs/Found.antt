@@ -58,7 +58,7 @@ entry_found (e ∷ es) name y f =
     (λ g. let (x, i) = entry_found es name y g in (x, record { inside = contains_later e es x i.inside; named = i.named; is = i.is }))
     f
 
-all_names : (n : List ℕ) (es : List Definition) (e : Definition) → AllByRecursion (λ other. n ≢ other) (map definition_name es) → Contains es e → n ≢ e.name
+pub all_names : (n : List ℕ) (es : List Definition) (e : Definition) → AllByRecursion (λ other. n ≢ other) (map definition_name es) → Contains es e → n ≢ e.name
 all_names n [] e all c = absurd (omega (arith, c.1))
 all_names n (x ∷ es) e all c = elim (contains_cases x es e c) [ inl q ↦ λ h. all.0 (cc) | inr k ↦ all_names n es e all.1 k ]
 

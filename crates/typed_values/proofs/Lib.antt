@@ -20,5 +20,6 @@ pub mod Naming
 pub mod Searching
 pub mod Fields
 pub mod Places
+pub mod Indexing
 pub mod Within
 pub mod First

@@ -39,10 +39,10 @@ same_text (x ∷ xs) (y ∷ ys) e =
     let parts = both_equal (nat_cmp x y) (slice_cmp nat_cmp xs ys) e in
     ap₂ (λ (z : ℕ) (zs : List ℕ). z ∷ zs) (same_number x y parts.0) (same_text xs ys parts.1)
 
-apart : (k l : List ℕ) → slice_cmp nat_cmp k l ≢ Equal → k ≢ l
+pub apart : (k l : List ℕ) → slice_cmp nat_cmp k l ≢ Equal → k ≢ l
 apart k l other e = other (ap (λ (n : List ℕ). slice_cmp nat_cmp n l) e ∙ tied_itself nat_list_cmp_total l)
 
-not_below : (k l : List ℕ) → slice_cmp nat_cmp k l ≡ Less → is_lt (slice_cmp nat_cmp l k) ≡ false
+pub not_below : (k l : List ℕ) → slice_cmp nat_cmp k l ≡ Less → is_lt (slice_cmp nat_cmp l k) ≡ false
 not_below k l e = ap is_lt (nat_list_cmp_total.antisymm l k ∙ ap ordering_reverse e)
 
 -- what a search by halves asks

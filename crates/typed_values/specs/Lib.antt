@@ -1,4 +1,5 @@
 pub mod Definitions
+pub mod Index
 pub mod Adding
 pub mod Bounds
 pub mod Faults

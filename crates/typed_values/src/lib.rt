@@ -13,6 +13,7 @@ mod fault;
 mod fault_text;
 mod fitting;
 mod flaws;
+mod index;
 mod members;
 mod misfit;
 mod order;

@@ -8,6 +8,7 @@ ghost use Rattle.typed_values.specs.Adding.{Adds, IsRefused};
 
 use crate::desc::{Desc, copy_text};
 use crate::equal::same_text;
+use crate::index::search_places;
 use schema_values::{List, Text};
 use std::alloc::{AllocError, Global};
 use std::marker::Model;
@@ -24,6 +25,8 @@ pub struct Definition {
 #[derive(Drop)]
 pub struct DescTable {
     definitions: List<Definition>,
+    /// The places of the definitions in the order of their names.
+    places: Vec<usize>,
     alloc: Global,
 }
 
@@ -55,10 +58,9 @@ impl From<AllocError> for AddError {
 }
 
 impl Model for DescTable {
-    ghost use Rattle.std.specs.Prelude.{List, map};
+    ghost use Rattle.std.specs.Prelude.{List};
     ghost use Rattle.std.specs.Coded.{coded_list};
-    ghost use Rattle.schema_values.specs.Sound.{AreDistinct};
-    ghost use Rattle.typed_values.specs.Definitions.{definition_name};
+    ghost use Rattle.typed_values.specs.Index.{IsTable};
     ghost use Rattle.typed_values.specs.declared.table.Definition.{Definition};
     ghost use Rattle.typed_values.specs.contracts.table.Definition as stored;
 
@@ -68,7 +70,7 @@ impl Model for DescTable {
 
     ghost view = { λ table. table.definitions };
 
-    ghost invariant = { λ table. AreDistinct (map definition_name table.definitions) };
+    ghost invariant = { λ table. IsTable table.definitions table.places.items };
 }
 
 impl Definition {
@@ -97,6 +99,7 @@ impl DescTable {
     {
         DescTable {
             definitions: List::new(alloc),
+            places: Vec::new(alloc),
             alloc,
         }
     }
@@ -155,12 +158,10 @@ impl DescTable {
     fn entry_named(&self, name: &str) -> Option<&Definition>
         ensures { option_copied result ≡ entry_of self.now (chars name.now) }
     {
-        for entry in self.definitions() {
-            if entry.name.equals_str(name) {
-                return Some(entry);
-            }
+        match search_places(self.definitions.as_slice(), self.places.as_slice(), name) {
+            Ok(entry) => Some(entry),
+            Err(_) => None,
         }
-        None
     }
 
     /// Adds a descriptor by a name, with no description.
@@ -190,22 +191,27 @@ impl DescTable {
             (definition_with (chars name.now) description desc)) }
         ensures err { OnErr result (self.new ≡ self.old) }
     {
-        match self.entry_named(name) {
-            Some(entry) => {
+        match search_places(self.definitions.as_slice(), self.places.as_slice(), name) {
+            Ok(entry) => {
                 if entry.says(&description, &desc) {
                     Ok(Added::Same)
                 } else {
                     Err(AddError::Clash(Text::from_str(self.alloc, name)?))
                 }
             }
-            None => {
+            Err(gap) => {
                 let name = Text::from_str(self.alloc, name)?;
+                let place = self.definitions.len();
+                self.places.reserve(1)?;
                 self.definitions.push(Definition {
                     name,
                     description,
                     desc,
                 })?;
-                Ok(Added::New)
+                match self.places.insert(gap, place) {
+                    Ok(()) => Ok(Added::New),
+                    Err(_) => unreachable!(),
+                }
             }
         }
     }
@@ -218,6 +224,10 @@ impl DescTable {
         for definition in self.definitions() {
             definitions.push(definition.copy(alloc)?)?;
         }
-        Ok(DescTable { definitions, alloc })
+        Ok(DescTable {
+            definitions,
+            places: Vec::from_slice(alloc, self.places.as_slice())?,
+            alloc,
+        })
     }
 }
