@@ -8,4 +8,5 @@ pub mod RoomLemmas
 pub mod SchemaLevels
 pub mod Stands
 pub mod Steps
+pub mod StepsLeft
 pub mod Words

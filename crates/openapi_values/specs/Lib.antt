@@ -5,6 +5,8 @@ pub mod Lookup
 pub mod Rows
 pub mod Room
 pub mod ValuesOfMembers
+pub mod Steps
+pub mod Admitter
 pub mod JsonAdmits
 pub mod Smaller
 pub mod IfTrue

@@ -1,5 +1,5 @@
--- The steps that are left at each value: as many as there are JSON values to go through, and one more.
-use Rattle.std.specs.Prelude.{ℕ, suc, ◌+◌, sum, min}
+-- The steps at each value: as many as there are JSON values to go through, and one more.
+use Rattle.std.specs.Prelude.{ℕ, suc, ◌+◌, sum}
 use Rattle.schema_values.specs.declared.json_value.Json.{Json, fold-Json}
 use Rattle.schema_values.specs.declared.json_value.Json.TheOpen.{Json-F, Member-F}
 
@@ -17,10 +17,6 @@ values_of_member m = m.value
 unfoldable pub values : Json → ℕ
 values = fold-Json ℕ ℕ values_step values_of_member
 
--- a count, or 2^64-1 where that is less
-abbrev pub capped : ℕ → ℕ
-capped n = min n 18446744073709551615
-
 -- the steps at each value, for a document and a schema
-unfoldable pub room : Json → Json → ℕ
-room doc schema = capped (suc (values doc + values schema))
+abbrev pub room : Json → Json → ℕ
+room doc schema = suc (values doc + values schema)

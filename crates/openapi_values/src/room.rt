@@ -1,47 +1,66 @@
-ghost use Rattle.std.specs.Prelude.{◌≡◌, sum, map};
-ghost use Rattle.openapi_values.specs.Room.{capped, values, room};
+// The steps left at one value: one for each JSON value still to be passed. The values themselves stand for them, so that
+// no count can overflow, and their list stands in the frames of the recursion, so that it takes no memory.
+ghost use Rattle.std.specs.Prelude.{◌≡◌, ◌+◌, suc, sum, map};
+ghost use Rattle.openapi_values.specs.Room.{values};
+ghost use Rattle.openapi_values.specs.Steps.{left};
 ghost use Rattle.openapi_values.specs.ValuesOfMembers.{member_values};
 
 use schema_values::{Json, Member};
 
-/// The steps at each value.
-pub fn room_of(doc: &Json, schema: &Json) -> u64
-    ensures { result ≡ room doc.now schema.now }
-{
-    values_in(doc)
-        .saturating_add(values_in(schema))
-        .saturating_add(1)
+/// The steps that are left.
+#[derive(Clone, Copy)]
+pub(crate) enum Steps<'a> {
+    /// None.
+    End,
+    /// Those of a first item and of the later ones, and those after them.
+    Items {
+        first: &'a Json,
+        later: &'a [Json],
+        after: &'a Steps<'a>,
+    },
+    /// Those of a first member and of the later ones, and those after them.
+    Members {
+        first: &'a Member,
+        later: &'a [Member],
+        after: &'a Steps<'a>,
+    },
 }
 
-#[cycle(values)]
-fn values_in(json: &Json) -> u64
-    ensures { result ≡ capped (values json.now) }
+/// A step for each value in items, and those after.
+pub(crate) fn of_items<'a>(items: &'a [Json], after: &'a Steps<'a>) -> Steps<'a>
+    ensures { left result ≡ sum (map values items.now) + left after.now }
 {
-    match json {
-        Json::List(items) => values_in_items(items.as_slice()).saturating_add(1),
-        Json::Object(members) => values_in_members(members.as_slice()).saturating_add(1),
-        _ => 1,
+    match items.split_first() {
+        Some((first, later)) => Steps::Items {
+            first,
+            later,
+            after,
+        },
+        None => *after,
     }
 }
 
-#[cycle(values)]
-fn values_in_items(items: &[Json]) -> u64
-    ensures { result ≡ capped (sum (map values items.now)) }
+/// A step for each value in members, and those after.
+pub(crate) fn of_members<'a>(members: &'a [Member], after: &'a Steps<'a>) -> Steps<'a>
+    ensures { left result ≡ sum (map member_values members.now) + left after.now }
 {
-    let mut count: u64 = 0;
-    for item in items {
-        count = count.saturating_add(values_in(item));
+    match members.split_first() {
+        Some((first, later)) => Steps::Members {
+            first,
+            later,
+            after,
+        },
+        None => *after,
     }
-    count
 }
 
-#[cycle(values)]
-fn values_in_members(members: &[Member]) -> u64
-    ensures { result ≡ capped (sum (map member_values members.now)) }
+/// What is left once a value is passed: a step for each value inside it, and those after.
+pub(crate) fn inside<'a>(value: &'a Json, after: &'a Steps<'a>) -> Steps<'a>
+    ensures { suc (left result) ≡ values value.now + left after.now }
 {
-    let mut count: u64 = 0;
-    for member in members {
-        count = count.saturating_add(values_in(&member.value));
+    match value {
+        Json::List(items) => of_items(items.as_slice(), after),
+        Json::Object(members) => of_members(members.as_slice(), after),
+        _ => *after,
     }
-    count
 }

@@ -1,0 +1,5 @@
+use Rattle.openapi_values.proofs.StepsLeft.{left_members}
+use Rattle.openapi_values.proofs.room.of_members.Goals as goal
+
+pub returns-in-Some : goal.returns-in-Some
+returns-in-Some c = rw c.in-Some.ensures.cases.0 (left_members c.in-Some.first c.in-Some.later c.args.after)
