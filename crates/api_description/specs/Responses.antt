@@ -6,12 +6,12 @@ use Rattle.http_header.specs.FieldValue.{FieldValue, plain_value}
 use Rattle.schema_values.specs.declared.json_value.Json.{Json, Text as Words, Object}
 use Rattle.schema_values.specs.declared.json_value.Member.{Member}
 use Rattle.schema_values.specs.Pretty.{pretty_of}
+use Rattle.schema_values.specs.Member.{member}
 use Rattle.typed_values.specs.declared.desc.Desc.{Desc, Text as TextDesc, Struct}
 use Rattle.typed_values.specs.declared.desc.Field.{Field}
 use Rattle.typed_values.specs.declared.desc.Presence.{Presence}
 use Rattle.typed_values.specs.declared.desc.Presence.TheVariants.{Required, Skipped}
 use Rattle.typed_values.specs.declared.table.Definition.{Definition}
-use Rattle.typed_values.specs.Encoding.{member}
 use Rattle.api_description.specs.declared.http_status.error.HttpError.{HttpError}
 use Rattle.api_description.specs.declared.http_status.error.HttpErrorResponseBody.{HttpErrorResponseBody}
 use Rattle.api_description.specs.declared.http_status.error.Response.{Response}

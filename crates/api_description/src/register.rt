@@ -1,6 +1,5 @@
 //! When an endpoint may be registered.
 ghost use Rattle.std.specs.Prelude.{◌≡◌, ◌↔◌, ◌⊎◌, [], ◌∷◌, codes, IsTrue, IfOk, Some, None, MatchOption};
-ghost use Rattle.std.specs.Prelude.{option_map};
 ghost use Rattle.std.specs.Str.{chars};
 ghost use Rattle.typed_values.specs.Definitions.{entry_of};
 ghost use Rattle.typed_values.specs.declared.desc.Desc.{Ref};
@@ -77,35 +76,6 @@ impl ApiDescriptionRegisterError {
     }
 }
 
-fn definition_named<'a>(table: &'a DescTable, name: &Text) -> Option<&'a Definition>
-    ensures { option_map (λ definition. definition.now) result ≡ entry_of table.now name.now }
-{
-    for definition in table.definitions() {
-        if definition.name.equals(name) {
-            return Some(definition);
-        }
-    }
-    None
-}
-
-fn is_same_text(one: &Option<Text>, other: &Option<Text>) -> bool
-    ensures { IsTrue result ↔ (one.now ≡ other.now) }
-{
-    match (one, other) {
-        (Some(one), Some(other)) => one.equals(other),
-        (None, None) => true,
-        _ => false,
-    }
-}
-
-fn is_same_definition(one: &Definition, other: &Definition) -> bool
-    ensures { IsTrue result ↔ (one.now ≡ other.now) }
-{
-    one.name.equals(&other.name)
-        && is_same_text(&one.description, &other.description)
-        && one.desc.equals(&other.desc)
-}
-
 fn has_http_errors(alloc: Global, shape: &HandlerShape) -> Result<bool, AllocError>
     ensures { IfOk result (λ holds. IsTrue holds ↔ HasHttpErrors shape.now) }
 {
@@ -116,8 +86,8 @@ fn has_http_errors(alloc: Global, shape: &HandlerShape) -> Result<bool, AllocErr
 fn defines(table: &DescTable, expected: &Definition) -> bool
     ensures { IsTrue result ↔ (entry_of table.now expected.now.name ≡ Some expected.now) }
 {
-    match definition_named(table, &expected.name) {
-        Some(definition) => is_same_definition(definition, expected),
+    match table.entry_named(expected.name.as_str()) {
+        Some(definition) => definition.equals(expected),
         None => false,
     }
 }

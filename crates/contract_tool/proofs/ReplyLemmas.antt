@@ -10,7 +10,7 @@ use Rattle.http_header.specs.FieldValue.{FieldValue}
 use Rattle.schema_values.proofs.TextLemmas.{IsAscii-from_test}
 use Rattle.schema_values.specs.declared.json_value.Json.{Json, Int as Number, Text as Words, List as Items, Object}
 use Rattle.schema_values.specs.declared.json_value.Member.{Member}
-use Rattle.typed_values.specs.Encoding.{member}
+use Rattle.schema_values.specs.Member.{member}
 use Rattle.api_description.specs.declared.http_status.error.Response.{Response}
 use Rattle.contract_tool.specs.ReplyLines.{ArePairsOf, IsBodyMember, IsPairOf, IsShownAs, TellsResponse, outcome_member}
 

@@ -8,7 +8,7 @@ use Rattle.http_header.specs.FieldValue.{FieldValue}
 use Rattle.schema_values.specs.declared.json_value.Json.{Json, Int as Number, Text as Words, List as Items, Object}
 use Rattle.schema_values.specs.declared.json_value.Member.{Member}
 use Rattle.schema_values.specs.Print.{compact_of}
-use Rattle.typed_values.specs.Encoding.{member}
+use Rattle.schema_values.specs.Member.{member}
 use Rattle.api_description.specs.declared.exchange.Exchange.{Exchange}
 use Rattle.api_description.specs.declared.exchange.Exchange.TheVariants.{Handled, Refused}
 use Rattle.api_description.specs.declared.exchange.ExchangeError.{ExchangeError}

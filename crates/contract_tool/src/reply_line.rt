@@ -4,7 +4,7 @@ ghost use Rattle.hex.specs.Hex.{encode_lower};
 ghost use Rattle.schema_values.specs.Ascii.{all_ascii};
 ghost use Rattle.schema_values.specs.declared.json_value.Json.{Json as JsonValue, Int as Number};
 ghost use Rattle.schema_values.specs.declared.json_value.Json.{Text as Words};
-ghost use Rattle.typed_values.specs.Encoding.{member};
+ghost use Rattle.schema_values.specs.Member.{member};
 ghost use Rattle.contract_tool.specs.ReplyLines.{ArePairsOf, IsBodyMember, IsPairOf, IsShownAs, Tells};
 ghost use Rattle.contract_tool.specs.ReplyLines.{TellsResponse, line_of, outcome_alone};
 

@@ -2,14 +2,11 @@
 use Rattle.std.specs.Prelude.{ℕ, List, [], ◌∷◌, map, Option, Some, None, codes}
 use Rattle.schema_values.specs.declared.json_value.Json.{Json, Text, Object}
 use Rattle.schema_values.specs.declared.json_value.Member.{Member}
+use Rattle.schema_values.specs.Member.{member}
 
 -- a name, and its value if it has one
 abbrev pub Entry : Type 0
 Entry = List ℕ × Option Json
-
--- a member by its name and value
-abbrev pub member : List ℕ → Json → Member
-member name value = record { name = name; value = value }
 
 -- a member that is left out where it has no value
 abbrev pub present : List ℕ → Option Json → List Member → List Member

@@ -5,6 +5,7 @@ use Rattle.std.proofs.Math.ListN.{drop_of_length-le}
 use Rattle.std.specs.Prelude.{slice_get}
 use Rattle.schema_values.specs.declared.json_value.Json.{Json}
 use Rattle.schema_values.specs.declared.json_value.Member.{Member}
+use Rattle.schema_values.specs.Member.{member}
 use Rattle.typed_values.specs.declared.desc.Desc.{Desc, out-Desc}
 use Rattle.typed_values.specs.declared.desc.Desc.TheOpen.{Desc-F}
 use Rattle.typed_values.specs.declared.desc.Desc.TheVariants as desc
@@ -15,7 +16,7 @@ use Rattle.typed_values.specs.declared.tree.Tree.TheVariants.{outs-Variant}
 use Rattle.typed_values.specs.declared.table.Definition.{Definition}
 use Rattle.typed_values.specs.Definitions.{definition}
 use Rattle.typed_values.specs.Denotes.{room}
-use Rattle.typed_values.specs.Encoding.{member, is_left_out, unless, members_written, scalar_written, option_written, items_written, parts_written, choice_written, written_if_there, written_by, written_under}
+use Rattle.typed_values.specs.Encoding.{is_left_out, unless, members_written, scalar_written, option_written, items_written, parts_written, choice_written, written_if_there, written_by, written_under}
 use Rattle.typed_values.specs.Fits.{field_desc}
 use Rattle.typed_values.specs.Sound.{Rests}
 use Rattle.typed_values.proofs.EncodeSteps.{written_row, is_none_tree}

@@ -1,6 +1,7 @@
 -- On a sound table the steps are never spent: each row of what is written holds with no steps in it.
 use Rattle.std.proofs.Common.{rules, ◌≡◌, ℕ, zero, suc, ◌+◌, Bool, List, [], ◌∷◌, map, Option, Some, None, refl, sym, ◌∙◌, ap, MatchOption}
 use Rattle.schema_values.specs.declared.json_value.Json.{Json, List as Items, Object}
+use Rattle.schema_values.specs.Member.{member}
 use Rattle.typed_values.specs.declared.desc.Desc.{Desc, Option as OptionOf, out-Desc}
 use Rattle.typed_values.specs.declared.desc.Desc.TheOpen.{Desc-F}
 use Rattle.typed_values.specs.declared.desc.Desc.TheVariants.{outs-Option}
@@ -11,7 +12,7 @@ use Rattle.typed_values.specs.declared.tree.Tree.TheFolds.{fold_out-Tree, map-Tr
 use Rattle.typed_values.specs.declared.table.Definition.{Definition}
 use Rattle.typed_values.specs.Definitions.{definition}
 use Rattle.typed_values.specs.Denotes.{room, nodes, nodes_of_table}
-use Rattle.typed_values.specs.Encoding.{Writing, member, is_left_out, unless, members_written, written_if_there, scalar_written, option_written, items_written, parts_written, choice_written, written_by, is_none_written, written_at, is_none_level, writing_step, writing, written_under}
+use Rattle.typed_values.specs.Encoding.{Writing, is_left_out, unless, members_written, written_if_there, scalar_written, option_written, items_written, parts_written, choice_written, written_by, is_none_written, written_at, is_none_level, writing_step, writing, written_under}
 use Rattle.typed_values.specs.Fits.{field_desc}
 use Rattle.typed_values.specs.Sound.{RestsBy, Rests}
 use Rattle.typed_values.proofs.Rows.{two_maps}

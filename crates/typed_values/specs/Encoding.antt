@@ -2,6 +2,7 @@
 use Rattle.std.specs.Prelude.{ℕ, zero, suc, Bool, true, false, List, [], ◌∷◌, map, Option, Some, None}
 use Rattle.schema_values.specs.declared.json_value.Json.{Json, Null, Bool as Truth, Int as Number, Text as Words, List as Items, Object}
 use Rattle.schema_values.specs.declared.json_value.Member.{Member}
+use Rattle.schema_values.specs.Member.{member}
 use Rattle.typed_values.specs.declared.desc.Desc.{Desc, out-Desc}
 use Rattle.typed_values.specs.declared.desc.Desc.TheOpen.{Desc-F}
 use Rattle.typed_values.specs.declared.desc.Field.{Field}
@@ -19,10 +20,6 @@ use Rattle.typed_values.specs.Fits.{field_desc, alternative_at}
 pub record Writing : Type 0 where
   pub is_none : Bool
   pub json : ℕ → Desc → Json
-
--- a member by its name and value
-abbrev pub member : List ℕ → Json → Member
-member name value = record { name = name; value = value }
 
 -- a field that may be skipped is left out where it is `None`
 abbrev pub is_left_out : Presence → Bool → Bool

@@ -2,7 +2,7 @@
 use Rattle.std.specs.Prelude.{ℕ, ℤ, pos, Bool, true, false, List, [], ◌∷◌, ◌++◌, map, Option, Some, None, codes}
 use Rattle.schema_values.specs.declared.json_value.Json.{Json, Bool as Truth, Int as Number, Text as Words, List as Items, Object}
 use Rattle.schema_values.specs.declared.json_value.Member.{Member}
-use Rattle.schema_values.specs.Member.{name_of}
+use Rattle.schema_values.specs.Member.{name_of, member}
 use Rattle.typed_values.specs.declared.desc.Desc.{Desc, out-Desc}
 use Rattle.typed_values.specs.declared.desc.Desc.TheOpen.{Desc-F, Field-F}
 use Rattle.typed_values.specs.declared.desc.Desc.TheFolds.{fold-Desc}
@@ -11,7 +11,6 @@ use Rattle.typed_values.specs.declared.desc.IntKind.{IntKind}
 use Rattle.typed_values.specs.declared.desc.IntKind.TheVariants.{I8, I16, I32, I64, U8, U16, U32, U64}
 use Rattle.typed_values.specs.declared.desc.Presence.{Presence}
 use Rattle.typed_values.specs.declared.desc.Presence.TheVariants.{Required, Nullable, Skipped}
-use Rattle.typed_values.specs.Encoding.{member}
 use Rattle.typed_values.specs.Order.{sorted_by}
 
 -- a schema on the way: its annotations, and the members of its kind, which of a reference are `$ref` alone

@@ -85,6 +85,13 @@ impl Definition {
         })
     }
 
+    /// Whether two definitions have the same name, description and descriptor.
+    pub fn equals(&self, other: &Definition) -> bool
+        ensures { IsTrue result ↔ (self.now ≡ other.now) }
+    {
+        self.name.equals(&other.name) && self.says(&other.description, &other.desc)
+    }
+
     fn says(&self, description: &Option<Text>, desc: &Desc) -> bool
         ensures { IsTrue result ↔ (self.now ≡ definition_with self.now.name description.now desc.now) }
     {
@@ -155,7 +162,8 @@ impl DescTable {
         self.get(name.as_str())
     }
 
-    fn entry_named(&self, name: &str) -> Option<&Definition>
+    /// The definition of a name.
+    pub fn entry_named(&self, name: &str) -> Option<&Definition>
         ensures { option_copied result ≡ entry_of self.now (chars name.now) }
     {
         match search_places(self.definitions.as_slice(), self.places.as_slice(), name) {

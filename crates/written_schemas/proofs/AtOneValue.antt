@@ -7,7 +7,7 @@ use Rattle.schema_values.specs.declared.json_value.Json.{Json, out-Json, Bool as
 use Rattle.schema_values.specs.declared.json_value.Json.TheOpen.{Json-F}
 use Rattle.schema_values.specs.declared.json_value.Json.TheVariants as json
 use Rattle.schema_values.specs.declared.json_value.Member.{Member}
-use Rattle.schema_values.specs.Member.{name_of}
+use Rattle.schema_values.specs.Member.{name_of, member}
 use Rattle.schema_values.specs.Sound.{AreDistinct}
 use Rattle.openapi_values.specs.Levels.{Level, is_null, as_object}
 use Rattle.openapi_values.specs.Lookup.{definition as schema_of_name}
@@ -20,7 +20,6 @@ use Rattle.typed_values.specs.declared.desc.Field.{Field}
 use Rattle.typed_values.specs.declared.table.Definition.{Definition}
 use Rattle.typed_values.specs.Bounds.{is_length_within}
 use Rattle.typed_values.specs.Definitions.{field_name}
-use Rattle.typed_values.specs.Encoding.{member}
 use Rattle.typed_values.specs.Denotes.{Told, told, optional, first_told}
 use Rattle.typed_values.specs.Order.{sorted_by}
 use Rattle.typed_values.specs.Rows.{told_item, list_row, struct_row}

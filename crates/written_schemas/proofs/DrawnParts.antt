@@ -2,8 +2,8 @@
 use Rattle.std.proofs.Common.{◌≡◌, ℕ, List, [], ◌∷◌, ◌++◌, Option, Some, None, Bool, true, false, ◌⊎◌, inl, inr, refl, sym, ◌∙◌, ap, subst, codes}
 use Rattle.schema_values.specs.declared.json_value.Json.{List as Items, Object}
 use Rattle.schema_values.specs.declared.json_value.Member.{Member}
+use Rattle.schema_values.specs.Member.{member}
 use Rattle.openapi_values.specs.SchemaJson.{schema_json}
-use Rattle.typed_values.specs.Encoding.{member}
 use Rattle.typed_values.specs.SchemaTable.{Drawn, annotated, described, drawn_json, reference}
 use Rattle.typed_values.specs.Schemas.{Parts, object_of, with_null, with_description}
 use Rattle.written_schemas.proofs.SchemaForms.{of_reference, kept}

@@ -6,6 +6,7 @@ use Rattle.schema_values.specs.declared.json_value.Json.TheOpen.{Json-F}
 use Rattle.schema_values.specs.declared.json_value.Json.TheVariants as json
 use Rattle.schema_values.specs.declared.json_value.Member.{Member}
 use Rattle.schema_values.specs.Get.{first_named}
+use Rattle.schema_values.specs.Member.{member}
 use Rattle.openapi_values.specs.declared.keywords.Keyword.TheVariants.{OfType, Format, Minimum, Maximum}
 use Rattle.openapi_values.specs.Keywords.{is_annotation, bound_or, part_of}
 use Rattle.openapi_values.specs.Levels.{Level, is_null, is_true, as_text, as_number, has_type}
@@ -16,7 +17,6 @@ use Rattle.openapi_values.specs.JsonAdmits.{schema_admits}
 use Rattle.typed_values.specs.declared.desc.IntKind.{IntKind}
 use Rattle.typed_values.specs.declared.desc.IntKind.TheVariants.{I8, I16, I32, I64, U8, U16, U32, U64}
 use Rattle.typed_values.specs.Bounds.{least_of, greatest_of, is_at_least, is_at_most, is_number_of, is_long_enough, is_short_enough, is_length_within}
-use Rattle.typed_values.specs.Encoding.{member}
 use Rattle.typed_values.specs.Denotes.{Told, truth, number, words, if_holds}
 use Rattle.typed_values.specs.declared.fault.FaultKind.{FaultKind}
 use Rattle.typed_values.specs.SchemaTable.{of_type, if_number, if_text, if_count, format_of, least_shown}

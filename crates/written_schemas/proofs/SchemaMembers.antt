@@ -11,12 +11,12 @@ use Rattle.schema_values.specs.declared.schema.Property.{Property}
 use Rattle.schema_values.specs.declared.schema.Schema.{Schema}
 use Rattle.schema_values.specs.declared.schema.SchemaObject.{roll-SchemaObject, out-roll-SchemaObject}
 use Rattle.schema_values.specs.declared.schema.Subschemas.{roll-Subschemas}
+use Rattle.schema_values.specs.Member.{member}
 use Rattle.openapi_values.specs.Objects.{Entry, pair_member, present, members_of, object_of as entries_object, reference_json, unless_empty}
 use Rattle.openapi_values.specs.SchemaJson.{Written, untitled, additional_json, count_json, names_json, annotations, type_entries, schema_written, array_written, object_parts_written, property_written, subschemas_written, schema_json}
 use Rattle.openapi_values.proofs.ObjectLemmas.{members_of-append}
 use Rattle.openapi_values.proofs.SchemaLevels.{truth-is, object-under, items-are, array-is, subschemas-are, object_parts-are, object-is}
 use Rattle.typed_values.specs.declared.desc.IntKind.{IntKind}
-use Rattle.typed_values.specs.Encoding.{member}
 use Rattle.typed_values.specs.SchemaTable.{if_true, if_text, if_number, if_count, if_members, if_names, if_denied, of_type, format_of, reference}
 use Rattle.typed_values.specs.Schemas.{Parts, object_of, of_single, number_bounds, length_bounds, nothing_more, list_of, struct_of, choice_of}
 use Rattle.typed_values.proofs.Rows.{two_maps}

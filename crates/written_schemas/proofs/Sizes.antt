@@ -6,7 +6,7 @@ use Rattle.schema_values.specs.declared.json_value.Json.{Json, out-Json, List as
 use Rattle.schema_values.specs.declared.json_value.Json.TheOpen.{Json-F}
 use Rattle.schema_values.specs.declared.json_value.Json.TheVariants as json
 use Rattle.schema_values.specs.declared.json_value.Member.{Member}
-use Rattle.schema_values.specs.Member.{name_of}
+use Rattle.schema_values.specs.Member.{name_of, member}
 use Rattle.openapi_values.specs.Room.{values}
 use Rattle.openapi_values.specs.ValuesOfMembers.{member_values}
 use Rattle.openapi_values.proofs.RoomLemmas.{values_is, values_row}
@@ -16,7 +16,6 @@ use Rattle.typed_values.specs.declared.desc.Desc.TheOpen.{Desc-F}
 use Rattle.typed_values.specs.declared.desc.Field.{Field}
 use Rattle.typed_values.specs.Denotes.{field_nodes}
 use Rattle.typed_values.specs.Order.{sorted_by}
-use Rattle.typed_values.specs.Encoding.{member}
 use Rattle.typed_values.specs.SchemaTable.{Drawn, drawn, drawn_json, drawn_step, annotated, property_of, required_names, same_name, if_members, if_names, if_denied, schema_json}
 use Rattle.typed_values.proofs.Found.{contains_cases}
 use Rattle.written_schemas.proofs.Notes.{noted, notes}

@@ -1,6 +1,6 @@
 -- The written schema of a descriptor is that of the table.
 use Rattle.std.proofs.Common.{◌≡◌, ℕ, List, [], ◌∷◌, map, Option, Some, None, Bool, false, inl, inr, refl, sym, ◌∙◌, ap, subst, codes}
-use Rattle.schema_values.specs.Member.{name_of}
+use Rattle.schema_values.specs.Member.{name_of, member}
 use Rattle.schema_values.specs.declared.json_value.Json.{Json}
 use Rattle.schema_values.specs.declared.json_value.Member.{Member}
 use Rattle.schema_values.specs.declared.schema.Property.{Property}
@@ -14,7 +14,6 @@ use Rattle.typed_values.specs.declared.desc.Desc.TheViews.{roll-out-Desc, roll-D
 use Rattle.typed_values.specs.declared.desc.Field.{Field}
 use Rattle.typed_values.specs.declared.desc.Presence.{Presence}
 use Rattle.typed_values.specs.declared.desc.Presence.TheVariants.{Required, Nullable, Skipped}
-use Rattle.typed_values.specs.Encoding.{member}
 use Rattle.typed_values.specs.Order.{sorted_by}
 use Rattle.typed_values.specs.SchemaTable as table
 use Rattle.typed_values.specs.SchemaTable.{Drawn, DrawnField, if_members, if_names, if_denied, of_type, drawn, drawn_json, drawn_step, drawn_field, least_shown, same_name, schema_json_titled, schema_json_described}

@@ -12,6 +12,7 @@ use Rattle.schema_values.specs.declared.json_value.Member.{Member}
 use Rattle.schema_values.specs.Sound.{AreDistinct, IsSound as IsSoundValue}
 use Rattle.schema_values.specs.SoundMembers.{HasSoundValue}
 use Rattle.schema_values.proofs.SoundLemmas.{IsSound-List, IsSound-Object}
+use Rattle.schema_values.specs.Member.{member}
 use Rattle.typed_values.specs.declared.desc.Desc.{Desc, out-Desc}
 use Rattle.typed_values.specs.declared.desc.Desc.TheOpen.{Desc-F}
 use Rattle.typed_values.specs.declared.desc.Field.{Field}
@@ -27,7 +28,7 @@ use Rattle.typed_values.specs.Bounds.{is_length_within}
 use Rattle.typed_values.specs.Checks.{TablePasses, DescPasses}
 use Rattle.typed_values.specs.Definitions.{definition, field_name}
 use Rattle.typed_values.specs.Denotes.{Told, told, room, below, just, all_told, as_tree, if_holds, optional, by_presence, unless_denied, denied_name, at_definition, first_told}
-use Rattle.typed_values.specs.Encoding.{member, unless, members_written, written_if_there, option_written, items_written, parts_written, choice_written, written_by, is_none_level, written_under, json_of_tree}
+use Rattle.typed_values.specs.Encoding.{unless, members_written, written_if_there, option_written, items_written, parts_written, choice_written, written_by, is_none_level, written_under, json_of_tree}
 use Rattle.typed_values.specs.Fits.{option_fits, each_fits, items_fit, field_desc, fields_fit, parts_fit, alternative_at, if_there, choice_fits, fits_by, fits_under, Fits}
 use Rattle.typed_values.specs.Parts.{the_whole}
 use Rattle.typed_values.specs.Rows.{told_item, value_denotes, told_field, told_fields, list_row, struct_row, row}

@@ -5,14 +5,14 @@ use Rattle.std.specs.List.{list_all, AllByRecursion}
 use Rattle.std.specs.Prelude.{◌≢◌, Contains, ⊤}
 use Rattle.schema_values.specs.declared.json_value.Json.{Json}
 use Rattle.schema_values.specs.declared.json_value.Member.{Member}
-use Rattle.schema_values.specs.Member.{name_of}
+use Rattle.schema_values.specs.Member.{name_of, member}
 use Rattle.schema_values.specs.Sound.{AreDistinct}
 use Rattle.typed_values.specs.declared.desc.Desc.{Desc}
 use Rattle.typed_values.specs.declared.desc.Field.{Field}
 use Rattle.typed_values.specs.declared.tree.Tree.{Tree}
 use Rattle.typed_values.specs.Definitions.{field_name}
 use Rattle.typed_values.specs.Denotes.{is_declared, value_named}
-use Rattle.typed_values.specs.Encoding.{member, is_left_out, unless, members_written}
+use Rattle.typed_values.specs.Encoding.{is_left_out, unless, members_written}
 use Rattle.typed_values.specs.Fits.{field_desc}
 use Rattle.typed_values.proofs.EncodeSteps.{is_none_tree}
 use Rattle.typed_values.proofs.Found.{contains_first, contains_later, contains_cases, other_name, same_name}

@@ -2,7 +2,7 @@
 ghost use Rattle.std.specs.Prelude.{◌≡◌, [], ◌∷◌, ◌++◌, IfOk, OnOk, IsTrue};
 ghost use Rattle.schema_values.specs.Ascii.{all_ascii};
 ghost use Rattle.schema_values.specs.declared.json_value.Json.{Text as Words};
-ghost use Rattle.typed_values.specs.Encoding.{member};
+ghost use Rattle.schema_values.specs.Member.{member};
 ghost use Rattle.api_description.specs.Responses.{bad_request, internal_error, code_members, error_body_json};
 ghost use Rattle.api_description.specs.Responses.{error_definition, error_response, text_field};
 
