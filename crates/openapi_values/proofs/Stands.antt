@@ -134,7 +134,7 @@ pub operation-stands : (document : OpenApi) (path method : List ℕ) → operati
 operation-stands document path method =
     ap (λ o. option_and_then (member_in o) (method_member method)) (paths_stand document path) ∙ under_item (value_at path document.paths) method
 
-pub body-stands : (operation : Operation) → get_of (codes "requestBody") (operation_json operation) ≡ option_map request_body_json operation.request_body
+body-stands : (operation : Operation) → get_of (codes "requestBody") (operation_json operation) ≡ option_map request_body_json operation.request_body
 unfolding operation_json
 body-stands operation = get-object_of (operation_entries operation) (codes "requestBody") refl
 
@@ -146,7 +146,7 @@ schema_of : (o : Option MediaType) → member_in (option_map media_type_json o) 
 schema_of None = refl
 schema_of (Some media) = get-object_of (media_type_entries media) (codes "schema") refl
 
-pub schema-stands : (media : List ℕ) (body : RequestBody) → body_schema media (request_body_json body) ≡ option_map (λ media. media.schema) (value_at media body.content)
+schema-stands : (media : List ℕ) (body : RequestBody) → body_schema media (request_body_json body) ≡ option_map (λ media. media.schema) (value_at media body.content)
 unfolding request_body_json
 schema-stands media body =
     ap (λ o. member_in (member_in o media) (codes "schema")) (get-object_of (request_body_entries body) (codes "content") refl)

@@ -1,5 +1,5 @@
-// The steps left at one value: one for each JSON value still to be passed. The values themselves stand for them, so that
-// no count can overflow, and their list stands in the frames of the recursion, so that it takes no memory.
+// The steps left at one value: one for each JSON value still to be passed. These values stand for them, so no
+// count can overflow, and they are listed in the frames of the recursion, which takes no memory.
 ghost use Rattle.std.specs.Prelude.{◌≡◌, ◌+◌, suc, sum, map};
 ghost use Rattle.openapi_values.specs.Room.{values};
 ghost use Rattle.openapi_values.specs.Steps.{left};

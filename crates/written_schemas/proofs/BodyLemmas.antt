@@ -13,21 +13,19 @@ use Rattle.typed_values.specs.declared.desc.Desc.{Desc}
 use Rattle.typed_values.specs.declared.table.Definition.{Definition}
 use Rattle.typed_values.specs.declared.tree.Tree.{Tree}
 use Rattle.typed_values.specs.Denotes.{JsonDenotes}
-use Rattle.typed_values.specs.SchemaTable.{schema_json_titled}
 use Rattle.written_schemas.specs.Bodies.{TakesJson}
-use Rattle.written_schemas.specs.Counted.{IsCounted}
 use Rattle.written_schemas.specs.Written.{IsWritten}
 use Rattle.written_schemas.proofs.Whole.{titled_agrees}
 
 one_reading : (bytes : List ℕ) (i j : Json) → Reads bytes i → Reads bytes j → i ≡ j
 one_reading bytes i j a b = let same : Some i ≡ Some j = sym a.1 ∙ b.1 in cc same
 
-pub body_agrees : (document : OpenApi) (path method name : List ℕ) (table : List Definition) (desc : Desc) → TakesJson document path method name desc → IsWritten (open_api_json document) table desc → IsCounted (open_api_json document) (schema_json_titled name desc)
+pub body_agrees : (document : OpenApi) (path method name : List ℕ) (table : List Definition) (desc : Desc) → TakesJson document path method name desc → IsWritten (open_api_json document) table desc
     → (request : WireRequest) (json : Json) → Reads request.body json → Admits (open_api_json document) path method request ↔ ((tree : Tree) × JsonDenotes table desc json tree)
-body_agrees document path method name table desc takes written counted request json reads =
+body_agrees document path method name table desc takes written request json reads =
     let doc = open_api_json document in
     let admitted = bodies-admitted document path method takes.operation takes.body takes.media request takes.listed takes.has_body takes.under_json in
-    let agrees = titled_agrees doc table desc written name counted json (reading_sound request.body json reads) in (
+    let agrees = titled_agrees doc table desc written name json (reading_sound request.body json reads) in (
       λ h. let found = admitted.0 h in
           agrees.0 (subst (λ s. JsonAdmits doc s json) takes.schema_is (subst (λ j. JsonAdmits doc takes.media.schema j) (one_reading request.body found.0 json found.1 reads) found.2)),
       λ h. admitted.1 (json, reads, subst (λ s. JsonAdmits doc s json) (sym takes.schema_is) (agrees.1 h)),

@@ -1,7 +1,6 @@
 -- The agreement in a whole document, whose room is enough.
-use Rattle.std.proofs.Common.{◌≡◌, ◌↔◌, ℕ, suc, ◌+◌, ◌≤◌, false, List, Option, Some, None, is_ok, refl, sym, ◌∙◌, subst, arith, IsTrue}
+use Rattle.std.proofs.Common.{◌≡◌, ◌↔◌, ℕ, ◌+◌, ◌≤◌, false, List, Option, Some, None, is_ok, refl, sym, ◌∙◌, subst, arith, IsTrue}
 use Rattle.std.specs.declared.result.Result.TheVariants.{Ok, Err}
-use Rattle.std.proofs.Math.Nat.{min-eq_left}
 use Rattle.schema_values.specs.declared.json_value.Json.{Json}
 use Rattle.schema_values.specs.Sound.{IsSound as IsSoundValue}
 use Rattle.openapi_values.specs.JsonAdmits.{admits_within}
@@ -15,18 +14,12 @@ use Rattle.typed_values.specs.Denotes.{Told, told, room as table_room}
 use Rattle.typed_values.specs.Parts.{the_whole}
 use Rattle.typed_values.specs.SchemaTable.{drawn, drawn_json, schema_json, schema_json_titled, schema_json_described}
 use Rattle.typed_values.proofs.Soundness.{passes_is_sound}
-use Rattle.written_schemas.specs.Counted.{IsCounted}
 use Rattle.written_schemas.specs.Written.{IsWritten, AdmitsDenoted}
 use Rattle.written_schemas.proofs.Notes.{noted}
 use Rattle.written_schemas.proofs.Needed.{of_whole}
 use Rattle.written_schemas.proofs.EachValue.{agree}
 use Rattle.written_schemas.proofs.Sizes.{bare, bare_fits}
 use Rattle.written_schemas.proofs.Rooms.{cost_bounded}
-
--- a document and a schema that can be counted have room for all their values
-room_is : (doc schema : Json) → IsCounted doc schema → room doc schema ≡ suc (values doc + values schema)
-unfolding room
-room_is doc schema h = min-eq_left (omega (arith, h))
 
 true_where : (o : Told) → IsTrue (is_ok o) ↔ ((tree : Tree) × (o ≡ Ok tree))
 true_where (Ok tree) = (λ h. (tree, refl), λ h. refl)
@@ -41,24 +34,24 @@ module _ (doc : Json) (table : List Definition) (desc : Desc) (written : IsWritt
       (λ d need. omega (arith, cost_bounded table desc doc written.table_passes written.defined (table_room table desc) d need, enough))
       json sound desc (of_whole the_whole) false t s
 
-  noted_agrees : (t s : Option (List ℕ)) → IsCounted doc (drawn_json (noted (drawn desc).nullable t s (drawn desc))) → AdmitsDenoted doc (drawn_json (noted (drawn desc).nullable t s (drawn desc))) table desc
-  noted_agrees t s counted json sound =
+  noted_agrees : (t s : Option (List ℕ)) → AdmitsDenoted doc (drawn_json (noted (drawn desc).nullable t s (drawn desc))) table desc
+  noted_agrees t s json sound =
       let schema = drawn_json (noted (drawn desc).nullable t s (drawn desc)) in
-      let same = agree_with (room doc schema) (omega (arith, room_is doc schema counted, bare_fits desc (drawn desc).nullable t s)) json sound t s in
+      let same = agree_with (room doc schema) (omega (arith, bare_fits desc (drawn desc).nullable t s)) json sound t s in
       let ok = true_where (told table desc json desc) in
       (λ h. ok.0 (subst IsTrue same h), λ h. subst IsTrue (sym same) (ok.1 h))
 
-  pub plain_agrees : IsCounted doc (schema_json desc) → AdmitsDenoted doc (schema_json desc) table desc
+  pub plain_agrees : AdmitsDenoted doc (schema_json desc) table desc
   plain_agrees = noted_agrees (drawn desc).title (drawn desc).description
 
-  pub described_agrees : (text : Option (List ℕ)) → IsCounted doc (schema_json_described text desc) → AdmitsDenoted doc (schema_json_described text desc) table desc
+  pub described_agrees : (text : Option (List ℕ)) → AdmitsDenoted doc (schema_json_described text desc) table desc
   described_agrees None = plain_agrees
   described_agrees (Some text) = noted_agrees (drawn desc).title (Some text)
 
-  pub titled_agrees : (name : List ℕ) → IsCounted doc (schema_json_titled name desc) → AdmitsDenoted doc (schema_json_titled name desc) table desc
+  pub titled_agrees : (name : List ℕ) → AdmitsDenoted doc (schema_json_titled name desc) table desc
   titled_agrees name = by_form (out-Desc desc) refl
     where
-      by_form : (z : Desc-F Desc Field) → out-Desc desc ≡ z → IsCounted doc (schema_json_titled name desc) → AdmitsDenoted doc (schema_json_titled name desc) table desc
+      by_form : (z : Desc-F Desc Field) → out-Desc desc ≡ z → AdmitsDenoted doc (schema_json_titled name desc) table desc
       by_form Desc-F.Bool e = rw e (noted_agrees (Some name) (drawn desc).description)
       by_form (Desc-F.Int kind min max) e = rw e (noted_agrees (Some name) (drawn desc).description)
       by_form (Desc-F.Text min max format) e = rw e (noted_agrees (Some name) (drawn desc).description)
@@ -68,9 +61,9 @@ module _ (doc : Json) (table : List Definition) (desc : Desc) (written : IsWritt
       by_form (Desc-F.Untagged ds) e = rw e (noted_agrees (Some name) (drawn desc).description)
       by_form (Desc-F.Ref other) e = rw e plain_agrees
 
-  pub steps_enough : IsCounted doc (schema_json desc) → (json : Json) → IsSoundValue json → (steps : ℕ) → room doc (schema_json desc) ≤ steps
+  pub steps_enough : (json : Json) → IsSoundValue json → (steps : ℕ) → room doc (schema_json desc) ≤ steps
       → admits_within doc steps json steps (schema_json desc) ≡ admits_within doc (room doc (schema_json desc)) json (room doc (schema_json desc)) (schema_json desc)
-  steps_enough counted json sound steps le =
+  steps_enough json sound steps le =
       let s = schema_json desc in
-      let enough : values doc + bare desc ≤ room doc s = omega (arith, room_is doc s counted, bare_fits desc (drawn desc).nullable (drawn desc).title (drawn desc).description) in
+      let enough : values doc + bare desc ≤ room doc s = omega (arith, bare_fits desc (drawn desc).nullable (drawn desc).title (drawn desc).description) in
       agree_with steps (omega (arith, enough, le)) json sound (drawn desc).title (drawn desc).description ∙ sym (agree_with (room doc s) enough json sound (drawn desc).title (drawn desc).description)

@@ -1,4 +1,3 @@
 pub mod Reached
-pub mod Counted
 pub mod Written
 pub mod Bodies

@@ -17,19 +17,18 @@ ghost use Rattle.typed_values.specs.Encoding.{json_of_tree};
 ghost use Rattle.typed_values.specs.Fits.{Fits};
 ghost use Rattle.typed_values.specs.SchemaTable.{schema_json, schema_json_titled, schema_json_described};
 ghost use Rattle.written_schemas.specs.Bodies.{TakesJson};
-ghost use Rattle.written_schemas.specs.Counted.{IsCounted};
 ghost use Rattle.written_schemas.specs.Reached.{ReachesNoUntagged};
 ghost use Rattle.written_schemas.specs.Written.{IsWritten, AdmitsDenoted};
 
 /// The schema of a descriptor admits exactly the JSON values that denote a tree; so it does under a title or a description.
 pub fn schemas_agree()
     ensures plain { (doc : JsonValue) (table : List Entry) (desc : Descriptor) → IsWritten doc table desc
-        → IsCounted doc (schema_json desc) → AdmitsDenoted doc (schema_json desc) table desc }
+        → AdmitsDenoted doc (schema_json desc) table desc }
     ensures titled { (doc : JsonValue) (table : List Entry) (desc : Descriptor) (name : List ℕ)
-        → IsWritten doc table desc → IsCounted doc (schema_json_titled name desc)
+        → IsWritten doc table desc
         → AdmitsDenoted doc (schema_json_titled name desc) table desc }
     ensures described { (doc : JsonValue) (table : List Entry) (desc : Descriptor) (text : Option (List ℕ))
-        → IsWritten doc table desc → IsCounted doc (schema_json_described text desc)
+        → IsWritten doc table desc
         → AdmitsDenoted doc (schema_json_described text desc) table desc }
 {}
 
@@ -37,7 +36,6 @@ pub fn schemas_agree()
 pub fn bodies_agree()
     ensures { (document : Document) (path method name : List ℕ) (table : List Entry) (desc : Descriptor)
         → TakesJson document path method name desc → IsWritten (open_api_json document) table desc
-        → IsCounted (open_api_json document) (schema_json_titled name desc)
         → (request : Request) (json : JsonValue) → Reads request.body json
         → Admits (open_api_json document) path method request
         ↔ ((tree : Value) × JsonDenotes table desc json tree) }
@@ -49,8 +47,7 @@ pub fn steps_suffice()
         → (json : JsonValue) (steps : ℕ) → steps_of_table table desc ≤ steps
         → told_within table steps json steps desc ≡ told table desc json desc }
     ensures admitted { (doc : JsonValue) (table : List Entry) (desc : Descriptor) → IsWritten doc table desc
-        → IsCounted doc (schema_json desc) → (json : JsonValue) → IsSound json → (steps : ℕ)
-        → room doc (schema_json desc) ≤ steps
+        → (json : JsonValue) → IsSound json → (steps : ℕ) → room doc (schema_json desc) ≤ steps
         → admits_within doc steps json steps (schema_json desc) ≡ admits_within doc
         (room doc (schema_json desc)) json (room doc (schema_json desc)) (schema_json desc) }
 {}
@@ -63,7 +60,7 @@ pub fn encodings_agree()
         → DescPasses table desc → Fits table desc tree
         → (read : Value) × JsonDenotes table desc (json_of_tree table desc tree) read }
     ensures admitted { (doc : JsonValue) (table : List Entry) (desc : Descriptor) (tree : Value)
-        → IsWritten doc table desc → IsCounted doc (schema_json desc) → Fits table desc tree
+        → IsWritten doc table desc → Fits table desc tree
         → JsonAdmits doc (schema_json desc) (json_of_tree table desc tree) }
     ensures again { (table : List Entry) (desc : Descriptor) (tree : Value) → TablePasses table
         → DescPasses table desc → Fits table desc tree → ReachesNoUntagged table desc
