@@ -1,4 +1,5 @@
-//! Tests that cross crates: sessions of the sample API from words and input to output and status.
+//! Tests that cross crates: sessions of the sample API from words and input to output and status, and bodies from
+//! JSON texts to trees or faults.
 #![tactic(auto)]
 
 #[cfg(test)]
@@ -7,3 +8,5 @@ mod document;
 mod session;
 #[cfg(test)]
 mod tests;
+#[cfg(test)]
+mod values;

@@ -4,8 +4,6 @@
 mod bounds;
 mod check;
 mod decode;
-#[cfg(test)]
-mod decode_tests;
 mod desc;
 mod encode;
 mod equal;

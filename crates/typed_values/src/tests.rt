@@ -1,115 +1,212 @@
 use crate::{
-    AddError, Added, Desc, DescTable, Field, IntKind, Presence, TableError, check_desc, check_table,
+    AddError, Added, DecodeError, Definition, Desc, DescTable, Field, IntKind, Presence,
+    SchemaPlace, TableError, Tree, check_desc, check_table, decode_json, encode_json, fits,
+    schema_of, schema_of_definition,
 };
-use schema_values::{Boxed, List, Text};
+use schema_values::{Boxed, Json, List, Schema, Text};
 use std::alloc::{AllocError, Global};
 use std::test::Fail;
 
-pub(crate) fn reference(alloc: Global, name: &str) -> Result<Desc, AllocError> {
+fn reference(alloc: Global, name: &str) -> Result<Desc, AllocError> {
     Ok(Desc::Ref(Text::from_str(alloc, name)?))
 }
 
-pub(crate) fn option(alloc: Global, inner: Desc) -> Result<Desc, AllocError> {
+fn option(alloc: Global, inner: Desc) -> Result<Desc, AllocError> {
     Ok(Desc::Option(Boxed::new(alloc, inner)?))
 }
 
-pub(crate) fn either(alloc: Global, first: Desc, second: Desc) -> Result<Desc, AllocError> {
+fn list(alloc: Global, item: Desc) -> Result<Desc, AllocError> {
+    Ok(Desc::List {
+        item: Boxed::new(alloc, item)?,
+        min: None,
+        max: None,
+    })
+}
+
+fn text() -> Desc {
+    Desc::Text {
+        min: None,
+        max: None,
+        format: None,
+    }
+}
+
+fn byte(min: Option<i128>, max: Option<i128>) -> Desc {
+    Desc::Int {
+        kind: IntKind::U8,
+        min,
+        max,
+    }
+}
+
+fn either(alloc: Global, first: Desc, second: Desc) -> Result<Desc, AllocError> {
     let mut alternatives = List::new(alloc);
     alternatives.push(first)?;
     alternatives.push(second)?;
     Ok(Desc::Untagged { alternatives })
 }
 
-pub(crate) fn field(
+fn push(
     alloc: Global,
+    fields: &mut List<Field>,
     name: &str,
-    desc: Desc,
     presence: Presence,
-) -> Result<Field, AllocError> {
-    Ok(Field {
-        name: Text::from_str(alloc, name)?,
+    desc: Desc,
+) -> Result<(), AllocError> {
+    let name = Text::from_str(alloc, name)?;
+    fields.push(Field {
+        name,
         desc,
         presence,
         description: None,
     })
 }
 
-fn structure(alloc: Global, first: Field, second: Field) -> Result<Desc, AllocError> {
-    let mut fields = List::new(alloc);
-    fields.push(first)?;
-    fields.push(second)?;
-    Ok(Desc::Struct {
+fn structure(fields: List<Field>) -> Desc {
+    Desc::Struct {
         fields,
         deny_unknown: false,
-    })
+    }
 }
 
-/// What `check_table` tells of a table with this definition alone.
-fn told(alloc: Global, name: &str, desc: Desc) -> &'static str {
+/// A name, a weight that may be null, a nickname that may be left out, and nodes as children.
+fn node(alloc: Global) -> Result<Desc, AllocError> {
+    let mut fields = List::new(alloc);
+    let weight = option(alloc, byte(None, None))?;
+    let children = list(alloc, reference(alloc, "Node")?)?;
+    push(alloc, &mut fields, "name", Presence::Required, text())?;
+    push(alloc, &mut fields, "weight", Presence::Nullable, weight)?;
+    push(alloc, &mut fields, "nick", Presence::Skipped, text())?;
+    push(alloc, &mut fields, "children", Presence::Required, children)?;
+    Ok(structure(fields))
+}
+
+fn define(table: &mut DescTable, name: &str, desc: Desc) -> Result<(), AllocError> {
+    match table.add(name, desc) {
+        Ok(_) => Ok(()),
+        Err(_) => Err(AllocError),
+    }
+}
+
+/// A table with the definition of a node, described as one.
+fn nodes(alloc: Global) -> Result<DescTable, AllocError> {
+    let description = Some(Text::from_str(alloc, "a node")?);
     let mut table = DescTable::new(alloc);
-    if table.add(name, desc).is_err() {
-        return "not added";
-    }
-    match check_table(&table) {
-        Ok(()) => "passes",
-        Err(error) => error_name(error),
+    match table.add_described("Node", description, node(alloc)?) {
+        Ok(_) => Ok(table),
+        Err(_) => Err(AllocError),
     }
 }
 
-fn error_name(error: TableError) -> &'static str {
-    match error {
-        TableError::DoubledName => "doubled name",
-        TableError::BadName => "bad name",
-        TableError::Dangling => "dangling",
-        TableError::Unguarded(_) => "unguarded",
-        TableError::EmptyEnumeration => "empty enumeration",
-        TableError::NullOfNull => "null of null",
-        TableError::BadRange => "bad range",
-        TableError::BadPresence => "bad presence",
+fn added(outcome: Result<Added, AddError>) -> &'static str {
+    match outcome {
+        Ok(Added::New) => "new",
+        Ok(Added::Same) => "same",
+        Err(AddError::Clash(name)) if name.equals_str("N") => "N clashes",
+        Err(_) => "not added",
+    }
+}
+
+/// What is told of the copy of a definition that is added to a copy of its table.
+fn added_to_a_copy(alloc: Global) -> Result<&'static str, AllocError> {
+    let table = nodes(alloc)?;
+    let mut copy = table.copy(alloc)?;
+    match table.definitions() {
+        [definition] => {
+            let Definition {
+                name,
+                description,
+                desc,
+            } = definition.copy(alloc)?;
+            Ok(added(copy.add_described(name.as_str(), description, desc)))
+        }
+        _ => Ok("not one"),
     }
 }
 
 #[test]
 fn a_name_is_added_once(rt: HostRuntime) -> Result<(), Fail> {
     let alloc = rt.alloc();
-    let mut table = DescTable::new(alloc);
-    assert!(rt; matches!(table.add("N", Desc::Bool), Ok(Added::New)));
-    assert!(rt; matches!(table.add("N", Desc::Bool), Ok(Added::Same)));
-    match table.add("N", reference(alloc, "N")?) {
-        Err(AddError::Clash(name)) => assert_eq!(rt; name.as_str(), "N"),
-        _ => assert!(rt; false, "no clash of descriptors"),
-    }
     let description = Some(Text::from_str(alloc, "a truth")?);
-    assert!(rt;
-        matches!(
-            table.add_described("N", description, Desc::Bool),
-            Err(AddError::Clash(_))
-        )
+    let mut table = DescTable::new(alloc);
+    assert_eq!(rt; added(table.add("N", Desc::Bool)), "new");
+    assert_eq!(rt; added(table.add("N", Desc::Bool)), "same");
+    assert_eq!(rt; added(table.add("N", text())), "N clashes");
+    assert_eq!(rt;
+        added(table.add_described("N", description, Desc::Bool)),
+        "N clashes"
     );
-    let copy = table.copy(alloc)?;
-    assert_eq!(rt; copy.len(), 1);
-    assert!(rt; matches!(copy.get("N"), Some(Desc::Bool)));
-    assert!(rt; matches!(copy.entry(0), Some((_, None, Desc::Bool))));
-    assert!(rt; copy.entry(1).is_none() && copy.get("M").is_none());
     Ok(())
 }
 
 #[test]
-fn the_first_on_a_cycle_is_named(rt: HostRuntime) -> Result<(), Fail> {
-    let alloc = rt.alloc();
-    let mut table = DescTable::new(alloc);
-    assert!(rt; table.add("Outside", reference(alloc, "A")?).is_ok());
-    assert!(rt; table.add("A", reference(alloc, "B")?).is_ok());
-    assert!(rt; table.add("B", reference(alloc, "A")?).is_ok());
-    assert!(rt; matches!(check_table(&table), Err(TableError::Unguarded("A"))));
+fn a_copy_of_a_table_has_its_definitions(rt: HostRuntime) -> Result<(), Fail> {
+    assert_eq!(rt; added_to_a_copy(rt.alloc())?, "same");
     Ok(())
 }
 
-/// A dangling reference stands in it too, and is told later.
+/// Whether a table shows one definition, of a node.
+fn shows_a_node(table: &DescTable) -> bool {
+    let is_first = match table.entry(0) {
+        Some((name, Some(description), Desc::Struct { .. })) => {
+            name.equals_str("Node")
+                && description.equals_str("a node")
+                && table.find(name).is_some()
+        }
+        _ => false,
+    };
+    is_first
+        && table.entry(1).is_none()
+        && table.len() == 1
+        && !table.is_empty()
+        && matches!(table.get("Node"), Some(Desc::Struct { .. }))
+        && table.get("node").is_none()
+}
+
+#[test]
+fn a_table_shows_its_definitions(rt: HostRuntime) -> Result<(), Fail> {
+    let table = nodes(rt.alloc())?;
+    assert!(rt; shows_a_node(&table));
+    Ok(())
+}
+
+fn told(outcome: Result<(), TableError>) -> &'static str {
+    match outcome {
+        Ok(()) => "passes",
+        Err(TableError::DoubledName) => "doubled name",
+        Err(TableError::BadName) => "bad name",
+        Err(TableError::Dangling) => "dangling",
+        Err(TableError::Unguarded(_)) => "unguarded",
+        Err(TableError::EmptyEnumeration) => "empty enumeration",
+        Err(TableError::NullOfNull) => "null of null",
+        Err(TableError::BadRange) => "bad range",
+        Err(TableError::BadPresence) => "bad presence",
+    }
+}
+
+fn told_alone(alloc: Global, name: &str, desc: Desc) -> &'static str {
+    let mut table = DescTable::new(alloc);
+    match table.add(name, desc) {
+        Ok(_) => told(check_table(&table)),
+        Err(_) => "not added",
+    }
+}
+
+/// What is told of a table with this definition alone.
+fn told_of(alloc: Global, name: &str, desc: Result<Desc, AllocError>) -> &'static str {
+    match desc {
+        Ok(desc) => told_alone(alloc, name, desc),
+        Err(AllocError) => "not made",
+    }
+}
+
+/// Two fields of one name. A dangling reference stands in them too, and is told later.
 fn doubled_name(alloc: Global) -> Result<Desc, AllocError> {
-    let first = field(alloc, "n", Desc::Bool, Presence::Required)?;
-    let second = field(alloc, "n", reference(alloc, "Absent")?, Presence::Required)?;
-    structure(alloc, first, second)
+    let mut fields = List::new(alloc);
+    push(alloc, &mut fields, "n", Presence::Required, Desc::Bool)?;
+    let absent = reference(alloc, "Absent")?;
+    push(alloc, &mut fields, "n", Presence::Required, absent)?;
+    Ok(structure(fields))
 }
 
 fn null_of_null(alloc: Global) -> Result<Desc, AllocError> {
@@ -118,9 +215,9 @@ fn null_of_null(alloc: Global) -> Result<Desc, AllocError> {
 }
 
 fn bad_presence(alloc: Global) -> Result<Desc, AllocError> {
-    let first = field(alloc, "n", Desc::Bool, Presence::Required)?;
-    let second = field(alloc, "m", Desc::Bool, Presence::Nullable)?;
-    structure(alloc, first, second)
+    let mut fields = List::new(alloc);
+    push(alloc, &mut fields, "n", Presence::Nullable, Desc::Bool)?;
+    Ok(structure(fields))
 }
 
 fn no_alternatives(alloc: Global) -> Desc {
@@ -129,65 +226,176 @@ fn no_alternatives(alloc: Global) -> Desc {
     }
 }
 
-fn bad_range() -> Desc {
-    Desc::Int {
-        kind: IntKind::U8,
-        min: Some(1),
-        max: Some(256),
-    }
-}
-
 #[test]
-fn each_error_is_told(rt: HostRuntime) -> Result<(), Fail> {
+fn each_error_is_told(rt: HostRuntime) {
     let alloc = rt.alloc();
-    assert_eq!(rt; told(alloc, "N", doubled_name(alloc)?), "doubled name");
-    assert_eq!(rt; told(alloc, "N N", Desc::Bool), "bad name");
-    assert_eq!(rt; told(alloc, "N", reference(alloc, "Absent")?), "dangling");
-    assert_eq!(rt; told(alloc, "N", reference(alloc, "N")?), "unguarded");
+    assert_eq!(rt; told_of(alloc, "a.B-c_9", node(alloc)), "dangling");
+    assert_eq!(rt; told_of(alloc, "Node", node(alloc)), "passes");
+    assert_eq!(rt; told_of(alloc, "N", doubled_name(alloc)), "doubled name");
+    assert_eq!(rt; told_of(alloc, "N N", Ok(Desc::Bool)), "bad name");
+    assert_eq!(rt; told_of(alloc, "a.B-c_9", Ok(Desc::Bool)), "passes");
+    assert_eq!(rt; told_of(alloc, "N", reference(alloc, "N")), "unguarded");
     assert_eq!(rt;
-        told(alloc, "N", no_alternatives(alloc)),
+        told_of(alloc, "N", Ok(no_alternatives(alloc))),
         "empty enumeration"
     );
-    assert_eq!(rt; told(alloc, "N", null_of_null(alloc)?), "null of null");
-    assert_eq!(rt; told(alloc, "N", bad_range()), "bad range");
-    assert_eq!(rt; told(alloc, "N", bad_presence(alloc)?), "bad presence");
-    assert_eq!(rt; told(alloc, "a.B-c_9", Desc::Bool), "passes");
-    Ok(())
+    assert_eq!(rt; told_of(alloc, "N", null_of_null(alloc)), "null of null");
+    assert_eq!(rt;
+        told_of(alloc, "N", Ok(byte(Some(1), Some(256)))),
+        "bad range"
+    );
+    assert_eq!(rt; told_of(alloc, "N", bad_presence(alloc)), "bad presence");
+}
+
+/// What is told of an option over a reference to a reference to an option.
+fn told_of_null_behind_references(alloc: Global) -> Result<&'static str, AllocError> {
+    let mut table = DescTable::new(alloc);
+    define(&mut table, "A", reference(alloc, "B")?)?;
+    define(&mut table, "B", option(alloc, Desc::Bool)?)?;
+    let whole = option(alloc, reference(alloc, "A")?)?;
+    Ok(told(check_desc(&table, &whole)))
 }
 
 #[test]
 fn null_is_seen_through_references(rt: HostRuntime) -> Result<(), Fail> {
-    let alloc = rt.alloc();
-    let mut table = DescTable::new(alloc);
-    assert!(rt; table.add("A", reference(alloc, "B")?).is_ok());
-    assert!(rt; table.add("B", option(alloc, Desc::Bool)?).is_ok());
-    assert!(rt; check_table(&table).is_ok());
-    let whole = option(alloc, reference(alloc, "A")?)?;
-    assert!(rt; matches!(check_desc(&table, &whole), Err(TableError::NullOfNull)));
-    assert!(rt; check_desc(&table, &Desc::Bool).is_ok());
+    let told = told_of_null_behind_references(rt.alloc())?;
+    assert_eq!(rt; told, "null of null");
     Ok(())
 }
 
-/// Thirty definitions that each name the next twice: there are 2^30 ways from the first to the last.
-#[test]
-fn shared_definitions_are_met_once(rt: HostRuntime) -> Result<(), Fail> {
-    let alloc = rt.alloc();
+/// Alternatives that are both a reference to the definition of a number.
+fn next_twice(alloc: Global, next: u32) -> Result<Desc, AllocError> {
+    let name = format!(in alloc; "D{next}")?;
+    let first = reference(alloc, name.as_str())?;
+    either(alloc, first, reference(alloc, name.as_str())?)
+}
+
+/// What is told of thirty definitions that each name the next twice, so that there are 2^30 ways to the last.
+fn told_of_shared_definitions(alloc: Global) -> Result<&'static str, AllocError> {
     let mut table = DescTable::new(alloc);
     for i in 0..30u32 {
-        let next = format!(in alloc; "D{}", i + 1)?;
-        let both = either(
-            alloc,
-            reference(alloc, next.as_str())?,
-            reference(alloc, next.as_str())?,
-        )?;
-        assert!(rt; table.add(format!(in alloc; "D{i}")?.as_str(), both).is_ok());
+        let name = format!(in alloc; "D{i}")?;
+        define(&mut table, name.as_str(), next_twice(alloc, i + 1)?)?;
     }
-    assert!(rt; table.add("D30", Desc::Bool).is_ok());
-    assert!(rt;
-        table
-            .add("Maybe", option(alloc, reference(alloc, "D0")?)?)
-            .is_ok()
-    );
-    assert!(rt; check_table(&table).is_ok());
+    define(&mut table, "D30", Desc::Bool)?;
+    define(&mut table, "Maybe", option(alloc, reference(alloc, "D0")?)?)?;
+    Ok(told(check_table(&table)))
+}
+
+#[test]
+fn shared_definitions_are_met_once(rt: HostRuntime) -> Result<(), Fail> {
+    let told = told_of_shared_definitions(rt.alloc())?;
+    assert_eq!(rt; told, "passes");
+    Ok(())
+}
+
+/// What a tree is written as, where it fits.
+fn written(alloc: Global, table: &DescTable, desc: &Desc, tree: &Tree) -> Result<Text, AllocError> {
+    if check_table(table).is_err() || check_desc(table, desc).is_err() || !fits(table, desc, tree) {
+        return Text::from_str(alloc, "no fit");
+    }
+    encode_json(alloc, table, desc, tree)?.compact(alloc)
+}
+
+/// What a copy of the tree of a JSON value is written as, or the text of the fault.
+fn again(alloc: Global, table: &DescTable, desc: &Desc, json: &Json) -> Result<Text, AllocError> {
+    if check_table(table).is_err() || check_desc(table, desc).is_err() {
+        return Text::from_str(alloc, "unchecked");
+    }
+    match decode_json(alloc, table, desc, json) {
+        Ok(tree) => written(alloc, table, desc, &tree.copy(alloc)?),
+        Err(DecodeError::Fault(fault)) => fault.text(alloc),
+        Err(DecodeError::OutOfMemory) => Err(AllocError),
+    }
+}
+
+/// The same of a list of nodes.
+fn nodes_again(alloc: Global, body: &str) -> Result<Text, AllocError> {
+    let table = nodes(alloc)?;
+    let desc = list(alloc, reference(alloc, "Node")?)?;
+    match Json::read(alloc, body.as_bytes()) {
+        Ok(json) => again(alloc, &table, &desc, &json),
+        Err(_) => Text::from_str(alloc, "not JSON"),
+    }
+}
+
+#[test]
+fn trees_are_written_with_their_nulls(rt: HostRuntime) -> Result<(), Fail> {
+    let rows = [
+        (
+            r#"[{"name":"a","children":[]}]"#,
+            r#"[{"name":"a","weight":null,"children":[]}]"#,
+        ),
+        (
+            r#"[{"children":[],"name":"a","nick":"b","weight":7},{"name":"c","children":[]}]"#,
+            r#"[{"name":"a","weight":7,"nick":"b","children":[]},{"name":"c","weight":null,"children":[]}]"#,
+        ),
+        (
+            r#"[{"name":"a","children":[]},{"name":"b","children":[{}]}]"#,
+            "[1].children[0]: missing field `name`",
+        ),
+        (r#"[{"name":"a","children":[]},1]"#, "[1]: invalid type"),
+    ];
+    for (body, expected) in rows {
+        let found = nodes_again(rt.alloc(), body)?;
+        assert_eq!(rt; found.as_str(), expected, "at {body}");
+    }
+    Ok(())
+}
+
+#[test]
+fn another_tree_does_not_fit(rt: HostRuntime) -> Result<(), Fail> {
+    let alloc = rt.alloc();
+    let found = written(alloc, &DescTable::new(alloc), &Desc::Bool, &Tree::Int(1))?;
+    assert_eq!(rt; found.as_str(), "no fit");
+    Ok(())
+}
+
+fn adds_null(schema: &Schema) -> bool {
+    match schema {
+        Schema::Object(parts) => parts.get().nullable,
+        Schema::Bool(_) => false,
+    }
+}
+
+fn describes_a_node(schema: &Schema) -> bool {
+    match schema {
+        Schema::Object(parts) => match &parts.get().description {
+            Some(description) => description.equals_str("a node"),
+            None => false,
+        },
+        Schema::Bool(_) => false,
+    }
+}
+
+/// The schema of an option of a truth value.
+fn schema_at(alloc: Global, place: SchemaPlace) -> Result<Schema, AllocError> {
+    let table = DescTable::new(alloc);
+    let desc = option(alloc, Desc::Bool)?;
+    schema_of(alloc, &table, &desc, place)
+}
+
+#[test]
+fn an_option_adds_null_but_in_a_header(rt: HostRuntime) -> Result<(), Fail> {
+    let plain = schema_at(rt.alloc(), SchemaPlace::Plain)?;
+    assert!(rt; adds_null(&plain));
+    let header = schema_at(rt.alloc(), SchemaPlace::Header)?;
+    assert!(rt; !adds_null(&header));
+    Ok(())
+}
+
+/// The schema of the definition of a node.
+fn schema_of_a_node(alloc: Global) -> Result<Schema, AllocError> {
+    let table = nodes(alloc)?;
+    match table.definitions() {
+        [definition] => schema_of_definition(alloc, definition),
+        _ => Err(AllocError),
+    }
+}
+
+#[test]
+fn a_definition_describes_its_schema(rt: HostRuntime) -> Result<(), Fail> {
+    let schema = schema_of_a_node(rt.alloc())?;
+    assert!(rt; describes_a_node(&schema));
     Ok(())
 }

@@ -1,0 +1,132 @@
+//! What bodies denote under one record, and what the tables of definitions are told.
+
+mod definitions;
+mod rows;
+mod shown;
+
+use crate::values::definitions::{definitions, mutual, named};
+use crate::values::rows::ROWS;
+use crate::values::shown::{folder_count, shown};
+use schema_values::{Json, ReadError, Text};
+use std::alloc::{AllocError, Global};
+use std::test::Fail;
+use typed_values::{
+    DecodeError, Desc, DescTable, FaultKind, TableError, Tree, check_desc, check_table,
+    decode_json, encode_json,
+};
+
+/// The tree that a body denotes, or the text of the fault.
+fn told(alloc: Global, table: &DescTable, desc: &Desc, body: &str) -> Result<Text, AllocError> {
+    match Json::read(alloc, body.as_bytes()) {
+        Ok(json) => told_of(alloc, table, desc, &json),
+        Err(ReadError::Unreadable) => FaultKind::NotJson.text(alloc),
+        Err(ReadError::OutOfMemory) => Err(AllocError),
+    }
+}
+
+fn told_of(alloc: Global, table: &DescTable, desc: &Desc, json: &Json) -> Result<Text, AllocError> {
+    if check_table(table).is_err() || check_desc(table, desc).is_err() {
+        return Text::from_str(alloc, "unchecked");
+    }
+    match decode_json(alloc, table, desc, json) {
+        Ok(tree) => shown(alloc, &tree),
+        Err(DecodeError::Fault(fault)) => fault.text(alloc),
+        Err(DecodeError::OutOfMemory) => Err(AllocError),
+    }
+}
+
+#[test]
+fn each_body_is_told_as_its_row_says(rt: HostRuntime) -> Result<(), Fail> {
+    let alloc = rt.alloc();
+    let table = definitions(alloc)?;
+    let record = named(alloc, "Record")?;
+    for (body, expected) in &ROWS {
+        let told = told(alloc, &table, &record, body)?;
+        assert_eq!(rt; told.as_str(), *expected, "at {body}");
+    }
+    Ok(())
+}
+
+/// A body of a record and of so many lists in one another.
+fn nested(alloc: Global, lists: u32) -> Result<Text, AllocError> {
+    let mut body = Text::from_str(alloc, "{\"on\":true,\"choices\":")?;
+    for _ in 0..lists {
+        body.push('[')?;
+    }
+    for _ in 0..lists {
+        body.push(']')?;
+    }
+    body.push('}')?;
+    Ok(body)
+}
+
+/// Whether a body of so many lists in one another is JSON.
+fn is_read(alloc: Global, lists: u32) -> Result<bool, AllocError> {
+    let table = definitions(alloc)?;
+    let record = named(alloc, "Record")?;
+    let body = nested(alloc, lists)?;
+    let told = told(alloc, &table, &record, body.as_str())?;
+    Ok(!told.equals_str("not JSON"))
+}
+
+// The record's own object is a level too.
+#[test]
+fn bodies_nest_at_most_127_levels_deep(rt: HostRuntime) -> Result<(), Fail> {
+    assert!(rt; is_read(rt.alloc(), 126)?);
+    assert!(rt; !is_read(rt.alloc(), 127)?);
+    Ok(())
+}
+
+/// How many folders a body denotes, and behind a space what they are written as.
+fn folders(alloc: Global, body: &str) -> Result<Text, AllocError> {
+    let table = definitions(alloc)?;
+    let folder = named(alloc, "Folder")?;
+    if check_table(&table).is_err() || check_desc(&table, &folder).is_err() {
+        return Text::from_str(alloc, "unchecked");
+    }
+    let Ok(json) = Json::read(alloc, body.as_bytes()) else {
+        return Text::from_str(alloc, "not JSON");
+    };
+    match decode_json(alloc, &table, &folder, &json) {
+        Ok(tree) => counted(alloc, &tree, &encode_json(alloc, &table, &folder, &tree)?),
+        Err(_) => Text::from_str(alloc, "no folder"),
+    }
+}
+
+fn counted(alloc: Global, tree: &Tree, json: &Json) -> Result<Text, AllocError> {
+    let mut text = Text::new(alloc);
+    text.push_number(alloc, i128::from(folder_count(tree)))?;
+    text.push(' ')?;
+    text.push_text(&json.compact(alloc)?)?;
+    Ok(text)
+}
+
+#[test]
+fn folders_are_counted_and_written_again(rt: HostRuntime) -> Result<(), Fail> {
+    let rows = [
+        (
+            r#"{"name":"a","children":[]}"#,
+            r#"1 {"name":"a","children":[]}"#,
+        ),
+        (
+            r#"{"name":"a","children":[{"name":"b","children":[{"name":"c","children":[]}]}]}"#,
+            r#"3 {"name":"a","children":[{"name":"b","children":[{"name":"c","children":[]}]}]}"#,
+        ),
+        (
+            r#"{"children":[{"children":[],"name":"c"},{"x":1,"children":[],"name":"b"}],"name":"a"}"#,
+            r#"3 {"name":"a","children":[{"name":"c","children":[]},{"name":"b","children":[]}]}"#,
+        ),
+    ];
+    for (body, expected) in rows {
+        let found = folders(rt.alloc(), body)?;
+        assert_eq!(rt; found.as_str(), expected, "at {body}");
+    }
+    Ok(())
+}
+
+#[test]
+fn definitions_that_refer_to_each_other_are_unguarded(rt: HostRuntime) -> Result<(), Fail> {
+    let table = mutual(rt.alloc())?;
+    assert!(rt; matches!(check_table(&table), Err(TableError::Unguarded("A"))));
+    Ok(())
+}

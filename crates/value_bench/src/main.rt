@@ -1,0 +1,96 @@
+//! Decodes a JSON body under a descriptor and encodes its tree again, to be measured.
+#![tactic(auto)]
+
+mod descriptors;
+
+use crate::descriptors::{definitions, descriptor};
+use schema_values::{Json, ReadError, Text};
+use std::alloc::{AllocError, Global};
+use std::env;
+use std::io::{self, Read};
+use std::process::ExitCode;
+use typed_values::{
+    DecodeError, Desc, DescTable, FaultKind, check_desc, check_table, decode_json, encode_json,
+};
+
+/// What a body is answered with.
+#[derive(Drop)]
+enum Answer {
+    /// What its tree is written as.
+    Written(Text),
+    /// The text of the fault.
+    Refused(Text),
+    /// The word names no descriptor.
+    NoDescriptor,
+}
+
+fn decoded(
+    alloc: Global,
+    table: &DescTable,
+    desc: &Desc,
+    json: &Json,
+) -> Result<Answer, AllocError> {
+    if check_table(table).is_err() || check_desc(table, desc).is_err() {
+        return Ok(Answer::NoDescriptor);
+    }
+    match decode_json(alloc, table, desc, json) {
+        Ok(tree) => {
+            let json = encode_json(alloc, table, desc, &tree)?;
+            Ok(Answer::Written(json.compact(alloc)?))
+        }
+        Err(DecodeError::Fault(fault)) => Ok(Answer::Refused(fault.text(alloc)?)),
+        Err(DecodeError::OutOfMemory) => Err(AllocError),
+    }
+}
+
+fn answered(alloc: Global, word: &str, body: &[u8]) -> Result<Answer, AllocError> {
+    let table = definitions(alloc)?;
+    let Some(desc) = descriptor(alloc, word)? else {
+        return Ok(Answer::NoDescriptor);
+    };
+    match Json::read(alloc, body) {
+        Ok(json) => decoded(alloc, &table, &desc, &json),
+        Err(ReadError::Unreadable) => Ok(Answer::Refused(FaultKind::NotJson.text(alloc)?)),
+        Err(ReadError::OutOfMemory) => Err(AllocError),
+    }
+}
+
+/// The answer to the first word and to all of standard input.
+fn answer_input(rt: &HostRuntime) -> io::Result<Answer> {
+    let Some(word) = env::args(rt)?.nth(1) else {
+        return Ok(Answer::NoDescriptor);
+    };
+    let mut body = Vec::new(rt.alloc());
+    rt.stdin().read_to_end(&mut body)?;
+    Ok(answered(rt.alloc(), word.as_str(), &body)?)
+}
+
+/// Tells an answer, and gives its status.
+fn tell(rt: &HostRuntime, answer: &Answer) -> io::Result<u8> {
+    match answer {
+        Answer::Written(text) => {
+            println!(rt; "{text}")?;
+            Ok(0)
+        }
+        Answer::Refused(text) => {
+            eprintln!(rt; "{text}")?;
+            Ok(1)
+        }
+        Answer::NoDescriptor => {
+            eprintln!(rt; "value_bench list|folder")?;
+            Ok(2)
+        }
+    }
+}
+
+fn run(rt: &HostRuntime) -> io::Result<u8> {
+    let answer = answer_input(rt)?;
+    tell(rt, &answer)
+}
+
+fn main(rt: HostRuntime) -> ExitCode {
+    match run(&rt) {
+        Ok(status) => ExitCode::from(status),
+        Err(_) => ExitCode::from(3),
+    }
+}
