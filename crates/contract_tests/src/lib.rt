@@ -1,5 +1,5 @@
-//! Tests that cross crates: sessions of the sample API from words and input to output and status, and bodies from
-//! JSON texts to trees or faults.
+//! Tests that cross crates: sessions of the sample API from words and input to output and status, and bodies
+//! from JSON texts to trees or faults.
 #![tactic(auto)]
 
 #[cfg(test)]

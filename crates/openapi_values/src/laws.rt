@@ -14,7 +14,8 @@ ghost use Rattle.openapi_values.specs.Lookup.{definition};
 ghost use Rattle.openapi_values.specs.Operation.{operation_json};
 ghost use Rattle.openapi_values.specs.Smaller.{smaller_admits};
 
-/// With no step left nothing is admitted. One step asks a schema of the value, and of smaller values with all steps.
+/// With no step left nothing is admitted. One step asks a schema of the value, and of smaller values with all
+/// steps.
 pub fn admits_by_steps()
     ensures none { (doc : JsonValue) (room : ℕ) (json schema : JsonValue)
         → admits_within doc room json 0 schema ≡ false }

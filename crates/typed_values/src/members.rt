@@ -9,8 +9,8 @@ use crate::desc::Field;
 use schema_values::{Json, Member, Text, names_ascend};
 use std::alloc::{AllocError, Global};
 
-/// The members of an object, and whether they ascend by name, as those of a value that was read do. Where they
-/// ascend a name is looked up by halves, else from the first on.
+/// The members of an object, and whether they ascend by name, as those of a value that was read do. Where
+/// they ascend a name is looked up by halves, else from the first on.
 #[derive(Clone, Copy)]
 pub(crate) struct Members<'a> {
     pub items: &'a [Member],

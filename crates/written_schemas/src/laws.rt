@@ -20,7 +20,8 @@ ghost use Rattle.written_schemas.specs.Bodies.{TakesJson};
 ghost use Rattle.written_schemas.specs.Reached.{ReachesNoUntagged};
 ghost use Rattle.written_schemas.specs.Written.{IsWritten, AdmitsDenoted};
 
-/// The schema of a descriptor admits exactly the JSON values that denote a tree; so it does under a title or a description.
+/// The schema of a descriptor admits exactly the JSON values that denote a tree; so it does under a title or
+/// a description.
 pub fn schemas_agree()
     ensures plain { (doc : JsonValue) (table : List Entry) (desc : Descriptor) → IsWritten doc table desc
         → AdmitsDenoted doc (schema_json desc) table desc }
@@ -41,7 +42,8 @@ pub fn bodies_agree()
         ↔ ((tree : Value) × JsonDenotes table desc json tree) }
 {}
 
-/// Steps are never spent: more of them tell the same of a table that passes its checks, and admit the same in a document.
+/// Steps are never spent: more of them tell the same of a table that passes its checks, and admit the same in
+/// a document.
 pub fn steps_suffice()
     ensures told { (table : List Entry) (desc : Descriptor) → TablePasses table → DescPasses table desc
         → (json : JsonValue) (steps : ℕ) → steps_of_table table desc ≤ steps
@@ -52,7 +54,8 @@ pub fn steps_suffice()
         (room doc (schema_json desc)) json (room doc (schema_json desc)) (schema_json desc) }
 {}
 
-/// What is written for a value of a descriptor is sound JSON, denotes a value, and is admitted by the descriptor's schema; it denotes the very value where no untagged union is reached.
+/// What is written for a value of a descriptor is sound JSON, denotes a value, and is admitted by the
+/// descriptor's schema; it denotes the very value where no untagged union is reached.
 pub fn encodings_agree()
     ensures sound { (table : List Entry) (desc : Descriptor) (tree : Value) → TablePasses table
         → DescPasses table desc → Fits table desc tree → IsSound (json_of_tree table desc tree) }
