@@ -15,12 +15,10 @@ use Rattle.typed_values.specs.Checks.{DescPasses}
 use Rattle.typed_values.specs.SchemaTable.{schema_json_titled}
 use Rattle.openapi_values.specs.declared.document.OpenApi.{OpenApi}
 use Rattle.openapi_values.specs.declared.media.RequestBody.{RequestBody}
-use Rattle.schema_values.specs.Get.{get_of}
-use Rattle.openapi_values.specs.Admits.{Admits, body_schema, operation_at as listed_at}
+use Rattle.openapi_values.specs.Admits.{Admits, operation_at as listed_at}
 use Rattle.openapi_values.specs.Find.{value_at, operation_in}
-use Rattle.openapi_values.specs.Operation.{operation_json, request_body_json}
-use Rattle.openapi_values.proofs.Stands.{definition-stands, operation-stands, body-stands, schema-stands, bodies-admitted}
-use Rattle.written_schemas.specs.Counted.{IsCounted}
+use Rattle.openapi_values.specs.Operation.{operation_json}
+use Rattle.openapi_values.proofs.Stands.{definition-stands, bodies-admitted}
 use Rattle.written_schemas.specs.Reached.{Mentions, DefinesReached}
 use Rattle.written_schemas.specs.Written.{IsWritten}
 use Rattle.written_schemas.proofs.Whole.{titled_agrees}
@@ -34,7 +32,7 @@ use Rattle.api_description.specs.declared.api_extract.slot.Arg.TheVariants.{Tree
 use Rattle.api_description.specs.declared.api_extract.slot.Slot.{Slot}
 use Rattle.api_description.specs.declared.api_extract.slot.Slot.TheVariants.{TypedBody}
 use Rattle.api_description.specs.declared.endpoint.ApiEndpoint.{ApiEndpoint}
-use Rattle.api_description.specs.Agreement.{IsTaken, IsCountedTwice}
+use Rattle.api_description.specs.Agreement.{IsTaken}
 use Rattle.api_description.specs.Documents.{text_order, media, body_of, operation_of, is_among, roots_of_slot, roots_of_content, roots_of_error, roots_of, open_api_of, document_of}
 use Rattle.api_description.specs.Endpoints.{Meanings, shape_at, served_path, serves, endpoint_for}
 use Rattle.api_description.specs.Exchanges.{named_by}
@@ -46,7 +44,6 @@ use Rattle.api_description.proofs.Among.{among_joined}
 use Rattle.api_description.proofs.Characters.{trimmed-encoded}
 use Rattle.api_description.proofs.Components.{schema_found}
 use Rattle.api_description.proofs.Covered.{covered}
-use Rattle.api_description.proofs.DocumentParts.{schema_within}
 use Rattle.api_description.proofs.Listed.{HaveListedMethods, operation_listed, is_listed, accepted_methods}
 use Rattle.api_description.proofs.References.{mentioned}
 use Rattle.api_description.proofs.SoundReadings.{reading_sound}
@@ -72,7 +69,7 @@ one_given table body desc name slots e = (
     to_tree (OfTree tree ∷ arg ∷ args) h = absurd h.1
 
 module _ {X : Type 0} {F : X → Type 0} (m : Meanings X F) (e : ApiEndpoint X F) (title : List ℕ) (version : Parts)
-    (may : MayRegister m [] e) (held : holds e.versions version ≡ true) (counted : IsCountedTwice (document_of m (e ∷ []) title version))
+    (may : MayRegister m [] e) (held : holds e.versions version ≡ true)
     (desc : Desc) (name : List ℕ) (slots : (shape_at m e).slots ≡ TypedBody desc name ∷ []) where
   abbrev table : List Definition
   table = (shape_at m e).table
@@ -107,20 +104,11 @@ module _ {X : Type 0} {F : X → Type 0} (m : Meanings X F) (e : ApiEndpoint X F
   has_body = ap (body_of e.body_content_type) slots
 
   module _ (path method : List ℕ) (listed : operation_in open_api path method ≡ Some (operation_of m e)) where
-    enough_room : IsCounted doc schema
-    enough_room =
-        let stands : listed_at doc path method ≡ Some (operation_json (operation_of m e)) = operation-stands open_api path method ∙ ap (option_map operation_json) listed in
-        let its_body : get_of (codes "requestBody") (operation_json (operation_of m e)) ≡ Some (request_body_json (body_with e.body_content_type desc name)) =
-        body-stands (operation_of m e) ∙ ap (option_map request_body_json) has_body in
-        let its_schema : body_schema (codes "application/json") (request_body_json (body_with e.body_content_type desc name)) ≡ Some schema =
-        schema-stands (codes "application/json") (body_with e.body_content_type desc name) ∙ ap (option_map (λ m. m.schema)) (under_json e.body_content_type desc name) in
-        omega (arith, counted, schema_within doc path method (codes "application/json") _ _ schema stands its_body its_schema)
-
     -- the document admits a body exactly where it denotes a tree
     body_agrees : (body : List ℕ) → Admits doc path method (record { body = body }) ↔ ((tree : Tree) × BodyDenotes table desc body tree)
     body_agrees body =
         let admitted = bodies-admitted open_api path method (operation_of m e) (body_with e.body_content_type desc name) (record { schema = schema }) (record { body = body }) listed has_body (under_json e.body_content_type desc name) in
-        let denoted = λ (json : Json) (reads : Reads body json). titled_agrees doc table desc written name enough_room json (reading_sound body json reads) in (
+        let denoted = λ (json : Json) (reads : Reads body json). titled_agrees doc table desc written name json (reading_sound body json reads) in (
           λ a. let read = admitted.0 a in let tree = (denoted read.0 read.1).0 read.2 in (tree.0, (read.0, read.1, tree.1)),
           λ d. let (json, reads, denotes) = d.1 in admitted.1 (json, reads, (denoted json reads).1 (d.0, denotes)),
         )
@@ -152,12 +140,12 @@ module _ {X : Type 0} {F : X → Type 0} (m : Meanings X F) (title : List ℕ) (
     λ t. let there = t.1 in absurd (cc (sym none ∙ there)),
   )
 
-  named : (e : ApiEndpoint X F) → MayRegister m [] e → holds e.versions version ≡ true → HaveListedMethods m (e ∷ []) → IsCountedTwice (document_of m (e ∷ []) title version)
+  named : (e : ApiEndpoint X F) → MayRegister m [] e → holds e.versions version ≡ true → HaveListedMethods m (e ∷ [])
       → named_by request (e ∷ []) ≡ Some e → (slot : Slot) → (shape_at m e).slots ≡ slot ∷ [] → Agrees (e ∷ [])
-  named e may held known counted is (TypedBody desc name) slots =
+  named e may held known is (TypedBody desc name) slots =
       let listed : operation_in (open_api_of m (e ∷ []) title version) path method ≡ Some (operation_of m e) =
       operation_listed m version (e ∷ []) title path method known ∙ ap (option_map (operation_of m)) (same_named (e ∷ []) ∙ is) in
-      let admitted = body_agrees m e title version may held counted desc name slots path method listed body in
+      let admitted = body_agrees m e title version may held desc name slots path method listed body in
       let given = one_given (shape_at m e).table body desc name (shape_at m e).slots slots in (
         λ a. let args = given.1 (admitted.0 a) in (e, is, args.0, args.1),
         λ t.
@@ -166,14 +154,14 @@ module _ {X : Type 0} {F : X → Type 0} (m : Meanings X F) (title : List ℕ) (
       )
 
   -- one endpoint may be registered today
-  pub request_agrees : (es : List (ApiEndpoint X F)) → AreAccepted m [] es → IsCountedTwice (document_of m es title version) → Agrees es
-  request_agrees [] accepted counted = unnamed [] tt refl
-  request_agrees (e ∷ []) accepted counted = by_test (serves (parts_of request.version) method template e) refl
+  pub request_agrees : (es : List (ApiEndpoint X F)) → AreAccepted m [] es → Agrees es
+  request_agrees [] accepted = unnamed [] tt refl
+  request_agrees (e ∷ []) accepted = by_test (serves (parts_of request.version) method template e) refl
     where
       by_test : (b : Bool) → serves (parts_of request.version) method template e ≡ b → Agrees (e ∷ [])
       by_test true is =
           let at_template = (and_parts (bytes_eq e.method method) (bytes_eq (served_path e) template && holds e.versions (parts_of request.version)) is).1 in
           let held = ap (holds e.versions) (sym asked) ∙ (and_parts (bytes_eq (served_path e) template) (holds e.versions (parts_of request.version)) at_template).1 in
-          named e accepted.0 held (accepted_methods m [] (e ∷ []) accepted) counted (ap (λ (b : Bool). cond b (Some e) None) is) accepted.0.built.shape.body.0 accepted.0.built.shape.body.1
+          named e accepted.0 held (accepted_methods m [] (e ∷ []) accepted) (ap (λ (b : Bool). cond b (Some e) None) is) accepted.0.built.shape.body.0 accepted.0.built.shape.body.1
       by_test false is = unnamed (e ∷ []) (accepted_methods m [] (e ∷ []) accepted) (ap (λ (b : Bool). cond b (Some e) None) is)
-  request_agrees (e ∷ other ∷ es) accepted counted = let only = accepted.1.0.built.only in absurd (cc only)
+  request_agrees (e ∷ other ∷ es) accepted = let only = accepted.1.0.built.only in absurd (cc only)

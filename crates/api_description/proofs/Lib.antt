@@ -14,11 +14,9 @@ pub mod Listed
 mod Growing
 mod Covered
 mod Components
-mod DocumentParts
 mod SpelledTexts
 mod SpelledTokens
 mod SoundReadings
 pub mod Agreed
 pub mod Followed
-pub mod Printed
 pub mod CloneLemmas

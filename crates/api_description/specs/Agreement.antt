@@ -8,7 +8,6 @@ use Rattle.openapi_values.specs.Admits.{operation_at as listed_at, Admits}
 use Rattle.openapi_values.specs.Operation.{operation_json}
 use Rattle.semver.specs.Identifiers.{parts_of}
 use Rattle.semver.specs.Parse.{Parts}
-use Rattle.written_schemas.specs.Counted.{IsCounted}
 use Rattle.api_description.specs.declared.api_extract.request.RequestParts.{RequestParts}
 use Rattle.api_description.specs.declared.api_extract.slot.Arg.{Arg}
 use Rattle.api_description.specs.declared.endpoint.ApiEndpoint.{ApiEndpoint}
@@ -50,7 +49,3 @@ IsHandled (Err error) = ⊥
 -- a request with a valid id that is answered, so not lost for want of memory, is handled exactly where the document admits it
 abbrev pub FollowsDocument : Json → RequestParts → List ℕ → Result Exchange ExchangeError → Type 0
 FollowsDocument document request body outcome = HasId request → outcome ≢ Err OutOfMemory → IsHandled outcome ↔ IsAdmitted document request body
-
--- the JSON values of a document, counted twice, are fewer than 2^64-1
-abbrev pub IsCountedTwice : Json → Type 0
-IsCountedTwice document = IsCounted document document

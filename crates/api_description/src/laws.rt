@@ -8,7 +8,7 @@ ghost use Rattle.api_description.specs.declared.api_extract.request.RequestParts
 ghost use Rattle.api_description.specs.declared.api_extract.request.ServerConfig.{ServerConfig};
 ghost use Rattle.api_description.specs.declared.exchange.Exchange.{Exchange};
 ghost use Rattle.api_description.specs.declared.exchange.ExchangeError.{ExchangeError};
-ghost use Rattle.api_description.specs.Agreement.{FollowsDocument, IsAgreed, IsCountedTwice, IsListed};
+ghost use Rattle.api_description.specs.Agreement.{FollowsDocument, IsAgreed, IsListed};
 ghost use Rattle.api_description.specs.Documents.{document_of};
 ghost use Rattle.api_description.specs.Exchanges.{Answers};
 ghost use Rattle.api_description.specs.Registering.{AreAccepted};
@@ -22,30 +22,16 @@ impl ApiDescription {
     /// one of them takes. What the endpoints answer follows it: a request with a valid id that is answered is
     /// handled exactly where the document admits it.
     pub fn agrees(&self)
-        requires { AreAccepted
-            (boxed ⟦<dyn RouteHandler as RouteHandler>⟧) [] self.now.endpoints.items }
+        requires { AreAccepted (boxed ⟦<dyn RouteHandler as RouteHandler>⟧) [] self.now.endpoints.items }
         ensures listed { (title : List ℕ) (version : Parts)
-            → IsListed
-            (boxed ⟦<dyn RouteHandler as RouteHandler>⟧) version self.now.endpoints.items
-            (document_of
-            (boxed ⟦<dyn RouteHandler as RouteHandler>⟧) self.now.endpoints.items
-            title version) }
+            → IsListed (boxed ⟦<dyn RouteHandler as RouteHandler>⟧) version self.now.endpoints.items
+            (document_of (boxed ⟦<dyn RouteHandler as RouteHandler>⟧) self.now.endpoints.items title version) }
         ensures agreed { (title : List ℕ) (version : Parts)
-            → IsCountedTwice (document_of
-            (boxed ⟦<dyn RouteHandler as RouteHandler>⟧) self.now.endpoints.items
-            title version)
-            → IsAgreed
-            (boxed ⟦<dyn RouteHandler as RouteHandler>⟧) version self.now.endpoints.items
-            (document_of
-            (boxed ⟦<dyn RouteHandler as RouteHandler>⟧) self.now.endpoints.items
-            title version) }
+            → IsAgreed (boxed ⟦<dyn RouteHandler as RouteHandler>⟧) version self.now.endpoints.items
+            (document_of (boxed ⟦<dyn RouteHandler as RouteHandler>⟧) self.now.endpoints.items title version) }
         ensures followed { (title : List ℕ) (config : ServerConfig) (request : RequestParts) (body : List ℕ)
             (before : Tables) (outcome : Result Exchange ExchangeError) (after : Tables)
-            → IsCountedTwice (document_of
-            (boxed ⟦<dyn RouteHandler as RouteHandler>⟧) self.now.endpoints.items
-            title (parts_of request.version))
-            → Answers
-            (boxed ⟦<dyn RouteHandler as RouteHandler>⟧) config self.now.endpoints.items
+            → Answers (boxed ⟦<dyn RouteHandler as RouteHandler>⟧) config self.now.endpoints.items
             request body before outcome after
             → FollowsDocument (document_of
             (boxed ⟦<dyn RouteHandler as RouteHandler>⟧) self.now.endpoints.items

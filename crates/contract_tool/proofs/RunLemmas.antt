@@ -1,5 +1,5 @@
 -- How a run ends, by how its session ends.
-use Rattle.std.proofs.Common.{◌≡◌, ◌≢◌, ◌+◌, ℕ, List, [], ◌∷◌, ◌++◌, length, ◌<◌, Option, take, ◌⊎◌, Result, Err, sym, ap, ◌∙◌, inl, inr, subst, true, false, refl}
+use Rattle.std.proofs.Common.{◌≡◌, ◌≢◌, ◌+◌, ℕ, List, [], ◌∷◌, ◌++◌, Option, take, ◌⊎◌, Result, Err, sym, ap, ◌∙◌, inl, inr, subst, true, false, refl}
 use Rattle.line_session.specs.Lines.{HasLongLine, IsTooMuch, PassesNoLimit}
 use Rattle.line_session.specs.Session.{IsAnswered}
 use Rattle.line_session.specs.Status.{IsServed}
@@ -14,7 +14,7 @@ use Rattle.api_description.specs.declared.exchange.ExchangeError.TheVariants.{Ou
 use Rattle.api_description.specs.declared.register.ApiDescriptionRegisterError.{ApiDescriptionRegisterError}
 use Rattle.api_description.specs.declared.register.RegisterCause.{RegisterCause}
 use Rattle.api_description.specs.declared.register.RegisterCause.TheVariants.{NotBuilt, BadTemplate, UnsupportedSchema}
-use Rattle.api_description.specs.Agreement.{IsAgreed, IsCountedTwice}
+use Rattle.api_description.specs.Agreement.{IsAgreed}
 use Rattle.api_description.specs.Documents.{document_of}
 use Rattle.api_description.specs.Endpoints.{Meanings}
 use Rattle.api_description.specs.Registering.{AreAccepted, IsFirstCause, MayRegister, SomeRefused}
@@ -32,9 +32,8 @@ use Rattle.contract_tool.specs.Words.{AskForSession}
 use Rattle.api_description.proofs.Agreed.{request_agrees}
 use Rattle.api_description.proofs.Followed.{answers_follow}
 use Rattle.api_description.proofs.Listed.{is_listed, accepted_methods}
-use Rattle.api_description.proofs.Printed.{printed_counted}
 use Rattle.contract_tool.specs.Ends.{CallsFor, FailedToRead, FailedToWrite, IsEnded, IsSessionUpTo, Outside}
-use Rattle.contract_tool.specs.Sessions.{IsOpened, front_of, status_of}
+use Rattle.contract_tool.specs.Sessions.{IsOpened, status_of}
 
 abbrev pub end_of : ToolStatus → SessionEnd
 end_of Done = ended.Done
@@ -96,13 +95,10 @@ module _ {X : Type 0} {F : X → Type 0} (m : Meanings X F) where
   none-refused before (e ∷ es) error accepted (inl by) = no-cause before e error.cause accepted.0 by.cause
   none-refused before (e ∷ es) error accepted (inr later) = none-refused (before ++ e ∷ []) es error accepted.1 later.1
 
-  -- a session of accepted endpoints whose front stands in memory is opened
-  pub opened : (config : ToolConfig) (version : Parts) (es : List (ApiEndpoint X F)) (words : List (String Global)) (front : List ℕ)
-      → AskForSession words version → AreAccepted m [] es → front ≡ front_of m config version es → length front < 18446744073709551616 → IsOpened m config version es words
-  opened config version es words front asked accepted is fits =
-      let counted : IsCountedTwice (document_of m es config.title version) =
-      printed_counted (document_of m es config.title version) (10 ∷ []) (subst (λ (f : List ℕ). length f < 18446744073709551616) is fits) in
-      let agreed : IsAgreed m version es (document_of m es config.title version) = λ request body at. request_agrees m config.title version request body at es accepted counted in
+  -- a session of accepted endpoints is opened
+  pub opened : (config : ToolConfig) (version : Parts) (es : List (ApiEndpoint X F)) (words : List (String Global)) → AskForSession words version → AreAccepted m [] es → IsOpened m config version es words
+  opened config version es words asked accepted =
+      let agreed : IsAgreed m version es (document_of m es config.title version) = λ request body at. request_agrees m config.title version request body at es accepted in
       record {
         asked = asked;
         accepted = accepted;

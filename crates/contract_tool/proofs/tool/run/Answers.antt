@@ -24,7 +24,7 @@ returns-clause-session g c is all written left taken =
     let front = rw c.in-Ok-of_endpoints.ensures.items at (c.as_slice.ensures ∙ c.in-Ok-front.ensures) in
     record {
       version = parts_of c.in-Ok.version;
-      opened = opened _ c.args.config.now (parts_of c.in-Ok.version) c.args.endpoints.items c.args.words.now _ c.in-Ok.ensures.session c.in-Ok-of_endpoints.ensures.accepted front c.as_slice.type_inv.0;
+      opened = opened _ c.args.config.now (parts_of c.in-Ok.version) c.args.endpoints.items c.args.words.now c.in-Ok.ensures.session c.in-Ok-of_endpoints.ensures.accepted;
       answered = answered-same _ c.args.config.now (parts_of c.in-Ok.version) _ c.args.endpoints.items _ _ all written _ _ _ _ c.in-Ok-of_endpoints.ensures.items front (c.serve.ensures.session end all written left taken);
     }
 
@@ -33,7 +33,7 @@ returns-clause-ended g c =
     let front = rw c.in-Ok-of_endpoints.ensures.items at (c.as_slice.ensures ∙ c.in-Ok-front.ensures) in
     is-ended _ c.args.config.now c.args.endpoints.items c.args.words.now _ _ _ _ c.serve.result c.status_of.result c.status_of.ensures (record {
       version = parts_of c.in-Ok.version;
-      opened = opened _ c.args.config.now (parts_of c.in-Ok.version) c.args.endpoints.items c.args.words.now _ c.in-Ok.ensures.session c.in-Ok-of_endpoints.ensures.accepted front c.as_slice.type_inv.0;
+      opened = opened _ c.args.config.now (parts_of c.in-Ok.version) c.args.endpoints.items c.args.words.now c.in-Ok.ensures.session c.in-Ok-of_endpoints.ensures.accepted;
       served = served-same _ c.args.config.now (parts_of c.in-Ok.version) _ c.args.endpoints.items _ _ _ _ _ _ _ _ _ _ _ c.in-Ok-of_endpoints.ensures.items front c.serve.ensures.served;
       limits = c.serve.ensures.limits;
     }) c.serve.ensures.read_fault c.serve.ensures.write_fault

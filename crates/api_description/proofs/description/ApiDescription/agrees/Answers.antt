@@ -12,12 +12,12 @@ returns-clause-listed g c = λ title version.
     (accepted_methods (λ e. goal.RouteHandler-dyn g (e.handler.vtable, e.handler.value)) [] c.args.self.now.endpoints.items c.requires)
 
 pub returns-clause-agreed : goal.returns-clause-agreed
-returns-clause-agreed g c = λ title version counted request body asked.
-    request_agrees (λ e. goal.RouteHandler-dyn g (e.handler.vtable, e.handler.value)) title version request body asked c.args.self.now.endpoints.items c.requires counted
+returns-clause-agreed g c = λ title version request body asked.
+    request_agrees (λ e. goal.RouteHandler-dyn g (e.handler.vtable, e.handler.value)) title version request body asked c.args.self.now.endpoints.items c.requires
 
 pub returns-clause-followed : goal.returns-clause-followed
-returns-clause-followed g c = λ title config request body before outcome after counted.
+returns-clause-followed g c = λ title config request body before outcome after.
     answers_follow (λ e. goal.RouteHandler-dyn g (e.handler.vtable, e.handler.value)) config (parts_of request.version) c.args.self.now.endpoints.items
     (document_of (λ e. goal.RouteHandler-dyn g (e.handler.vtable, e.handler.value)) c.args.self.now.endpoints.items title (parts_of request.version))
-    (λ other bytes asked. request_agrees (λ e. goal.RouteHandler-dyn g (e.handler.vtable, e.handler.value)) title (parts_of request.version) other bytes asked c.args.self.now.endpoints.items c.requires counted)
+    (λ other bytes asked. request_agrees (λ e. goal.RouteHandler-dyn g (e.handler.vtable, e.handler.value)) title (parts_of request.version) other bytes asked c.args.self.now.endpoints.items c.requires)
     request body refl before after outcome
