@@ -8,6 +8,7 @@ use Rattle.std.proofs.lemmas.Bool.{and_parts, or_left}
 use Rattle.std.proofs.lemmas.List.Folds.{list_any-append}
 use Rattle.schema_values.specs.declared.json_value.Json.{Json}
 use Rattle.schema_values.specs.Reading.{Reads}
+use Rattle.schema_values.proofs.SoundReadings.{reading_sound}
 use Rattle.typed_values.specs.declared.desc.Desc.{Desc}
 use Rattle.typed_values.specs.declared.table.Definition.{Definition}
 use Rattle.typed_values.specs.declared.tree.Tree.{Tree}
@@ -46,7 +47,6 @@ use Rattle.api_description.proofs.Components.{schema_found}
 use Rattle.api_description.proofs.Covered.{covered}
 use Rattle.api_description.proofs.Listed.{HaveListedMethods, operation_listed, is_listed, accepted_methods}
 use Rattle.api_description.proofs.References.{mentioned}
-use Rattle.api_description.proofs.SoundReadings.{reading_sound}
 
 -- a body of one descriptor, under its media type
 abbrev body_with : ApiEndpointBodyContentType → Desc → List ℕ → RequestBody

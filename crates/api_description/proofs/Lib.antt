@@ -14,9 +14,6 @@ pub mod Listed
 mod Growing
 mod Covered
 mod Components
-mod SpelledTexts
-mod SpelledTokens
-mod SoundReadings
 pub mod Agreed
 pub mod Followed
 pub mod CloneLemmas
