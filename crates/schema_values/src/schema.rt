@@ -16,7 +16,7 @@ pub enum Schema {
     Object(Boxed<SchemaObject>),
 }
 
-/// The parts of a schema, each of which may be absent. A reference has only annotations beside it.
+/// The parts of a schema, each of which may be absent. Beside a reference `typed_values` writes no other part.
 #[derive(Drop)]
 #[cycle(schema)]
 pub struct SchemaObject {
@@ -96,7 +96,8 @@ pub enum Items {
     One(Schema),
 }
 
-/// The members of an object. Properties and required names stand in ascending order, each name once.
+/// The members of an object. Properties and required names are written in the order in which they stand;
+/// `typed_values` puts them in ascending order.
 #[derive(Drop)]
 #[cycle(schema)]
 pub struct ObjectParts {

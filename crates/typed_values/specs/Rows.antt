@@ -1,4 +1,4 @@
--- What lists and structs denote with no count of steps: on a sound table these equations are all that is to be known.
+-- What lists and structs denote on a sound table, with no count of steps.
 use Rattle.std.specs.Prelude.{ℕ, Bool, List, Option, Some, None, Contains}
 use Rattle.std.specs.declared.result.Result.{Result}
 use Rattle.schema_values.specs.declared.json_value.Json.{Json}

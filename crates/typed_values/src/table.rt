@@ -118,6 +118,7 @@ impl DescTable {
         self.definitions.len()
     }
 
+    /// Whether there is no definition.
     pub fn is_empty(&self) -> bool
         ensures { IsTrue result ↔ (length self.now ≡ 0) }
     {
