@@ -40,8 +40,14 @@ while [ "$refused" -le "$(tail -n 1 "$work/taken")" ]; do
     REFUSED=$refused LD_PRELOAD=$work/refuse.so "$program" session 1.0.0 <"$work/input" >"$work/output" 2>/dev/null
     status=$?
     bytes=$(wc -c <"$work/output")
-    cmp -s -n "$bytes" "$work/output" "$work/whole" || echo "allocation $refused: not a beginning"
+    whole=no
+    cmp -s "$work/output" "$work/whole" && whole=yes
+    if ! cmp -s -n "$bytes" "$work/output" "$work/whole" || { [ "$status" -ne 7 ] && [ "$status$whole" != 0yes ]; }; then
+        echo "allocation $refused: status $status, $bytes bytes"
+        wrong=1
+    fi
     echo "status $status, $bytes bytes" >>"$work/ends"
     refused=$((refused + 1))
 done
 sort "$work/ends" | uniq -c
+exit "${wrong:-0}"
