@@ -1,7 +1,9 @@
 #!/bin/sh
 # Refuses each allocation of the first line's session in turn, in the built program. Prints how often the program ended
-# with which status after how many bytes of output, and each output that is no beginning of the whole one. Wants a C
-# compiler and the GNU C library.
+# with which status after how many bytes of output. Ends with status 1 where an output is no beginning of the whole one,
+# or a status is neither 7 nor, with the whole output, 0: one allocation may be refused so, since the words are collected
+# in a `Vec`, which asks for less where the room that it asks for first is refused. Wants a C compiler and the GNU C
+# library.
 here=$(cd "$(dirname "$0")/.." && pwd) || exit 1
 program=$here/crates/contract_tool_cli/out/contract_tool_cli
 work=$(mktemp -d) || exit 1
