@@ -59,9 +59,9 @@ module _ {X : Type 0} {F : X → Type 0} (m : Meanings X F) (config : ServerConf
 
   -- a refused request is not taken
   refused_not_taken : (fault : Fault) (response : Response) → NamedAnswers m config endpoints request body before (Ok (Refused fault response)) after → IsTaken m endpoints request body → ⊥
-  refused_not_taken fault response (e, named, refusal, kept) taken =
+  refused_not_taken fault response (e, named, answered) taken =
       let given = taken_by e named taken in
-      given_or_refused (shape_at m e).table body (shape_at m e).slots fault refusal.message given.0 refusal.refused given.1
+      given_or_refused (shape_at m e).table body (shape_at m e).slots fault answered.0.message given.0 answered.0.refused given.1
 
   -- a request with a valid id that is answered is handled exactly where an endpoint takes it
   pub answers_taken : (outcome : Result Exchange ExchangeError) → Answers m config endpoints request body before outcome after
