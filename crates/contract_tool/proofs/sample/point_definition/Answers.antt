@@ -3,7 +3,7 @@ use Rattle.contract_tool.proofs.sample.point_definition.Goals as goal
 -- each push adds a field behind the earlier ones
 pub returns : goal.returns
 returns c = rw (
-  c.in_ok-ascii.ensures,
+  c.in_ok-from_ascii.ensures,
   c.in_ok-push-3.ensures.ok,
   c.in_ok-push-2.ensures.ok,
   c.in_ok-push.ensures.ok,
