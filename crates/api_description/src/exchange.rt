@@ -77,8 +77,8 @@ impl ApiDescription {
         ensures answers { Answers
             (boxed ⟦<dyn RouteHandler as RouteHandler>⟧) config.now self.now.endpoints.items
             request.now body.now store.old result store.new }
-        // With a valid id, and where memory lasts, a request is handled exactly where it denotes arguments of an
-        // endpoint that it names.
+        // With a valid id, and where memory lasts, a request is handled exactly where it denotes arguments of
+        // an endpoint that it names.
         ensures handled { HasId request.now → result ≢ Err ExchangeError.OutOfMemory → IsHandled result
             ↔ IsTaken (boxed ⟦<dyn RouteHandler as RouteHandler>⟧) self.now.endpoints.items request.now body.now }
     {

@@ -126,6 +126,9 @@ shown = ind-Desc Shown (λ f. Shown f.desc) (λ x y is.
 
 -- ---- the laws
 
+pub written_plain : (d : Desc) → schema_json None (schema_value d) ≡ table.schema_json d
+written_plain d = written_so _ _ (shown d)
+
 pub written_described : (description : Option (List ℕ)) (d : Desc) → schema_json None (object_of (with_description description (schema_parts d))) ≡ schema_json_described description d
 written_described description d = written_so _ _ (described_shows description (schema_parts d) (drawn d) (shown d))
 

@@ -1,4 +1,4 @@
-ghost use Rattle.std.specs.Prelude.{◌≡◌, ◌↔◌, ℕ, ◌≤◌, List, Option};
+ghost use Rattle.std.specs.Prelude.{◌≡◌, ◌≢◌, ◌↔◌, ℕ, ◌≤◌, List, Option, Some, None};
 ghost use Rattle.schema_values.specs.declared.json_value.Json.{Json as JsonValue};
 ghost use Rattle.schema_values.specs.Reading.{Reads};
 ghost use Rattle.schema_values.specs.Sound.{IsSound};
@@ -7,8 +7,11 @@ ghost use Rattle.openapi_values.specs.declared.request.WireRequest.{WireRequest 
 ghost use Rattle.openapi_values.specs.Admits.{Admits};
 ghost use Rattle.openapi_values.specs.Document.{open_api_json};
 ghost use Rattle.openapi_values.specs.JsonAdmits.{admits_within, JsonAdmits};
+ghost use Rattle.openapi_values.specs.Refusal.{refusal_of};
 ghost use Rattle.openapi_values.specs.Room.{room};
+ghost use Rattle.openapi_values.specs.SchemaJson.{schema_json as json_written};
 ghost use Rattle.typed_values.specs.declared.desc.Desc.{Desc as Descriptor};
+ghost use Rattle.typed_values.specs.declared.desc.Desc.TheVariants.{Ref};
 ghost use Rattle.typed_values.specs.declared.table.Definition.{Definition as Entry};
 ghost use Rattle.typed_values.specs.declared.tree.Tree.{Tree as Value};
 ghost use Rattle.typed_values.specs.Checks.{TablePasses, DescPasses};
@@ -16,6 +19,7 @@ ghost use Rattle.typed_values.specs.Denotes.{room as steps_of_table, told, told_
 ghost use Rattle.typed_values.specs.Encoding.{json_of_tree};
 ghost use Rattle.typed_values.specs.Fits.{Fits};
 ghost use Rattle.typed_values.specs.SchemaTable.{schema_json, schema_json_titled, schema_json_described};
+ghost use Rattle.typed_values.specs.Schemas.{schema_value, in_header};
 ghost use Rattle.written_schemas.specs.Bodies.{TakesJson};
 ghost use Rattle.written_schemas.specs.Reached.{ReachesNoUntagged};
 ghost use Rattle.written_schemas.specs.Written.{IsWritten, AdmitsDenoted};
@@ -68,4 +72,20 @@ pub fn encodings_agree()
     ensures again { (table : List Entry) (desc : Descriptor) (tree : Value) → TablePasses table
         → DescPasses table desc → Fits table desc tree → ReachesNoUntagged table desc
         → JsonDenotes table desc (json_of_tree table desc tree) tree }
+{}
+
+/// The schema of a descriptor is never refused. It is written as the table of schemas has it, also under a
+/// title where the descriptor is no reference; so is the schema that stands in a header.
+pub fn schemas_written()
+    ensures accepted { (desc : Descriptor) → refusal_of (schema_value desc) ≡ None }
+    ensures plain { (desc : Descriptor) → json_written None (schema_value desc) ≡ schema_json desc }
+    ensures titled { (desc : Descriptor) (name : List ℕ) → ((other : List ℕ) → desc ≢ Ref other)
+        → json_written (Some name) (schema_value desc) ≡ schema_json_titled name desc }
+    ensures header_accepted { (desc : Descriptor) → refusal_of (schema_value (in_header desc)) ≡ None }
+    ensures header_plain { (desc : Descriptor) → json_written None (schema_value (in_header desc))
+        ≡ schema_json (in_header desc) }
+    ensures header_titled { (desc : Descriptor) (name : List ℕ)
+        → ((other : List ℕ) → in_header desc ≢ Ref other)
+        → json_written (Some name) (schema_value (in_header desc))
+        ≡ schema_json_titled name (in_header desc) }
 {}
