@@ -3,7 +3,7 @@
 /// A body and what it is told as.
 type Row = (&'static str, &'static str);
 
-pub const ROWS: [Row; 112] = [
+pub const ROWS: [Row; 113] = [
     // What stands for the whole.
     (r#"{"on":true}"#, "(true - - - - - - - -)"),
     (" {\n\t\"on\" : false\r\n} ", "(false - - - - - - - -)"),
@@ -21,6 +21,7 @@ pub const ROWS: [Row; 112] = [
     (r#"{"on":true,}"#, "not JSON"),
     (r#"{"on":true,"limit":01}"#, "not JSON"),
     (r#"{"on":true,"limit":1.0}"#, "not JSON"),
+    (r#"{"on":true,"limit":-0}"#, "not JSON"),
     (r#"{"on":true,"limit":1e2}"#, "not JSON"),
     (r#"{"on":true,"limit":18446744073709551616}"#, "not JSON"),
     (r#"{"on":true,"limit":-9223372036854775809}"#, "not JSON"),
