@@ -1,7 +1,9 @@
 #!/bin/sh
 # Refuses each allocation of the first line's session in turn, in the built program. Prints how often the program ended
-# with which status after how many bytes of output, and each output that is no beginning of the whole one. Wants a C
-# compiler and the GNU C library.
+# with which status after how many bytes of output. Ends with status 1 where an output is no beginning of the whole one,
+# or a status is neither 7 nor, with the whole output, 0: one allocation may be refused so, since the words are collected
+# in a `Vec`, which asks for less where the room that it asks for first is refused. Wants a C compiler and the GNU C
+# library.
 here=$(cd "$(dirname "$0")/.." && pwd) || exit 1
 program=$here/crates/contract_tool_cli/out/contract_tool_cli
 work=$(mktemp -d) || exit 1
@@ -40,8 +42,14 @@ while [ "$refused" -le "$(tail -n 1 "$work/taken")" ]; do
     REFUSED=$refused LD_PRELOAD=$work/refuse.so "$program" session 1.0.0 <"$work/input" >"$work/output" 2>/dev/null
     status=$?
     bytes=$(wc -c <"$work/output")
-    cmp -s -n "$bytes" "$work/output" "$work/whole" || echo "allocation $refused: not a beginning"
+    whole=no
+    cmp -s "$work/output" "$work/whole" && whole=yes
+    if ! cmp -s -n "$bytes" "$work/output" "$work/whole" || { [ "$status" -ne 7 ] && [ "$status$whole" != 0yes ]; }; then
+        echo "allocation $refused: status $status, $bytes bytes"
+        wrong=1
+    fi
     echo "status $status, $bytes bytes" >>"$work/ends"
     refused=$((refused + 1))
 done
 sort "$work/ends" | uniq -c
+exit "${wrong:-0}"

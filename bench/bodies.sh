@@ -14,7 +14,7 @@ points() {
     awk -v bytes="$1" 'BEGIN {
         printf "["
         for (written = 0; written < bytes; written += length(point)) {
-            point = sprintf("%s{\"label\":\"p%d\",\"x\":%d,\"y\":-%d}", written ? "," : "", written, written, written)
+            point = sprintf("%s{\"label\":\"p%d\",\"x\":%d,\"y\":-1}", written ? "," : "", written, written)
             printf "%s", point
         }
         print "]"
@@ -87,7 +87,7 @@ if [ ! -x "$program" ]; then
     cat "$work/log" >&2
     exit 1
 fi
-measure 'a list of points, bytes' list points 1000000 2000000
-measure 'chains of folders, levels' folder chains 60 120
+measure 'points, bytes' list points 1000000 2000000
+measure 'folders, levels' folder chains 60 120
 measure 'members passed over' folder folder_with "$members" $((members * 2))
 measure 'members denied' list point_with "$members" $((members * 2))

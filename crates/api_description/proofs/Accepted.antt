@@ -1,13 +1,17 @@
 -- Endpoints that are accepted one after the other.
-use Rattle.std.proofs.Common.{◌≡◌, ℕ, ◌<◌, Bool, true, false, List, [], ◌∷◌, ◌++◌, Some, length, take, drop, get_or, suc, subst, sym, ap, ◌∙◌, append_assoc, inl, inr}
-use Rattle.std.specs.Prelude.{if◌then◌else◌}
+use Rattle.std.proofs.Common.{◌≡◌, ℕ, ◌<◌, Bool, true, false, List, [], ◌∷◌, ◌++◌, Some, length, take, drop, get_or, suc, subst, sym, ap, ◌∙◌, append_assoc, inl, inr, refl, Result, Ok, Err}
+use Rattle.std.specs.Prelude.{if◌then◌else◌, IsOkUnless}
 use Rattle.std.proofs.lemmas.List.{append-nil, take-append-drop}
 use Rattle.std.proofs.Math.Seq.{drop-cons}
 use Rattle.semver.specs.Parse.{Parts}
 use Rattle.api_description.specs.declared.endpoint.ApiEndpoint.{ApiEndpoint}
+use Rattle.api_description.specs.declared.description.RegisterError.{RegisterError}
+use Rattle.api_description.specs.declared.description.RegisterError.TheVariants.{Refused, OutOfMemory}
 use Rattle.api_description.specs.declared.register.ApiDescriptionRegisterError.{ApiDescriptionRegisterError}
+use Rattle.api_description.specs.declared.register.RegisterCause.{RegisterCause}
+use Rattle.api_description.specs.declared.register.RegisterCause.TheVariants.{NotBuilt, BadTemplate, UnsupportedSchema}
 use Rattle.api_description.specs.Endpoints.{Meanings, shape_at, serves, endpoint_for}
-use Rattle.api_description.specs.Registering.{AreAccepted, RefusedBy, SomeRefused}
+use Rattle.api_description.specs.Registering.{AreAccepted, IsFirstCause, MayRegister, RefusedBy, SomeRefused}
 use Rattle.api_description.specs.Replies.{ShapePasses}
 
 -- a list at the item behind a front of it
@@ -38,3 +42,29 @@ module _ {X : Type 0} {F : X → Type 0} (m : Meanings X F) where
         | true ↦ λ is. subst (λ (y : ApiEndpoint X F). ShapePasses (shape_at m y)) (cc is) accepted.0.passes
         | false ↦ λ is. found_passes version method path (before ++ x ∷ []) es e accepted.1 is
       ] found
+
+  -- no cause stands against an endpoint that may be registered
+  no-cause : (before : List (ApiEndpoint X F)) (e : ApiEndpoint X F) (cause : RegisterCause) → MayRegister m before e → IsFirstCause m before e cause → ⊥
+  no-cause before e NotBuilt may first = first may.built
+  no-cause before e BadTemplate may first = let wrong : true ≡ false = sym may.template ∙ first.1 in cc
+  no-cause before e UnsupportedSchema may first = first.2 may.passes
+
+  -- accepted endpoints are not refused
+  pub none-refused : (before es : List (ApiEndpoint X F)) (error : ApiDescriptionRegisterError) → AreAccepted m before es → SomeRefused m before es error → ⊥
+  none-refused before [] error accepted refused = refused
+  none-refused before (e ∷ es) error accepted (inl by) = no-cause before e error.cause accepted.0 by.cause
+  none-refused before (e ∷ es) error accepted (inr later) = none-refused (before ++ e ∷ []) es error accepted.1 later.1
+
+  -- an endpoint that may be registered is taken, unless memory runs out
+  pub taken-or-memory : {T : Type 0} (before : List (ApiEndpoint X F)) (e : ApiEndpoint X F) (result : Result T RegisterError)
+      → ((error : ApiDescriptionRegisterError) → result ≡ Err (Refused error) → RefusedBy m before e error) → MayRegister m before e → IsOkUnless result OutOfMemory
+  taken-or-memory before e (Ok x) refused may = tt
+  taken-or-memory before e (Err (Refused error)) refused may = absurd (no-cause before e error.cause may (refused error refl).cause)
+  taken-or-memory before e (Err OutOfMemory) refused may = refl
+
+  -- and so are endpoints that are accepted
+  pub all-or-memory : {T : Type 0} (es : List (ApiEndpoint X F)) (result : Result T RegisterError)
+      → ((error : ApiDescriptionRegisterError) → result ≡ Err (Refused error) → SomeRefused m [] es error) → AreAccepted m [] es → IsOkUnless result OutOfMemory
+  all-or-memory es (Ok x) refused accepted = tt
+  all-or-memory es (Err (Refused error)) refused accepted = absurd (none-refused [] es error accepted (refused error refl))
+  all-or-memory es (Err OutOfMemory) refused accepted = refl

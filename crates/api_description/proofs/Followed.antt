@@ -1,5 +1,5 @@
 -- What endpoints answer follows a document that agrees with them.
-use Rattle.std.proofs.Common.{◌≡◌, ℕ, List, [], ◌∷◌, ◌++◌, Some, None, Ok, Err, inl, inr, refl, sym, ap, ◌∙◌, subst}
+use Rattle.std.proofs.Common.{◌≡◌, ◌≢◌, ◌↔◌, ℕ, List, [], ◌∷◌, ◌++◌, Some, None, Ok, Err, inl, inr, refl, sym, ap, ◌∙◌, subst}
 use Rattle.std.specs.declared.result.Result.{Result}
 use Rattle.schema_values.specs.declared.json_value.Json.{Json}
 use Rattle.semver.specs.Identifiers.{parts_of}
@@ -21,9 +21,9 @@ use Rattle.api_description.specs.declared.exchange.Exchange.TheVariants.{Handled
 use Rattle.api_description.specs.declared.exchange.ExchangeError.{ExchangeError}
 use Rattle.api_description.specs.declared.exchange.ExchangeError.TheVariants.{BadRequestId, NoSuchOperation, OutOfMemory}
 use Rattle.api_description.specs.declared.http_status.error.Response.{Response}
-use Rattle.api_description.specs.Agreement.{IsAdmitted, IsAgreed, IsTaken, FollowsDocument}
+use Rattle.api_description.specs.Agreement.{IsAgreed, IsHandled, IsTaken, FollowsDocument}
 use Rattle.api_description.specs.Endpoints.{Meanings, shape_at}
-use Rattle.api_description.specs.Exchanges.{Answers, NamedAnswers, named_by}
+use Rattle.api_description.specs.Exchanges.{Answers, HasId, NamedAnswers, named_by}
 use Rattle.api_description.specs.Requests.{ArgsDenoted, BodyDenotes, BodyRefused, FirstRefused, SlotRefused}
 use Rattle.api_description.specs.Stores.{Tables}
 
@@ -49,30 +49,36 @@ module _ (table : List Definition) (body : List ℕ) where
   given_or_refused slots fault message args first given =
       none_given first.before first.slot first.behind fault message args first.refused (subst (λ (s : List Slot). ArgsDenoted table body s args) first.place given)
 
-module _ {X : Type 0} {F : X → Type 0} (m : Meanings X F) (config : ServerConfig) (version : Parts) (endpoints : List (ApiEndpoint X F)) (document : Json)
-    (agreed : IsAgreed m version endpoints document) (request : RequestParts) (body : List ℕ) (asked : parts_of request.version ≡ version) (before after : Tables) where
+module _ {X : Type 0} {F : X → Type 0} (m : Meanings X F) (config : ServerConfig) (endpoints : List (ApiEndpoint X F))
+    (request : RequestParts) (body : List ℕ) (before after : Tables) where
   -- a request that names an endpoint is taken by that one
   taken_by : (e : ApiEndpoint X F) → named_by request endpoints ≡ Some e → IsTaken m endpoints request body → (args : List Arg) × ArgsDenoted (shape_at m e).table body (shape_at m e).slots args
   taken_by e named taken =
       let same : taken.0 ≡ e = let there = taken.1 in cc (sym there ∙ named) in
       subst (λ (x : ApiEndpoint X F). (args : List Arg) × ArgsDenoted (shape_at m x).table body (shape_at m x).slots args) same (taken.2, taken.3)
 
-  -- a refused request is not admitted
-  refused_not_admitted : (fault : Fault) (response : Response) → NamedAnswers m config endpoints request body before (Ok (Refused fault response)) after → IsAdmitted document request body → ⊥
-  refused_not_admitted fault response (e, named, refusal, kept) admitted =
-      let given = taken_by e named ((agreed request body asked).0 admitted) in
-      given_or_refused (shape_at m e).table body (shape_at m e).slots fault refusal.message given.0 refusal.refused given.1
+  -- a refused request is not taken
+  refused_not_taken : (fault : Fault) (response : Response) → NamedAnswers m config endpoints request body before (Ok (Refused fault response)) after → IsTaken m endpoints request body → ⊥
+  refused_not_taken fault response (e, named, answered) taken =
+      let given = taken_by e named taken in
+      given_or_refused (shape_at m e).table body (shape_at m e).slots fault answered.0.message given.0 answered.0.refused given.1
 
-  -- a request that names no endpoint is not admitted
-  unnamed_not_admitted : named_by request endpoints ≡ None → IsAdmitted document request body → ⊥
-  unnamed_not_admitted none admitted =
-      let named = ((agreed request body asked).0 admitted).1 in
-      absurd (cc (sym none ∙ named))
+  -- a request with a valid id that is answered is handled exactly where an endpoint takes it
+  pub answers_taken : (outcome : Result Exchange ExchangeError) → Answers m config endpoints request body before outcome after
+      → HasId request → outcome ≢ Err OutOfMemory → IsHandled outcome ↔ IsTaken m endpoints request body
+  answers_taken (Ok (Handled args reply response)) answers id told = (λ handled. (answers.1.0, answers.1.1, args, answers.1.2.0.denoted), λ taken. tt)
+  answers_taken (Ok (Refused fault response)) answers id told = (λ handled. absurd handled, refused_not_taken fault response answers.1)
+  answers_taken (Err NoSuchOperation) answers id told = (
+    λ handled. absurd handled,
+    λ taken. let none = answers.1 in let named = taken.1 in absurd (cc (sym none ∙ named)),
+  )
+  answers_taken (Err BadRequestId) answers id told = absurd (answers.0 id)
+  answers_taken (Err OutOfMemory) answers id told = absurd (told refl)
 
-  pub answers_follow : (outcome : Result Exchange ExchangeError) → Answers m config endpoints request body before outcome after → FollowsDocument document request body outcome
-  answers_follow (Ok (Handled args reply response)) answers id told =
-      (λ handled. (agreed request body asked).1 (answers.1.0, answers.1.1, args, answers.1.2.0.denoted), λ admitted. tt)
-  answers_follow (Ok (Refused fault response)) answers id told = (λ handled. absurd handled, refused_not_admitted fault response answers.1)
-  answers_follow (Err NoSuchOperation) answers id told = (λ handled. absurd handled, unnamed_not_admitted answers.1)
-  answers_follow (Err BadRequestId) answers id told = absurd (answers.0 id)
-  answers_follow (Err OutOfMemory) answers id told = absurd (told refl)
+  -- and so exactly where a document admits it that agrees with the endpoints
+  pub answers_follow : (version : Parts) (document : Json) → IsAgreed m version endpoints document → parts_of request.version ≡ version
+      → (outcome : Result Exchange ExchangeError) → Answers m config endpoints request body before outcome after → FollowsDocument document request body outcome
+  answers_follow version document agreed asked outcome answers id told =
+      let taken = answers_taken outcome answers id told in
+      let admitted = agreed request body asked in
+      (λ handled. admitted.1 (taken.0 handled), λ a. taken.1 (admitted.0 a))

@@ -1,5 +1,5 @@
 //! The endpoints of an API.
-ghost use Rattle.std.specs.Prelude.{◌≡◌, ◌++◌, ◌∷◌, [], IfOk, OnOk, OnErr};
+ghost use Rattle.std.specs.Prelude.{◌≡◌, ◌++◌, ◌∷◌, [], IfOk, IsOkUnless, OnOk, OnErr};
 ghost use Rattle.api_description.specs.Endpoints.{boxed};
 ghost use Rattle.api_description.specs.Registering.{AreAccepted, MayRegister, RefusedBy};
 ghost use Rattle.api_description.specs.Registering.{SomeRefused};
@@ -36,6 +36,18 @@ pub enum RegisterError {
     Refused(ApiDescriptionRegisterError),
     /// There was not enough memory.
     OutOfMemory,
+}
+
+impl RegisterError {
+    /// An error equal to this one.
+    pub fn copy(&self, alloc: Global) -> Result<RegisterError, AllocError>
+        ensures { IfOk result (λ copy. copy ≡ self.now) }
+    {
+        match self {
+            RegisterError::Refused(error) => Ok(RegisterError::Refused(error.copy(alloc)?)),
+            RegisterError::OutOfMemory => Ok(RegisterError::OutOfMemory),
+        }
+    }
 }
 
 impl From<AllocError> for RegisterError {
@@ -93,6 +105,9 @@ impl ApiDescription {
             RefusedBy
             (boxed ⟦<dyn RouteHandler as RouteHandler>⟧) self.old.endpoints.items endpoint
             error }
+        ensures complete { MayRegister
+            (boxed ⟦<dyn RouteHandler as RouteHandler>⟧) self.old.endpoints.items endpoint
+            → IsOkUnless result RegisterError.OutOfMemory }
         ensures err { OnErr result (self.new.endpoints.items ≡ self.old.endpoints.items) }
         ensures tags { self.new.tags ≡ self.old.tags }
     {
@@ -122,6 +137,8 @@ impl ApiDescription {
         ensures refused { (error : ErrorValue) → result ≡ Err (RegisterError.Refused error) →
             SomeRefused
             (boxed ⟦<dyn RouteHandler as RouteHandler>⟧) [] endpoints.items error }
+        ensures complete { AreAccepted (boxed ⟦<dyn RouteHandler as RouteHandler>⟧) [] endpoints.items
+            → IsOkUnless result RegisterError.OutOfMemory }
     {
         let mut api = ApiDescription::new(alloc).tag_config(tags);
         for endpoint in endpoints {

@@ -37,6 +37,20 @@ pub enum NewEndpointError {
     OutOfMemory,
 }
 
+impl NewEndpointError {
+    /// An error equal to this one.
+    pub fn copy(&self, alloc: Global) -> Result<NewEndpointError, AllocError>
+        ensures { IfOk result (λ copy. copy ≡ self.now) }
+    {
+        match self {
+            NewEndpointError::UnsupportedMime(mime) => {
+                Ok(NewEndpointError::UnsupportedMime(mime.copy(alloc)?))
+            }
+            NewEndpointError::OutOfMemory => Ok(NewEndpointError::OutOfMemory),
+        }
+    }
+}
+
 impl From<AllocError> for NewEndpointError {
     ghost use Rattle.std.specs.Prelude.{◌≡◌};
     ghost use Rattle.api_description.specs.declared.endpoint.NewEndpointError.TheVariants.{OutOfMemory};

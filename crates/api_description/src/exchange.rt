@@ -1,7 +1,8 @@
 //! What answers a request.
-ghost use Rattle.std.specs.Prelude.{◌≡◌, [], IfOk};
+ghost use Rattle.std.specs.Prelude.{◌≡◌, ◌≢◌, ◌↔◌, [], IfOk};
+ghost use Rattle.api_description.specs.Agreement.{IsHandled, IsTaken};
 ghost use Rattle.api_description.specs.Endpoints.{boxed, shape_at};
-ghost use Rattle.api_description.specs.Exchanges.{Answers, EndpointAnswers, IsTurned, context_of};
+ghost use Rattle.api_description.specs.Exchanges.{Answers, EndpointAnswers, HasId, IsTurned, context_of};
 ghost use Rattle.api_description.specs.Registering.{AreAccepted};
 ghost use Rattle.api_description.specs.Replies.{ShapePasses};
 
@@ -73,9 +74,13 @@ impl ApiDescription {
     ) -> Result<Exchange, ExchangeError>
         requires { AreAccepted
             (boxed ⟦<dyn RouteHandler as RouteHandler>⟧) [] self.now.endpoints.items }
-        ensures { Answers
+        ensures answers { Answers
             (boxed ⟦<dyn RouteHandler as RouteHandler>⟧) config.now self.now.endpoints.items
             request.now body.now store.old result store.new }
+        // With a valid id, and where memory lasts, a request is handled exactly where it denotes arguments of an
+        // endpoint that it names.
+        ensures handled { HasId request.now → result ≢ Err ExchangeError.OutOfMemory → IsHandled result
+            ↔ IsTaken (boxed ⟦<dyn RouteHandler as RouteHandler>⟧) self.now.endpoints.items request.now body.now }
     {
         let request_id = match RequestId::new(alloc, request.request_id.as_str()) {
             Ok(request_id) => request_id,
@@ -160,7 +165,7 @@ fn context_of(
             body_content_type: *endpoint.body_content_type(),
         },
         request_id,
-        request: request.info.copy()?,
+        request: request.info.copy(alloc)?,
         config: *config,
     })
 }

@@ -25,10 +25,12 @@ impl ApiDescription {
         requires { AreAccepted (boxed ⟦<dyn RouteHandler as RouteHandler>⟧) [] self.now.endpoints.items }
         ensures listed { (title : List ℕ) (version : Parts)
             → IsListed (boxed ⟦<dyn RouteHandler as RouteHandler>⟧) version self.now.endpoints.items
-            (document_of (boxed ⟦<dyn RouteHandler as RouteHandler>⟧) self.now.endpoints.items title version) }
+            (document_of (boxed ⟦<dyn RouteHandler as RouteHandler>⟧) self.now.endpoints.items
+            title version) }
         ensures agreed { (title : List ℕ) (version : Parts)
             → IsAgreed (boxed ⟦<dyn RouteHandler as RouteHandler>⟧) version self.now.endpoints.items
-            (document_of (boxed ⟦<dyn RouteHandler as RouteHandler>⟧) self.now.endpoints.items title version) }
+            (document_of (boxed ⟦<dyn RouteHandler as RouteHandler>⟧) self.now.endpoints.items
+            title version) }
         ensures followed { (title : List ℕ) (config : ServerConfig) (request : RequestParts) (body : List ℕ)
             (before : Tables) (outcome : Result Exchange ExchangeError) (after : Tables)
             → Answers (boxed ⟦<dyn RouteHandler as RouteHandler>⟧) config self.now.endpoints.items

@@ -11,13 +11,10 @@ use Rattle.api_description.specs.declared.endpoint.ApiEndpoint.{ApiEndpoint}
 use Rattle.api_description.specs.declared.exchange.Exchange.{Exchange}
 use Rattle.api_description.specs.declared.exchange.ExchangeError.{ExchangeError}
 use Rattle.api_description.specs.declared.exchange.ExchangeError.TheVariants.{OutOfMemory as NoMemory}
-use Rattle.api_description.specs.declared.register.ApiDescriptionRegisterError.{ApiDescriptionRegisterError}
-use Rattle.api_description.specs.declared.register.RegisterCause.{RegisterCause}
-use Rattle.api_description.specs.declared.register.RegisterCause.TheVariants.{NotBuilt, BadTemplate, UnsupportedSchema}
 use Rattle.api_description.specs.Agreement.{IsAgreed}
 use Rattle.api_description.specs.Documents.{document_of}
 use Rattle.api_description.specs.Endpoints.{Meanings}
-use Rattle.api_description.specs.Registering.{AreAccepted, IsFirstCause, MayRegister, SomeRefused}
+use Rattle.api_description.specs.Registering.{AreAccepted}
 use Rattle.api_description.specs.Stores.{Tables}
 use Rattle.schema_values.specs.declared.json_value.Json.{Json}
 use Rattle.std.specs.declared.alloc.Global.{Global}
@@ -84,17 +81,6 @@ told-is-answer : (outcome : Result Exchange ExchangeError) (told : Json) → Tel
 told-is-answer outcome told tells same = subst (λ (o : Result Exchange ExchangeError). Tells o told) same tells
 
 module _ {X : Type 0} {F : X → Type 0} (m : Meanings X F) where
-  no-cause : (before : List (ApiEndpoint X F)) (e : ApiEndpoint X F) (cause : RegisterCause) → MayRegister m before e → IsFirstCause m before e cause → ⊥
-  no-cause before e NotBuilt may first = first may.built
-  no-cause before e BadTemplate may first = let wrong : true ≡ false = sym may.template ∙ first.1 in cc
-  no-cause before e UnsupportedSchema may first = first.2 may.passes
-
-  -- accepted endpoints are not refused
-  pub none-refused : (before es : List (ApiEndpoint X F)) (error : ApiDescriptionRegisterError) → AreAccepted m before es → SomeRefused m before es error → ⊥
-  none-refused before [] error accepted refused = refused
-  none-refused before (e ∷ es) error accepted (inl by) = no-cause before e error.cause accepted.0 by.cause
-  none-refused before (e ∷ es) error accepted (inr later) = none-refused (before ++ e ∷ []) es error accepted.1 later.1
-
   -- a session of accepted endpoints is opened
   pub opened : (config : ToolConfig) (version : Parts) (es : List (ApiEndpoint X F)) (words : List (String Global)) → AskForSession words version → AreAccepted m [] es → IsOpened m config version es words
   opened config version es words asked accepted =
@@ -104,7 +90,7 @@ module _ {X : Type 0} {F : X → Type 0} (m : Meanings X F) where
         accepted = accepted;
         listed = is_listed m version es config.title (accepted_methods m [] es accepted);
         agreed = agreed;
-        followed = λ before line reply after x id. answers_follow m config.server version es (document_of m es config.title version) agreed x.request x.body x.asks_for.at_version before after x.outcome x.answers id (told-is-answer x.outcome x.told x.tells);
+        followed = λ before line reply after x id. answers_follow m config.server es x.request x.body before after version (document_of m es config.title version) agreed x.asks_for.at_version x.outcome x.answers id (told-is-answer x.outcome x.told x.tells);
       }
 
   -- what was served, of endpoints and a front that are equal

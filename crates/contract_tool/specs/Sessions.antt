@@ -26,8 +26,8 @@ abbrev pub front_of : {X : Type 0} {F : X → Type 0} → Meanings X F → ToolC
 front_of m config version endpoints = encode_utf8_all (document_text m endpoints config.title version)
 
 -- whatever line is answered, from whatever store: a request with a valid id is handled exactly where the endpoints' document admits it
-abbrev pub FollowDocument : {X : Type 0} {F : X → Type 0} → Meanings X F → ToolConfig → Parts → List (ApiEndpoint X F) → Type 0
-FollowDocument m config version endpoints = (before : Tables) (line reply : List ℕ) (after : Tables) (exchanged : IsExchanged m config version endpoints before line reply after)
+abbrev pub LinesFollowDocument : {X : Type 0} {F : X → Type 0} → Meanings X F → ToolConfig → Parts → List (ApiEndpoint X F) → Type 0
+LinesFollowDocument m config version endpoints = (before : Tables) (line reply : List ℕ) (after : Tables) (exchanged : IsExchanged m config version endpoints before line reply after)
     → HasId exchanged.request → IsHandled exchanged.outcome ↔ IsAdmitted (document_of m endpoints config.title version) exchanged.request exchanged.body
 
 -- The words ask for a session of a version, and the endpoints are accepted. Their document lists them, and admits
@@ -37,7 +37,7 @@ pub record IsOpened {X : Type 0} {F : X → Type 0} (m : Meanings X F) (config :
   pub accepted : AreAccepted m [] endpoints
   pub listed : IsListed m version endpoints (document_of m endpoints config.title version)
   pub agreed : IsAgreed m version endpoints (document_of m endpoints config.title version)
-  pub followed : FollowDocument m config version endpoints
+  pub followed : LinesFollowDocument m config version endpoints
 
 -- the document, and then a reply to each line of all bytes, from the store before to the one after; nothing is left
 pub record IsSession {X : Type 0} {F : X → Type 0} (m : Meanings X F) (config : ToolConfig) (endpoints : List (ApiEndpoint X F)) (words : List (String Global))

@@ -1,3 +1,4 @@
+//! The settings of a run, and how it ends.
 ghost use Rattle.std.specs.Prelude.{◌≡◌, IfOk};
 ghost use Rattle.contract_tool.specs.Codes.{code_of};
 
@@ -59,6 +60,22 @@ pub enum ToolStatus {
 }
 
 impl ToolStatus {
+    /// A status equal to this one.
+    pub fn copy(&self, alloc: Global) -> Result<ToolStatus, AllocError>
+        ensures { IfOk result (λ copy. copy ≡ self.now) }
+    {
+        match self {
+            ToolStatus::Done => Ok(ToolStatus::Done),
+            ToolStatus::Usage => Ok(ToolStatus::Usage),
+            ToolStatus::Refused(error) => Ok(ToolStatus::Refused(error.copy(alloc)?)),
+            ToolStatus::ReadFault => Ok(ToolStatus::ReadFault),
+            ToolStatus::WriteFault => Ok(ToolStatus::WriteFault),
+            ToolStatus::LineTooLong(bytes) => Ok(ToolStatus::LineTooLong(*bytes)),
+            ToolStatus::OutOfMemory => Ok(ToolStatus::OutOfMemory),
+            ToolStatus::TooMuchInput(bytes) => Ok(ToolStatus::TooMuchInput(*bytes)),
+        }
+    }
+
     /// The number that the program ends with.
     pub fn code(&self) -> u8
         ensures { result ≡ code_of self.now }
@@ -76,7 +93,7 @@ impl ToolStatus {
     }
 }
 
-/// Writes, in one line, what tells a status that is no success.
+/// Writes what tells a status that is no success.
 impl fmt::Display for ToolStatus {
     fn fmt<W: fmt::Write>(&self, f: &mut fmt::Formatter<W>) -> fmt::Result {
         let message = match self {

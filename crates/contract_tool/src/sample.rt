@@ -28,11 +28,13 @@ use typed_values::{AddError, Definition, Desc, DescTable, Field, IntKind, Presen
 /// The title and the limits that the sample API is run with.
 pub fn config(alloc: Global) -> Result<ToolConfig, AllocError>
     ensures { IfOk result (λ config. (config.title ≡ codes "sample")
-        × (config.server.default_request_body_max_bytes ≡ 2 ^ 10) × (config.frame_budget ≡ 1000)
+        × (config.server.default_request_body_max_bytes ≡ 2 ^ 10)
+        × (config.server.page_max_nitems ≡ 10000) × (config.server.page_default_nitems ≡ 100)
+        × (config.frame_budget ≡ 1000)
         × (config.longest_line ≡ 2 ^ 20) × (config.most_input ≡ 2 ^ 31)) }
 {
     Ok(ToolConfig {
-        title: ascii(alloc, "sample")?,
+        title: Text::from_ascii(alloc, "sample")?,
         server: ServerConfig {
             default_request_body_max_bytes: 1 << 10,
             page_max_nitems: NonZeroU32::new(10_000).unwrap(),
@@ -138,18 +140,18 @@ fn point_shape(alloc: Global) -> Result<HandlerShape, AllocError>
     ensures { IfOk result (λ shape. shape ≡ point_shape) }
 {
     let mut slots = List::new(alloc);
-    slots.push(Slot::TypedBody(point_ref(alloc)?, ascii(alloc, "Point")?))?;
+    slots.push(Slot::TypedBody(point_ref(alloc)?, Text::from_ascii(alloc, "Point")?))?;
     Ok(HandlerShape {
         table: point_table(alloc)?,
         slots,
         response: ApiEndpointResponse {
-            content: ContentShape::Json(point_ref(alloc)?, ascii(alloc, "Point")?),
+            content: ContentShape::Json(point_ref(alloc)?, Text::from_ascii(alloc, "Point")?),
             success: Some(StatusCode::CREATED),
-            description: ascii(alloc, "successful creation")?,
+            description: Text::from_ascii(alloc, "successful creation")?,
         },
         error: Some(ApiEndpointErrorResponse {
-            desc: Desc::Ref(ascii(alloc, "Error")?),
-            name: ascii(alloc, "Error")?,
+            desc: Desc::Ref(Text::from_ascii(alloc, "Error")?),
+            name: Text::from_ascii(alloc, "Error")?,
         }),
     })
 }
@@ -188,7 +190,7 @@ fn point_definition(alloc: Global) -> Result<Definition, AllocError>
     fields.push(required(alloc, "n", number_desc())?)?;
     fields.push(required(alloc, "on", Desc::Bool)?)?;
     Ok(Definition {
-        name: ascii(alloc, "Point")?,
+        name: Text::from_ascii(alloc, "Point")?,
         description: None,
         desc: Desc::Struct {
             fields,
@@ -222,7 +224,7 @@ fn required(alloc: Global, name: &str, desc: Desc) -> Result<Field, AllocError>
     ensures { IfOk result (λ field. field ≡ required name.now desc) }
 {
     Ok(Field {
-        name: ascii(alloc, name)?,
+        name: Text::from_ascii(alloc, name)?,
         desc,
         presence: Presence::Required,
         description: None,
@@ -232,12 +234,5 @@ fn required(alloc: Global, name: &str, desc: Desc) -> Result<Field, AllocError>
 fn point_ref(alloc: Global) -> Result<Desc, AllocError>
     ensures { IfOk result (λ desc. desc ≡ Ref (codes "Point")) }
 {
-    Ok(Desc::Ref(ascii(alloc, "Point")?))
-}
-
-fn ascii(alloc: Global, text: &str) -> Result<Text, AllocError>
-    requires { IsTrue (all_ascii text.now) }
-    ensures { IfOk result (λ t. t ≡ text.now) }
-{
-    Text::from_ascii(alloc, text)
+    Ok(Desc::Ref(Text::from_ascii(alloc, "Point")?))
 }

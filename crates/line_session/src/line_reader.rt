@@ -21,6 +21,7 @@ pub enum NextLine {
     TooLong,
     /// There is a byte more than may be handled.
     TooMuchInput,
+    /// There was not enough memory.
     OutOfMemory,
 }
 

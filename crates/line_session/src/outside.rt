@@ -14,6 +14,7 @@ pub struct Failed;
 pub enum SinkError {
     /// The sink could not be written.
     Failed,
+    /// There was not enough memory.
     OutOfMemory,
 }
 

@@ -1,5 +1,5 @@
 use crate::media::ResponseObject;
-use crate::objects::{add, ascii};
+use crate::objects::add;
 use crate::operation::PathItem;
 use crate::part::{Part, copy_map, map_json, map_unless_empty};
 use schema_values::{Json, List, Text};
@@ -78,7 +78,7 @@ impl Part for OpenApi {
 
     fn to_json(&self, alloc: Global) -> Result<Json, AllocError> {
         let mut members = List::new(alloc);
-        let version = Json::Text(ascii(alloc, "3.0.3")?);
+        let version = Json::Text(Text::from_ascii(alloc, "3.0.3")?);
         add(alloc, &mut members, "openapi", Some(version))?;
         let info = self.info.to_json(alloc)?;
         add(alloc, &mut members, "info", Some(info))?;

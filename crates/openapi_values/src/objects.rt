@@ -5,16 +5,6 @@ ghost use Rattle.openapi_values.specs.Objects.{present, reference_json};
 use schema_values::{Json, List, Member, Text};
 use std::alloc::{AllocError, Global};
 
-/// A text of an ASCII word.
-pub fn ascii(alloc: Global, word: &str) -> Result<Text, AllocError>
-    requires { IsTrue (all_ascii word.now) }
-    ensures { IfOk result (λ text. text ≡ word.now) }
-{
-    let mut text = Text::new(alloc);
-    text.push_ascii(word)?;
-    Ok(text)
-}
-
 /// Adds a member of an ASCII name, where it has a value.
 pub fn add(
     alloc: Global,
@@ -27,7 +17,7 @@ pub fn add(
 {
     match value {
         Some(value) => {
-            let name = ascii(alloc, name)?;
+            let name = Text::from_ascii(alloc, name)?;
             members.push(Member { name, value })
         }
         None => Ok(()),

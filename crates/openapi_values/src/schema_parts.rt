@@ -8,7 +8,7 @@ ghost use Rattle.openapi_values.specs.SchemaJson.{count_json as count_of, names_
 ghost use Rattle.openapi_values.specs.SchemaJson.{truth_json as json_of_truth, type_name};
 
 use crate::media::true_json;
-use crate::objects::{add, ascii};
+use crate::objects::add;
 use crate::part::option_json;
 use schema_values::{
     InstanceType, Json, LengthBounds, List, Member, NumberBounds, SchemaObject, Text,
@@ -32,11 +32,11 @@ pub fn type_text(alloc: Global, kind: InstanceType) -> Result<Json, AllocError>
     ensures { IfOk result (λ json. json ≡ TextOf (type_name kind)) }
 {
     let name = match kind {
-        InstanceType::Boolean => ascii(alloc, "boolean")?,
-        InstanceType::Object => ascii(alloc, "object")?,
-        InstanceType::Array => ascii(alloc, "array")?,
-        InstanceType::String => ascii(alloc, "string")?,
-        InstanceType::Integer => ascii(alloc, "integer")?,
+        InstanceType::Boolean => Text::from_ascii(alloc, "boolean")?,
+        InstanceType::Object => Text::from_ascii(alloc, "object")?,
+        InstanceType::Array => Text::from_ascii(alloc, "array")?,
+        InstanceType::String => Text::from_ascii(alloc, "string")?,
+        InstanceType::Integer => Text::from_ascii(alloc, "integer")?,
     };
     Ok(Json::Text(name))
 }

@@ -22,3 +22,4 @@ pub mod ReadTexts
 pub mod ReadTokens
 pub mod ReadNumbers
 pub mod SoundReadings
+pub mod AscendingReadings

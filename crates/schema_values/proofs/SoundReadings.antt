@@ -27,12 +27,12 @@ use Rattle.schema_values.proofs.Utf8Order.{cmp-chars}
 
 -- ---- members in ascending order of their keys, which are UTF-8
 
-abbrev keys : read.Members → List (List ℕ)
+abbrev pub keys : read.Members → List (List ℕ)
 keys read.no_members = []
 keys (read.member k d ms) = k ∷ keys ms
 
 abbrev mutual
-  IsRead : read.Data → Type 0
+  pub IsRead : read.Data → Type 0
   IsRead read.null = ⊤
   IsRead (read.boolean b) = ⊤
   IsRead (read.number n) = IsReadNumber n
@@ -40,11 +40,11 @@ abbrev mutual
   IsRead (read.array ds) = AreRead ds
   IsRead (read.object ms) = MembersAreRead ms
 
-  AreRead : read.Items → Type 0
+  pub AreRead : read.Items → Type 0
   AreRead read.no_items = ⊤
   AreRead (read.item d ds) = IsRead d × AreRead ds
 
-  MembersAreRead : read.Members → Type 0
+  pub MembersAreRead : read.Members → Type 0
   MembersAreRead read.no_members = ⊤
   MembersAreRead (read.member k d ms) = IsUtf8 k × IsRead d × AllByRecursion (Below k) (keys ms) × MembersAreRead ms
 
@@ -96,7 +96,7 @@ names_below : (k : List ℕ) (ms : read.Members) → IsUtf8 k → MembersAreRead
 names_below k read.no_members u h b = tt
 names_below k (read.member l d ms) u h b = (cmp-chars k l u h.0 ∙ b.0, names_below k ms u h.3 b.1)
 
-names_ascend : (ms : read.Members) → MembersAreRead ms → IsStrictlySortedBy (slice_cmp nat_cmp) (map chars (keys ms))
+pub names_ascend : (ms : read.Members) → MembersAreRead ms → IsStrictlySortedBy (slice_cmp nat_cmp) (map chars (keys ms))
 unfolding IsStrictlySortedBy
 names_ascend read.no_members h = tt
 names_ascend (read.member k d ms) h = (names_below k ms h.0 h.3 h.2, names_ascend ms h.3)
@@ -122,7 +122,7 @@ mutual
       let rest = mapped (λ js. first.0 ∷ js) (items_of ds) js first.2 in
       subst (AllByRecursion IsSound) rest.2 (json_sound d h.0 first.0 first.1, items_sound ds h.1 rest.0 rest.1)
 
-  members_sound : (ms : read.Members) → MembersAreRead ms → (js : List Member) → members_of ms ≡ Some js → AllByRecursion HasSoundValue js × (map name_of js ≡ map chars (keys ms))
+  pub members_sound : (ms : read.Members) → MembersAreRead ms → (js : List Member) → members_of ms ≡ Some js → AllByRecursion HasSoundValue js × (map name_of js ≡ map chars (keys ms))
   members_sound read.no_members h js e = let same : [] ≡ js = cc e in subst (λ (l : List Member). AllByRecursion HasSoundValue l × (map name_of l ≡ [])) same (tt, refl)
   members_sound (read.member k d ms) h js e =
       let first = chained (λ j. option_map (λ ms. record { name = chars k; value = j } ∷ ms) (members_of ms)) (json_of d) js e in
@@ -135,11 +135,15 @@ last_is : (i : tree.Json) (rest : List Token) (j : tree.Json) → tree.if_last i
 last_is i [] j e = cc e
 last_is i (t ∷ rest) j e = absurd (cc e)
 
-pub reading_sound : (bytes : List ℕ) (json : Json) → Reads bytes json → IsSound json
-reading_sound bytes json reads =
+-- the data that was read, with its keys in order
+pub data_of_reading : (bytes : List ℕ) (json : Json) → Reads bytes json → (d : read.Data) × IsRead d × (json_of d ≡ Some json)
+data_of_reading bytes json reads =
     let given = chained json_of _ json reads.1 in
     let built = chained of_json _ given.0 given.1 in
     let parsed = chained (λ p. tree.if_last p.0 p.1) (tree.value max_depth (tokens bytes)) built.0 built.1 in
     let keys = read_keys bytes max_depth parsed.0.0 parsed.0.1 reads.0 parsed.1 in
     let is = last_is parsed.0.0 parsed.0.1 built.0 parsed.2 in
-    json_sound given.0 (data_read built.0 (subst HasTextKeys is keys) given.0 built.2) json given.2
+    (given.0, data_read built.0 (subst HasTextKeys is keys) given.0 built.2, given.2)
+
+pub reading_sound : (bytes : List ℕ) (json : Json) → Reads bytes json → IsSound json
+reading_sound bytes json reads = let given = data_of_reading bytes json reads in json_sound given.0 given.1 json given.2

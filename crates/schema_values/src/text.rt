@@ -1,4 +1,4 @@
-ghost use Rattle.std.specs.Prelude.{◌≡◌, ◌↔◌, ◌++◌, ◌∷◌, [], IfOk, IsTrue, OnOk, length, string_bytes};
+ghost use Rattle.std.specs.Prelude.{◌≡◌, ◌↔◌, ◌++◌, ◌∷◌, [], IfOk, IsTrue, OnErr, OnOk, length, string_bytes};
 ghost use Rattle.std.specs.Str.{chars, encode_utf8_all};
 ghost use Rattle.std.specs.Fmt.{signed_decimal};
 ghost use Rattle.schema_values.specs.Ascii.{all_ascii};
@@ -136,14 +136,16 @@ impl Text {
 
     /// Puts a character at the end.
     pub fn push(&mut self, character: char) -> Result<(), AllocError>
-        ensures { OnOk result (self.new ≡ self.old ++ character ∷ []) }
+        ensures ok { OnOk result (self.new ≡ self.old ++ character ∷ []) }
+        ensures err { OnErr result (self.new ≡ self.old) }
     {
         self.text.push(character)
     }
 
     /// Puts the characters of a `&str` at the end.
     pub fn push_str(&mut self, more: &str) -> Result<(), AllocError>
-        ensures { OnOk result (self.new ≡ self.old ++ chars more.now) }
+        ensures ok { OnOk result (self.new ≡ self.old ++ chars more.now) }
+        ensures err { OnErr result (self.new ≡ self.old) }
     {
         self.text.push_str(more)
     }
@@ -151,21 +153,24 @@ impl Text {
     /// Puts an ASCII literal at the end, whose bytes are its characters.
     pub fn push_ascii(&mut self, more: &str) -> Result<(), AllocError>
         requires { IsTrue (all_ascii more.now) }
-        ensures { OnOk result (self.new ≡ self.old ++ more.now) }
+        ensures ok { OnOk result (self.new ≡ self.old ++ more.now) }
+        ensures err { OnErr result (self.new ≡ self.old) }
     {
         self.push_str(more)
     }
 
     /// Puts a text at the end.
     pub fn push_text(&mut self, more: &Text) -> Result<(), AllocError>
-        ensures { OnOk result (self.new ≡ self.old ++ more.now) }
+        ensures ok { OnOk result (self.new ≡ self.old ++ more.now) }
+        ensures err { OnErr result (self.new ≡ self.old) }
     {
         self.push_str(more.as_str())
     }
 
     /// Puts the decimal digits of a number at the end, behind a minus where it is negative.
     pub fn push_number(&mut self, alloc: Global, number: i128) -> Result<(), AllocError>
-        ensures { OnOk result (self.new ≡ self.old ++ signed_decimal number) }
+        ensures ok { OnOk result (self.new ≡ self.old ++ signed_decimal number) }
+        ensures err { OnErr result (self.new ≡ self.old) }
     {
         self.push_str(number.to_string(alloc)?.as_str())
     }

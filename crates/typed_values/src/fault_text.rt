@@ -15,11 +15,11 @@ impl FaultKind {
         match self {
             FaultKind::Missing(name) => quoted(alloc, "missing field `", name),
             FaultKind::Unknown(name) => quoted(alloc, "unknown field `", name),
-            FaultKind::WrongKind => ascii(alloc, "invalid type"),
-            FaultKind::OutOfRange => ascii(alloc, "value out of range"),
-            FaultKind::BadLength => ascii(alloc, "length out of range"),
-            FaultKind::NoAlternative => ascii(alloc, "no alternative fits"),
-            FaultKind::NotJson => ascii(alloc, "not JSON"),
+            FaultKind::WrongKind => Text::from_ascii(alloc, "invalid type"),
+            FaultKind::OutOfRange => Text::from_ascii(alloc, "value out of range"),
+            FaultKind::BadLength => Text::from_ascii(alloc, "length out of range"),
+            FaultKind::NoAlternative => Text::from_ascii(alloc, "no alternative fits"),
+            FaultKind::NotJson => Text::from_ascii(alloc, "not JSON"),
         }
     }
 }
@@ -48,22 +48,12 @@ fn is_root(path: &Text) -> bool
     path.equals_str(".")
 }
 
-/// A text of ASCII characters.
-fn ascii(alloc: Global, characters: &str) -> Result<Text, AllocError>
-    requires { IsTrue (all_ascii characters.now) }
-    ensures { IfOk result (λ text. text ≡ characters.now) }
-{
-    let mut text = Text::new(alloc);
-    text.push_ascii(characters)?;
-    Ok(text)
-}
-
 /// A name behind an opening and before a backquote.
 fn quoted(alloc: Global, opening: &str, name: &Text) -> Result<Text, AllocError>
     requires { IsTrue (all_ascii opening.now) }
     ensures { IfOk result (λ text. text ≡ opening.now ++ name.now ++ codes "`") }
 {
-    let mut text = ascii(alloc, opening)?;
+    let mut text = Text::from_ascii(alloc, opening)?;
     text.push_text(name)?;
     text.push_ascii("`")?;
     Ok(text)

@@ -21,6 +21,21 @@ pub enum ExtractError {
     OutOfMemory,
 }
 
+impl ExtractError {
+    /// An error equal to this one.
+    pub fn copy(&self, alloc: Global) -> Result<ExtractError, AllocError>
+        ensures { IfOk result (λ copy. copy ≡ self.now) }
+    {
+        match self {
+            ExtractError::Refused(fault, message) => Ok(ExtractError::Refused(
+                fault.copy(alloc)?,
+                message.copy(alloc)?,
+            )),
+            ExtractError::OutOfMemory => Ok(ExtractError::OutOfMemory),
+        }
+    }
+}
+
 impl From<AllocError> for ExtractError {
     ghost use Rattle.std.specs.Prelude.{◌≡◌};
     ghost use Rattle.api_description.specs.declared.api_extract.arguments.ExtractError.TheVariants.{OutOfMemory};

@@ -41,7 +41,7 @@ impl RequestInfo {
     }
 
     /// A head equal to this one.
-    pub fn copy(&self) -> Result<RequestInfo, AllocError>
+    pub fn copy(&self, _alloc: Global) -> Result<RequestInfo, AllocError>
         ensures { IfOk result (λ copy. copy ≡ self.now) }
     {
         Ok(RequestInfo {
@@ -76,7 +76,7 @@ impl RequestParts {
             version: self.version.clone()?,
             template: self.template.copy(alloc)?,
             request_id: self.request_id.copy(alloc)?,
-            info: self.info.copy()?,
+            info: self.info.copy(alloc)?,
         })
     }
 }

@@ -59,7 +59,7 @@ impl RequestContext {
         Ok(RequestContext {
             endpoint: self.endpoint.copy(alloc)?,
             request_id: self.request_id.copy(alloc)?,
-            request: self.request.copy()?,
+            request: self.request.copy(alloc)?,
             config: self.config,
         })
     }

@@ -23,6 +23,7 @@ pub const ROWS: [Row; 113] = [
     (r#"{"on":true,"limit":1.0}"#, "not JSON"),
     (r#"{"on":true,"limit":-0}"#, "not JSON"),
     (r#"{"on":true,"limit":1e2}"#, "not JSON"),
+    (r#"{"on":true,"limit":-0}"#, "not JSON"),
     (r#"{"on":true,"limit":18446744073709551616}"#, "not JSON"),
     (r#"{"on":true,"limit":-9223372036854775809}"#, "not JSON"),
     (r#"{"on":true,"zz":0.5}"#, "not JSON"),

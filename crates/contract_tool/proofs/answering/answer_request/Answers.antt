@@ -11,7 +11,7 @@ returns-clause-ok g c =
     let asks = subst (λ (body : List ℕ). AsksFor (most_body c.args.config.now) (parts_of c.args.version.now) c.args.line.now c.args.request.now body) (sym c.as_bytes.ensures) c.requires.asks_for in
     IfOk-weaker c.reply_line.result _ _
     (λ reply told. line-answered _ c.args.config.now (parts_of c.args.version.now) c.args.api.now.endpoints.items c.args.store.now c.exchange-outcome.new.store
-    c.args.line.now c.args.request.now c.as_bytes.result.now asks c.exchange-outcome.result told.0 reply c.exchange-outcome.ensures told.1 told.2)
+    c.args.line.now c.args.request.now c.as_bytes.result.now asks c.exchange-outcome.result told.0 reply c.exchange-outcome.ensures.answers told.1 told.2)
     c.reply_line.ensures
 
 pub returns-clause-err : goal.returns-clause-err
@@ -19,4 +19,4 @@ returns-clause-err g c =
     let asks = subst (λ (body : List ℕ). AsksFor (most_body c.args.config.now) (parts_of c.args.version.now) c.args.line.now c.args.request.now body) (sym c.as_bytes.ensures) c.requires.asks_for in
     at_error c.reply_line.result
     (line-cut _ c.args.config.now (parts_of c.args.version.now) c.args.api.now.endpoints.items c.args.store.now c.exchange-outcome.new.store
-    c.args.line.now c.args.request.now c.as_bytes.result.now asks c.exchange-outcome.result c.exchange-outcome.ensures)
+    c.args.line.now c.args.request.now c.as_bytes.result.now asks c.exchange-outcome.result c.exchange-outcome.ensures.answers)

@@ -1,7 +1,7 @@
-use Rattle.std.proofs.Common.{◌∙◌, [], Err, ap, refl}
+use Rattle.std.proofs.Common.{◌∙◌, Err, ap, refl, sym}
 use Rattle.semver.specs.Identifiers.{parts_of}
 use Rattle.contract_tool.specs.declared.config.ToolStatus.TheVariants.{Done}
-use Rattle.contract_tool.proofs.RunLemmas.{answered-same, called-for, ended-so, is-ended, none-refused, opened, served-same}
+use Rattle.contract_tool.proofs.RunLemmas.{answered-same, called-for, ended-so, is-ended, opened, served-same}
 use Rattle.contract_tool.proofs.tool.run.Goals as goal
 
 pub returns-in-Err-Refused-clause-ended : goal.returns-in-Err-Refused-clause-ended
@@ -13,7 +13,7 @@ returns-in-Err-Refused-clause-ended g c = rw c.in-Err-Refused.field-0-is (
 
 pub returns-in-Err-Refused-clause-complete : goal.returns-in-Err-Refused-clause-complete
 returns-in-Err-Refused-clause-complete g c command accepted all left status calls source sink =
-    absurd (none-refused _ [] c.args.endpoints.items c.in-Err-Refused.error accepted (c.in-Err-Refused.ensures.refused c.in-Err-Refused.error (ap Err c.in-Err-Refused.field-0-is)))
+    absurd (cc (sym c.in-Err-Refused.field-0-is ∙ c.in-Err-Refused.ensures.complete accepted))
 
 pub serve-requires-clause-ready : goal.serve-requires-clause-ready
 serve-requires-clause-ready g c = rw c.in-Ok-of_endpoints.ensures.items c.in-Ok-of_endpoints.ensures.accepted

@@ -17,7 +17,7 @@ returns-clause-agreed g c = λ title version request body asked.
 
 pub returns-clause-followed : goal.returns-clause-followed
 returns-clause-followed g c = λ title config request body before outcome after.
-    answers_follow (λ e. goal.RouteHandler-dyn g (e.handler.vtable, e.handler.value)) config (parts_of request.version) c.args.self.now.endpoints.items
+    answers_follow (λ e. goal.RouteHandler-dyn g (e.handler.vtable, e.handler.value)) config c.args.self.now.endpoints.items request body before after (parts_of request.version)
     (document_of (λ e. goal.RouteHandler-dyn g (e.handler.vtable, e.handler.value)) c.args.self.now.endpoints.items title (parts_of request.version))
     (λ other bytes asked. request_agrees (λ e. goal.RouteHandler-dyn g (e.handler.vtable, e.handler.value)) title (parts_of request.version) other bytes asked c.args.self.now.endpoints.items c.requires)
-    request body refl before after outcome
+    refl outcome

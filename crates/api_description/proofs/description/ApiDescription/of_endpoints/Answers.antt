@@ -4,7 +4,7 @@ use Rattle.std.proofs.lemmas.Iterator.Adapters.{YieldsList-from_vec}
 use Rattle.std.proofs.lemmas.Iterator.Consumers.{YieldsList-so_far, YieldsList-turn, YieldsList-end}
 use Rattle.api_description.specs.declared.description.RegisterError.TheVariants.{Refused}
 use Rattle.api_description.specs.Registering.{AreAccepted, RefusedBy, SomeRefused}
-use Rattle.api_description.proofs.Accepted.{behind_front, refused-behind}
+use Rattle.api_description.proofs.Accepted.{all-or-memory, behind_front, refused-behind}
 use Rattle.api_description.proofs.description.ApiDescription.of_endpoints.Goals as goal
 
 pub returns-in_err-register-clause-refused : goal.returns-in_err-register-clause-refused
@@ -22,6 +22,9 @@ returns-in_err-register-clause-refused g c error is =
     subst (λ es. SomeRefused (λ e. goal.RouteHandler-dyn g (e.handler.vtable, e.handler.value)) [] es error) (sym place)
     (refused-behind _ [] so_far c.in-Some.endpoint _ error c.loop-endpoint.invariant.accepted
     (subst (λ es. RefusedBy (λ e. goal.RouteHandler-dyn g (e.handler.vtable, e.handler.value)) es c.in-Some.endpoint error) c.loop-endpoint.invariant.registered refused))
+
+pub returns-in_err-register-clause-complete : goal.returns-in_err-register-clause-complete
+returns-in_err-register-clause-complete g c = all-or-memory (λ e. goal.RouteHandler-dyn g (e.handler.vtable, e.handler.value)) c.args.endpoints.items _ (returns-in_err-register-clause-refused g c)
 
 pub returns-clause-accepted : goal.returns-clause-accepted
 returns-clause-accepted g c =

@@ -3,4 +3,4 @@ use Rattle.api_description.proofs.http_status.header_list.HeaderList.copy.Given 
 
 -- the lines so far are copied
 abbrev pub invariant-loop-line : goal.invariant-loop-line
-invariant-loop-line g l = l.lines ≡ take l.line-index l.line-items
+invariant-loop-line l = l.lines ≡ take l.line-index l.line-items
