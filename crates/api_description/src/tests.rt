@@ -1,5 +1,5 @@
 use crate::http_status::{
-    ErrorStatusCode, HttpError, HttpErrorResponseBody, NotAnError, RequestId, RequestIdError,
+    ErrorStatusCode, HeaderList, HttpError, HttpErrorResponseBody, RequestId, RequestIdError,
 };
 use crate::template::{has_brace, is_template, without_trailing_slash};
 use crate::tree_store::Store;
@@ -63,17 +63,20 @@ fn templates_are_segments_behind_slashes(rt: HostRuntime) -> Result<(), Fail> {
     Ok(())
 }
 
-fn body_text(alloc: Global, code: Option<&str>) -> Result<Text, AllocError> {
+fn error_body(alloc: Global, code: Option<&str>) -> Result<HttpErrorResponseBody, AllocError> {
     let error_code = match code {
         Some(code) => Some(Text::from_str(alloc, code)?),
         None => None,
     };
-    let body = HttpErrorResponseBody {
+    Ok(HttpErrorResponseBody {
         request_id: Text::from_str(alloc, "123")?,
         error_code,
         message: Text::from_str(alloc, "oy!")?,
-    };
-    body.to_json(alloc)?.pretty(alloc)
+    })
+}
+
+fn body_text(alloc: Global, code: Option<&str>) -> Result<Text, AllocError> {
+    error_body(alloc, code)?.to_json(alloc)?.pretty(alloc)
 }
 
 #[test]
@@ -92,47 +95,96 @@ fn error_bodies_are_pretty_json(rt: HostRuntime) -> Result<(), Fail> {
 }
 
 #[test]
+fn copies_of_error_bodies_have_their_json(rt: HostRuntime) -> Result<(), Fail> {
+    let alloc = rt.alloc();
+    for (code, json) in [
+        (None, "{\"request_id\":\"123\",\"message\":\"oy!\"}"),
+        (
+            Some("err"),
+            "{\"request_id\":\"123\",\"error_code\":\"err\",\"message\":\"oy!\"}",
+        ),
+    ] {
+        let copy = error_body(alloc, code)?.copy(alloc)?;
+        assert_eq!(rt; copy.to_json(alloc)?.compact(alloc)?.as_str(), json);
+    }
+    Ok(())
+}
+
+/// Header lines, each with a newline.
+pub fn header_text(alloc: Global, headers: &HeaderList) -> Result<Vec<u8>, AllocError> {
+    let mut text = Vec::new(alloc);
+    for (name, value) in headers.lines() {
+        text.extend_from_slice(name.as_str().as_bytes())?;
+        text.extend_from_slice(b": ")?;
+        text.extend_from_slice(value.as_bytes())?;
+        text.push(b'\n')?;
+    }
+    Ok(text)
+}
+
+#[test]
 fn error_responses_have_two_header_lines(rt: HostRuntime) -> Result<(), Fail> {
     let alloc = rt.alloc();
     let error = HttpError::for_bad_request(alloc, None, Text::from_str(alloc, "oy!")?)?;
-    let id = RequestId::new(alloc, "123")?;
+    let id = RequestId::new(alloc, "123")?.copy(alloc)?;
     let response = error.copy(alloc)?.into_response(alloc, &id)?;
+    let body = body_text(alloc, None)?;
+    let lines = b"content-type: application/json\nx-request-id: 123\n".as_slice();
     assert_eq!(rt; response.status.as_u16(), 400);
+    assert_eq!(rt; response.body.as_slice(), body.as_bytes());
+    assert_eq!(rt; header_text(alloc, &response.headers)?.as_slice(), lines);
     assert_eq!(rt;
-        response.body.as_slice(),
-        body_text(alloc, None)?.as_bytes()
+        header_text(alloc, &response.headers.copy(alloc)?)?.as_slice(),
+        lines
     );
-    let lines = [
-        ("content-type", "application/json"),
-        ("x-request-id", "123"),
-    ];
-    assert_eq!(rt; response.headers.lines().len(), 2);
-    for ((name, value), (wanted_name, wanted_value)) in response
-        .headers
-        .lines()
-        .iter()
-        .zip(&lines)
-    {
-        assert_eq!(rt; name.as_str(), *wanted_name);
-        assert_eq!(rt; value.as_bytes(), wanted_value.as_bytes());
-    }
+    Ok(())
+}
+
+#[test]
+fn request_ids_may_stand_in_headers(rt: HostRuntime) -> Result<(), Fail> {
+    let alloc = rt.alloc();
+    let copy = RequestId::new(alloc, "123")?.copy(alloc)?;
+    assert_eq!(rt; copy.text(), "123");
     let refused = RequestId::new(alloc, "a\nb");
     assert!(rt; matches!(refused, Err(RequestIdError::BadRequestId)));
     Ok(())
 }
 
 #[test]
-fn codes_and_errors_are_printed(rt: HostRuntime) -> Result<(), Fail> {
+fn errors_are_printed(rt: HostRuntime) -> Result<(), Fail> {
     let alloc = rt.alloc();
-    for (number, text) in [(404, "404 Not Found"), (599, "599 <unknown status code>")] {
-        let code = ErrorStatusCode::from_status(StatusCode::from_u16(number)?)?;
-        assert_eq!(rt; format!(in alloc; "{code}")?.as_str(), text);
-    }
-    let error = NotAnError(StatusCode::OK);
-    let text = "status code 200 OK is not a 4xx or 5xx error";
-    assert_eq!(rt; format!(in alloc; "{error}")?.as_str(), text);
     let error = HttpError::for_bad_request(alloc, None, Text::from_str(alloc, "oy!")?)?;
     let text = "HttpError(400 Bad Request): oy!";
     assert_eq!(rt; format!(in alloc; "{error}")?.as_str(), text);
+    Ok(())
+}
+
+// What a status is printed as: a code, its number alone, or that it is none of an error.
+fn code_text(alloc: Global, number: u16) -> Result<String, Fail> {
+    match ErrorStatusCode::from_status(StatusCode::from_u16(number)?) {
+        Ok(code) => Ok(format!(in alloc; "{code}; {code:?}")?),
+        Err(error) => Ok(format!(in alloc; "{error}")?),
+    }
+}
+
+#[test]
+fn codes_are_those_of_errors(rt: HostRuntime) -> Result<(), Fail> {
+    for (number, text) in [
+        (200, "status code 200 OK is not a 4xx or 5xx error"),
+        (
+            399,
+            "status code 399 <unknown status code> is not a 4xx or 5xx error",
+        ),
+        (400, "400 Bad Request; 400"),
+        (404, "404 Not Found; 404"),
+        (500, "500 Internal Server Error; 500"),
+        (599, "599 <unknown status code>; 599"),
+        (
+            600,
+            "status code 600 <unknown status code> is not a 4xx or 5xx error",
+        ),
+    ] {
+        assert_eq!(rt; code_text(rt.alloc(), number)?.as_str(), text);
+    }
     Ok(())
 }

@@ -7,6 +7,8 @@ mod document;
 #[cfg(test)]
 mod session;
 #[cfg(test)]
+mod status;
+#[cfg(test)]
 mod tests;
 #[cfg(test)]
 mod values;

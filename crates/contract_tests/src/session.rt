@@ -61,11 +61,13 @@ impl<'a> Setting<'a> {
     }
 }
 
-/// What a session wrote, its status, and the number of the point that the store then has under `a`.
+/// What a session wrote, its status and what that is told as, and the number of the point that the store then
+/// has under `a`.
 #[derive(Drop)]
 pub struct Outcome {
     pub output: Vec<u8>,
     pub code: u8,
+    pub told: String,
     pub number_of_a: Option<i128>,
 }
 
@@ -106,6 +108,7 @@ pub fn run_session(alloc: Global, setting: &Setting) -> Result<Outcome, Fail> {
     Ok(Outcome {
         output: sink.taken().to_vec(alloc)?,
         code: status.code(),
+        told: format!(in alloc; "{status}")?,
         number_of_a: number_of_a(&store),
     })
 }

@@ -107,8 +107,8 @@ fn each_cause_has_its_status(rt: HostRuntime) -> Result<(), Fail> {
 }
 
 // The reads and the writes of a session of one line, each failing in turn: the status tells which of the two
-// it was, and what was written is a part of the whole output, from its front. Beyond the last call nothing
-// fails.
+// it was, and what was written is a part of the whole output, from its front. A point is stored where its line
+// was read to its end and the document written. Beyond the last call nothing fails.
 #[test]
 fn each_read_and_each_write_may_fail(rt: HostRuntime) -> Result<(), Fail> {
     let alloc = rt.alloc();
@@ -119,10 +119,12 @@ fn each_read_and_each_write_may_fail(rt: HostRuntime) -> Result<(), Fail> {
         let read = run_session(alloc, &session.with_failing(Some(call), None))?;
         assert_eq!(rt; read.code, if call < reads { 4 } else { 0 });
         assert!(rt; whole.starts_with(read.output.as_slice()));
+        assert_eq!(rt; read.number_of_a, if call < reads { None } else { Some(7) });
 
         let write = run_session(alloc, &session.with_failing(None, Some(call)))?;
         assert_eq!(rt; write.code, if call < writes { 5 } else { 0 });
         assert!(rt; whole.starts_with(write.output.as_slice()));
+        assert_eq!(rt; write.number_of_a, if call < 1 { None } else { Some(7) });
     }
     Ok(())
 }

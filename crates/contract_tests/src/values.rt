@@ -125,6 +125,16 @@ fn folders_are_counted_and_written_again(rt: HostRuntime) -> Result<(), Fail> {
 }
 
 #[test]
+fn a_fault_in_a_folder_is_told_at_its_place(rt: HostRuntime) -> Result<(), Fail> {
+    let alloc = rt.alloc();
+    let table = definitions(alloc)?;
+    let folder = named(alloc, "Folder")?;
+    let told = told(alloc, &table, &folder, r#"{"name":"a","children":[{}]}"#)?;
+    assert_eq!(rt; told.as_str(), "children[0]: missing field `name`");
+    Ok(())
+}
+
+#[test]
 fn definitions_that_refer_to_each_other_are_unguarded(rt: HostRuntime) -> Result<(), Fail> {
     let table = mutual(rt.alloc())?;
     assert!(rt; matches!(check_table(&table), Err(TableError::Unguarded("A"))));

@@ -152,3 +152,79 @@ fn readers_and_writers_of_std_are_ends(rt: HostRuntime) -> Result<(), Fail> {
     assert_eq!(rt; written.as_slice(), b"front\none\ntwo\n".as_slice());
     Ok(())
 }
+
+// A reader of std that errs.
+#[derive(Drop)]
+struct FailingReader;
+
+impl io::Read for FailingReader {
+    fn read(&mut self, buf: &mut [u8]) -> io::Result<usize> {
+        Err(io::Error::from(io::ErrorKind::Other))
+    }
+}
+
+// A writer of std that takes no byte, or errs.
+#[derive(Drop)]
+struct FailingWriter {
+    errs: bool,
+}
+
+impl io::Write for FailingWriter {
+    fn write(&mut self, piece: &[u8]) -> io::Result<usize> {
+        if self.errs {
+            Err(io::Error::from(io::ErrorKind::Other))
+        } else {
+            Ok(0)
+        }
+    }
+
+    fn flush(&mut self) -> io::Result<()> {
+        Ok(())
+    }
+}
+
+#[test]
+fn a_reader_that_errs_is_a_read_fault(rt: HostRuntime) -> Result<(), Fail> {
+    let alloc = rt.alloc();
+    let mut lines = 0;
+    let mut source = StdSource::new(FailingReader);
+    let mut sink = SafeSink::new(alloc);
+    let end = serve(
+        alloc,
+        &Echo,
+        &mut lines,
+        FRONT,
+        100,
+        10,
+        &mut source,
+        &mut sink,
+    );
+    assert_eq!(rt; end, SessionEnd::ReadFault);
+    assert_eq!(rt; sink.taken(), FRONT);
+    Ok(())
+}
+
+// How a session ends that reads nothing and writes to this writer.
+fn written_to(alloc: Global, writer: FailingWriter) -> SessionEnd {
+    let mut lines = 0;
+    let mut source = SafeSource::new(List::new(alloc));
+    let mut sink = StdSink::new(writer);
+    serve(
+        alloc,
+        &Echo,
+        &mut lines,
+        FRONT,
+        100,
+        10,
+        &mut source,
+        &mut sink,
+    )
+}
+
+#[test]
+fn a_writer_that_errs_or_takes_nothing_is_a_write_fault(rt: HostRuntime) {
+    for errs in [true, false] {
+        let end = written_to(rt.alloc(), FailingWriter { errs });
+        assert_eq!(rt; end, SessionEnd::WriteFault, "at {errs}");
+    }
+}

@@ -258,8 +258,7 @@ fn told_of_null_behind_references(alloc: Global) -> Result<&'static str, AllocEr
 
 #[test]
 fn null_is_seen_through_references(rt: HostRuntime) -> Result<(), Fail> {
-    let told = told_of_null_behind_references(rt.alloc())?;
-    assert_eq!(rt; told, "null of null");
+    assert_eq!(rt; told_of_null_behind_references(rt.alloc())?, "null of null");
     Ok(())
 }
 
@@ -284,8 +283,7 @@ fn told_of_shared_definitions(alloc: Global) -> Result<&'static str, AllocError>
 
 #[test]
 fn shared_definitions_are_met_once(rt: HostRuntime) -> Result<(), Fail> {
-    let told = told_of_shared_definitions(rt.alloc())?;
-    assert_eq!(rt; told, "passes");
+    assert_eq!(rt; told_of_shared_definitions(rt.alloc())?, "passes");
     Ok(())
 }
 
