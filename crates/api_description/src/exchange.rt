@@ -80,7 +80,8 @@ impl ApiDescription {
         // With a valid id, and where memory lasts, a request is handled exactly where it denotes arguments of
         // an endpoint that it names.
         ensures handled { HasId request.now → result ≢ Err ExchangeError.OutOfMemory → IsHandled result
-            ↔ IsTaken (boxed ⟦<dyn RouteHandler as RouteHandler>⟧) self.now.endpoints.items request.now body.now }
+            ↔ IsTaken (boxed ⟦<dyn RouteHandler as RouteHandler>⟧) self.now.endpoints.items
+            request.now body.now }
     {
         let request_id = match RequestId::new(alloc, request.request_id.as_str()) {
             Ok(request_id) => request_id,

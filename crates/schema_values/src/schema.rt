@@ -16,7 +16,8 @@ pub enum Schema {
     Object(Boxed<SchemaObject>),
 }
 
-/// The parts of a schema, each of which may be absent. Beside a reference `typed_values` writes no other part.
+/// The parts of a schema, each of which may be absent. Beside a reference `typed_values` writes no other
+/// part.
 #[derive(Drop)]
 #[cycle(schema)]
 pub struct SchemaObject {
