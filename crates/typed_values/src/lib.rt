@@ -28,6 +28,8 @@ mod table;
 #[cfg(test)]
 mod tests;
 mod tree;
+#[cfg(test)]
+mod tree_tests;
 
 pub use check::{TableError, check_desc, check_table};
 pub use decode::decode_json;

@@ -1,21 +1,21 @@
+//! Tables, what they are told, and the descriptors that the tests share.
 use crate::{
-    AddError, Added, DecodeError, Definition, Desc, DescTable, Field, IntKind, Presence,
-    SchemaPlace, TableError, Tree, check_desc, check_table, decode_json, encode_json, fits,
-    schema_of, schema_of_definition,
+    AddError, Added, Definition, Desc, DescTable, Field, IntKind, Presence, TableError, check_desc,
+    check_table,
 };
-use schema_values::{Boxed, Json, List, Schema, Text};
+use schema_values::{Boxed, List, Text};
 use std::alloc::{AllocError, Global};
 use std::test::Fail;
 
-fn reference(alloc: Global, name: &str) -> Result<Desc, AllocError> {
+pub(crate) fn reference(alloc: Global, name: &str) -> Result<Desc, AllocError> {
     Ok(Desc::Ref(Text::from_str(alloc, name)?))
 }
 
-fn option(alloc: Global, inner: Desc) -> Result<Desc, AllocError> {
+pub(crate) fn option(alloc: Global, inner: Desc) -> Result<Desc, AllocError> {
     Ok(Desc::Option(Boxed::new(alloc, inner)?))
 }
 
-fn list(alloc: Global, item: Desc) -> Result<Desc, AllocError> {
+pub(crate) fn list(alloc: Global, item: Desc) -> Result<Desc, AllocError> {
     Ok(Desc::List {
         item: Boxed::new(alloc, item)?,
         min: None,
@@ -46,7 +46,7 @@ fn either(alloc: Global, first: Desc, second: Desc) -> Result<Desc, AllocError> 
     Ok(Desc::Untagged { alternatives })
 }
 
-fn push(
+pub(crate) fn push(
     alloc: Global,
     fields: &mut List<Field>,
     name: &str,
@@ -89,7 +89,7 @@ fn define(table: &mut DescTable, name: &str, desc: Desc) -> Result<(), AllocErro
 }
 
 /// A table with the definition of a node, described as one.
-fn nodes(alloc: Global) -> Result<DescTable, AllocError> {
+pub(crate) fn nodes(alloc: Global) -> Result<DescTable, AllocError> {
     let description = Some(Text::from_str(alloc, "a node")?);
     let mut table = DescTable::new(alloc);
     match table.add_described("Node", description, node(alloc)?) {
@@ -284,116 +284,5 @@ fn told_of_shared_definitions(alloc: Global) -> Result<&'static str, AllocError>
 #[test]
 fn shared_definitions_are_met_once(rt: HostRuntime) -> Result<(), Fail> {
     assert_eq!(rt; told_of_shared_definitions(rt.alloc())?, "passes");
-    Ok(())
-}
-
-/// What a tree is written as, where it fits.
-fn written(alloc: Global, table: &DescTable, desc: &Desc, tree: &Tree) -> Result<Text, AllocError> {
-    if check_table(table).is_err() || check_desc(table, desc).is_err() || !fits(table, desc, tree) {
-        return Text::from_str(alloc, "no fit");
-    }
-    encode_json(alloc, table, desc, tree)?.compact(alloc)
-}
-
-/// What a copy of the tree of a JSON value is written as, or the text of the fault.
-fn again(alloc: Global, table: &DescTable, desc: &Desc, json: &Json) -> Result<Text, AllocError> {
-    if check_table(table).is_err() || check_desc(table, desc).is_err() {
-        return Text::from_str(alloc, "unchecked");
-    }
-    match decode_json(alloc, table, desc, json) {
-        Ok(tree) => written(alloc, table, desc, &tree.copy(alloc)?),
-        Err(DecodeError::Fault(fault)) => fault.text(alloc),
-        Err(DecodeError::OutOfMemory) => Err(AllocError),
-    }
-}
-
-/// The same of a list of nodes.
-fn nodes_again(alloc: Global, body: &str) -> Result<Text, AllocError> {
-    let table = nodes(alloc)?;
-    let desc = list(alloc, reference(alloc, "Node")?)?;
-    match Json::read(alloc, body.as_bytes()) {
-        Ok(json) => again(alloc, &table, &desc, &json),
-        Err(_) => Text::from_str(alloc, "not JSON"),
-    }
-}
-
-#[test]
-fn trees_are_written_with_their_nulls(rt: HostRuntime) -> Result<(), Fail> {
-    let rows = [
-        (
-            r#"[{"name":"a","children":[]}]"#,
-            r#"[{"name":"a","weight":null,"children":[]}]"#,
-        ),
-        (
-            r#"[{"children":[],"name":"a","nick":"b","weight":7},{"name":"c","children":[]}]"#,
-            r#"[{"name":"a","weight":7,"nick":"b","children":[]},{"name":"c","weight":null,"children":[]}]"#,
-        ),
-        (
-            r#"[{"name":"a","children":[]},{"name":"b","children":[{}]}]"#,
-            "[1].children[0]: missing field `name`",
-        ),
-        (r#"[{"name":"a","children":[]},1]"#, "[1]: invalid type"),
-    ];
-    for (body, expected) in rows {
-        let found = nodes_again(rt.alloc(), body)?;
-        assert_eq!(rt; found.as_str(), expected, "at {body}");
-    }
-    Ok(())
-}
-
-#[test]
-fn another_tree_does_not_fit(rt: HostRuntime) -> Result<(), Fail> {
-    let alloc = rt.alloc();
-    let found = written(alloc, &DescTable::new(alloc), &Desc::Bool, &Tree::Int(1))?;
-    assert_eq!(rt; found.as_str(), "no fit");
-    Ok(())
-}
-
-fn adds_null(schema: &Schema) -> bool {
-    match schema {
-        Schema::Object(parts) => parts.get().nullable,
-        Schema::Bool(_) => false,
-    }
-}
-
-fn describes_a_node(schema: &Schema) -> bool {
-    match schema {
-        Schema::Object(parts) => match &parts.get().description {
-            Some(description) => description.equals_str("a node"),
-            None => false,
-        },
-        Schema::Bool(_) => false,
-    }
-}
-
-/// The schema of an option of a truth value.
-fn schema_at(alloc: Global, place: SchemaPlace) -> Result<Schema, AllocError> {
-    let table = DescTable::new(alloc);
-    let desc = option(alloc, Desc::Bool)?;
-    schema_of(alloc, &table, &desc, place)
-}
-
-#[test]
-fn an_option_adds_null_but_in_a_header(rt: HostRuntime) -> Result<(), Fail> {
-    let plain = schema_at(rt.alloc(), SchemaPlace::Plain)?;
-    assert!(rt; adds_null(&plain));
-    let header = schema_at(rt.alloc(), SchemaPlace::Header)?;
-    assert!(rt; !adds_null(&header));
-    Ok(())
-}
-
-/// The schema of the definition of a node.
-fn schema_of_a_node(alloc: Global) -> Result<Schema, AllocError> {
-    let table = nodes(alloc)?;
-    match table.definitions() {
-        [definition] => schema_of_definition(alloc, definition),
-        _ => Err(AllocError),
-    }
-}
-
-#[test]
-fn a_definition_describes_its_schema(rt: HostRuntime) -> Result<(), Fail> {
-    let schema = schema_of_a_node(rt.alloc())?;
-    assert!(rt; describes_a_node(&schema));
     Ok(())
 }
