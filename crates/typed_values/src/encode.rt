@@ -17,8 +17,8 @@ use crate::tree::Tree;
 use schema_values::{Json, List, Member};
 use std::alloc::{AllocError, Global};
 
-/// The JSON of a tree of a descriptor, which denotes that tree where no untagged union is reached. Fields stand
-/// in the order in which they are declared.
+/// The JSON of a tree of a descriptor, which denotes that very tree where no untagged union is reached.
+/// Fields stand in the order in which they are declared.
 pub fn encode_json(
     alloc: Global,
     table: &DescTable,
