@@ -14,13 +14,14 @@ use Rattle.typed_values.specs.declared.table.Definition.{Definition}
 use Rattle.typed_values.specs.declared.tree.Tree.{Tree}
 use Rattle.typed_values.specs.Checks.{DescPasses}
 use Rattle.typed_values.specs.SchemaTable.{schema_json_titled}
+use Rattle.typed_values.specs.Reached.{Mentions}
 use Rattle.openapi_values.specs.declared.document.OpenApi.{OpenApi}
 use Rattle.openapi_values.specs.declared.media.RequestBody.{RequestBody}
 use Rattle.openapi_values.specs.Admits.{Admits, operation_at as listed_at}
 use Rattle.openapi_values.specs.Find.{value_at, operation_in}
 use Rattle.openapi_values.specs.Operation.{operation_json}
 use Rattle.openapi_values.proofs.Stands.{definition-stands, bodies-admitted}
-use Rattle.written_schemas.specs.Reached.{Mentions, DefinesReached}
+use Rattle.written_schemas.specs.Reached.{DefinesReached}
 use Rattle.written_schemas.specs.Written.{IsWritten}
 use Rattle.written_schemas.proofs.Whole.{titled_agrees}
 use Rattle.semver.specs.Identifiers.{parts_of}

@@ -6,9 +6,9 @@ use Rattle.std.proofs.lemmas.Bool.{cases_lt, or_left, or_right}
 use Rattle.typed_values.specs.declared.desc.Desc.{Desc}
 use Rattle.typed_values.specs.declared.table.Definition.{Definition}
 use Rattle.typed_values.specs.Definitions.{entry_of}
+use Rattle.typed_values.specs.Reached.{Mentions, IsReached, directly, through}
 use Rattle.typed_values.proofs.Found.{contains_cases, entry_name}
-use Rattle.written_schemas.specs.Reached.{Mentions, IsReached, directly, through}
-use Rattle.written_schemas.proofs.Needed.{entry_inside}
+use Rattle.typed_values.proofs.Needed.{entry_inside}
 use Rattle.api_description.specs.Documents.{references, is_among, referred_by, reached_within}
 use Rattle.api_description.proofs.Among.{any_contained, among_texts, among_joined}
 use Rattle.api_description.proofs.Growing.{StaysAt, some_stay}

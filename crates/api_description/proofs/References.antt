@@ -8,7 +8,7 @@ use Rattle.typed_values.specs.declared.desc.Desc.TheOpen.{Desc-F}
 use Rattle.typed_values.specs.declared.desc.Desc.TheVariants as desc
 use Rattle.typed_values.specs.declared.desc.Field.{Field}
 use Rattle.typed_values.specs.Parts.{StandsIn, the_whole, in_option, in_list, in_field, in_alternative}
-use Rattle.written_schemas.specs.Reached.{Mentions}
+use Rattle.typed_values.specs.Reached.{Mentions}
 use Rattle.api_description.specs.Documents.{references, references_step, references_of_field, is_among}
 use Rattle.api_description.proofs.Among.{any_contained, at_itself, among_joined}
 

@@ -22,17 +22,17 @@ use Rattle.typed_values.specs.Rows.{told_item, told_struct, list_row, struct_row
 use Rattle.typed_values.proofs.Found.{entry_found}
 use Rattle.typed_values.proofs.Rows.{row_at}
 
+pub not_null : (x : Json-F Json Member) (told : Told) → (x ≡ Json-F.Null → ⊥) → optional x told ≡ just told
+not_null Json-F.Null told other = absurd (other refl)
+not_null (Json-F.Bool b) told other = refl
+not_null (Json-F.Int n) told other = refl
+not_null (Json-F.Text s) told other = refl
+not_null (Json-F.List js) told other = refl
+not_null (Json-F.Object ms) told other = refl
+
 module _ (j : Json) where
   optional_other : (t : Told) → (j ≡ json.Null → ⊥) → optional (out-Json j) t ≡ just t
-  optional_other t other = go (out-Json j) refl
-    where
-      go : (x : Json-F Json Member) → out-Json j ≡ x → optional x t ≡ just t
-      go Json-F.Null e = absurd (other (sym (roll-out-Json j) ∙ ap roll-Json e ∙ json.rolls-Null))
-      go (Json-F.Bool b) e = refl
-      go (Json-F.Int i) e = refl
-      go (Json-F.Text s) e = refl
-      go (Json-F.List js) e = refl
-      go (Json-F.Object ms) e = refl
+  optional_other t other = not_null (out-Json j) t (λ e. other (sym (roll-out-Json j) ∙ ap roll-Json e ∙ json.rolls-Null))
 
   list_row_other : (table : List Definition) (whole d : Desc) (min max : Option ℕ) → ((js : List Json) → j ≡ json.List js → ⊥) → list_row table whole d min max (out-Json j) ≡ refused WrongKind
   list_row_other table whole d min max other = go (out-Json j) refl

@@ -32,14 +32,14 @@ use Rattle.typed_values.specs.Faults.{Trouble}
 use Rattle.typed_values.specs.Fits.{truth_fits, number_fits, words_fit, option_fits, each_fits, items_fit, field_desc, fields_fit, parts_fit, alternative_at, if_there, choice_fits, fits_by, fits_under, Fits}
 use Rattle.typed_values.specs.Parts.{the_whole, IsPart, of_whole, of_table}
 use Rattle.typed_values.specs.Rows.{told_item, value_denotes, told_field, told_fields, row, AreFieldsOf}
-use Rattle.typed_values.specs.Sound.{EachRests, RestsBy, Rests}
+use Rattle.typed_values.specs.Sound.{RestsBy, Rests}
 use Rattle.typed_values.proofs.Arms.{definition_is_part}
 use Rattle.typed_values.proofs.FitRows.{skipped_desc}
 use Rattle.typed_values.proofs.FitSteps.{fits_row, skipped_row}
 use Rattle.typed_values.proofs.Found.{contains_first, contains_later, contains_cases}
 use Rattle.typed_values.proofs.Inside.{part_of_option, part_of_list, parts_of_untagged, fields_of_struct}
 use Rattle.typed_values.proofs.Rows.{row_at}
-use Rattle.typed_values.proofs.Soundness.{passes_is_sound}
+use Rattle.typed_values.proofs.Soundness.{each_of, passes_is_sound}
 
 -- whatever tree is told passes a test
 abbrev Gives : Told → (Tree → Bool) → Type 0
@@ -169,10 +169,6 @@ choice_gives fits f ds gives t e =
 
 -- ---- the parts of a level
 
-each_rests : (Next : Desc → Type 0) (ds : List Desc) → EachRests Next ds → (d : Desc) → Contains ds d → Next d
-each_rests Next [] h d c = absurd (omega (arith, c.1))
-each_rests Next (x ∷ ds) h d c = elim (contains_cases x ds d c) [ inl q ↦ subst Next q h.0 | inr k ↦ each_rests Next ds h.1 d k ]
-
 found_by : (P : Json → Type 0) (b : Bool) (m : Member) (o : Option Json) (j : Json) → P m.value → (o ≡ Some j → P j) → cond b (Some m.value) o ≡ Some j → P j
 found_by P true m o j here later e = subst P (cc e) here
 found_by P false m o j here later e = later e
@@ -281,7 +277,7 @@ module _ (table : List Definition) (whole : Desc) (passes : TablePasses table) (
       struct_gives fs deny ms (fields_of_struct part fs deny (rolled d _ e ∙ desc.rolls-Struct fs deny)) (nullable_option d part fs deny e) inside t q
   row_gives j _ inside n next d part (Desc-F.Struct fs deny) e h t q = absurd (cc q)
   row_gives j x inside n next d part (Desc-F.Untagged ds) e h t q =
-      choice_gives (fits_under table whole) (told table whole j) ds (λ i c. next i (each_rests (Rests table n) ds h i c) (parts_of_untagged part ds (rolled d _ e ∙ desc.rolls-Untagged ds) i c)) t q
+      choice_gives (fits_under table whole) (told table whole j) ds (λ i c. next i (each_of (Rests table n) ds i h c) (parts_of_untagged part ds (rolled d _ e ∙ desc.rolls-Untagged ds) i c)) t q
   row_gives j x inside n next d part (Desc-F.Ref name) e h t q =
       found_gives j n next (definition table name) (λ i found. definition_is_part table whole name i found) h t q
 

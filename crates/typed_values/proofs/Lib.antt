@@ -13,6 +13,14 @@ pub mod FitRows
 pub mod DenotedFits
 pub mod EncodeSteps
 pub mod EncodeRows
+pub mod Needed
+pub mod NullTaken
+pub mod TreeParts
+pub mod ToldTrees
+pub mod ScalarsBack
+pub mod Denoted
+pub mod WrittenMembers
+pub mod WrittenBack
 pub mod SchemaRows
 pub mod Loops
 pub mod Paths

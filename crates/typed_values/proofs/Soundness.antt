@@ -12,7 +12,7 @@ use Rattle.typed_values.specs.Guarded.{named_here, Reaches, at_once, through}
 use Rattle.typed_values.specs.Parts.{the_whole, in_option, in_alternative, IsPart, of_whole, of_table}
 use Rattle.typed_values.specs.Sound.{EachRests, RestsBy, Rests, IsSound}
 use Rattle.typed_values.specs.Checks.{IsPlainlyRight, TablePasses, DescPasses}
-use Rattle.typed_values.proofs.Found.{contains_first, contains_later, other_name, same_or_not, entry_found, definition_found}
+use Rattle.typed_values.proofs.Found.{contains_first, contains_later, contains_cases, other_name, same_or_not, entry_found, definition_found}
 use Rattle.typed_values.proofs.Tops.{top, tops, top_at, top_positive, top_fits, tops_fit, other_tops_fit, map_sum, through_option, through_alternative, stands_inside}
 
 -- a table without the first definition of a name
@@ -48,6 +48,10 @@ each_rests : (Next : Desc → Type 0) (xs : List Desc) → ((x : Desc) → Conta
 each_rests Next [] h = tt
 each_rests Next (x ∷ xs) h = (h x (contains_first x xs), each_rests Next xs (λ y c. h y (contains_later x xs y c)))
 
+pub each_of : (Next : Desc → Type 0) (ds : List Desc) (x : Desc) → EachRests Next ds → Contains ds x → Next x
+each_of Next [] x h c = absurd (omega (arith, c.1))
+each_of Next (y ∷ ds) x h c = elim (contains_cases y ds x c) [ inl q ↦ subst Next q h.0 | inr k ↦ each_of Next ds x h.1 k ]
+
 rests_found : (Next : Desc → Type 0) (o : Option Desc) → (o ≡ None → ⊥) → ((y : Desc) → o ≡ Some y → Next y) → MatchOption o ⊥ Next
 rests_found Next None some next = some refl
 rests_found Next (Some y) some next = next y refl
@@ -73,7 +77,7 @@ module _ (table : List Definition) where
         | inr ne ↦ elim (inv m z g) [ inl a ↦ inl (definition_without left name m ne ∙ a) | inr a ↦ inr a ]
       ]
 
-  is_right : (whole d : Desc) → TablePasses table → DescPasses table whole → IsPart table whole d → IsPlainlyRight table d
+  pub is_right : (whole d : Desc) → TablePasses table → DescPasses table whole → IsPart table whole d → IsPlainlyRight table d
   is_right whole d passes right (of_whole s) = right d s
   is_right whole d passes right (of_table e c s) = passes.each e c d s
 

@@ -11,6 +11,7 @@ pub mod Members
 pub mod Parts
 pub mod Guarded
 pub mod Search
+pub mod Reached
 pub mod Sound
 pub mod Once
 pub mod Order

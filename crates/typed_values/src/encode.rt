@@ -1,10 +1,13 @@
 ghost use Rattle.std.specs.Prelude.{◌≡◌, map, IfOk};
-ghost use Rattle.typed_values.specs.declared.tree.Tree.{out-Tree};
+ghost use Rattle.schema_values.specs.Sound.{IsSound};
+ghost use Rattle.typed_values.specs.declared.tree.Tree.{Tree, out-Tree};
 ghost use Rattle.typed_values.specs.Checks.{TablePasses, DescPasses};
+ghost use Rattle.typed_values.specs.Denotes.{JsonDenotes};
 ghost use Rattle.typed_values.specs.Encoding as meant;
 ghost use Rattle.typed_values.specs.Encoding.{json_of_tree, written_under};
 ghost use Rattle.typed_values.specs.Fits.{Fits, field_desc};
 ghost use Rattle.typed_values.specs.Parts.{IsPart};
+ghost use Rattle.typed_values.specs.Reached.{ReachesNoUntagged};
 ghost use Rattle.typed_values.specs.Rows.{AreParts, AreFieldsOf};
 
 use crate::desc::{Desc, Field, Presence};
@@ -14,7 +17,8 @@ use crate::tree::Tree;
 use schema_values::{Json, List, Member};
 use std::alloc::{AllocError, Global};
 
-/// The JSON of a tree of a descriptor. Fields stand in the order in which they are declared.
+/// The JSON of a tree of a descriptor, which denotes that very tree where no untagged union is reached.
+/// Fields stand in the order in which they are declared.
 pub fn encode_json(
     alloc: Global,
     table: &DescTable,
@@ -25,6 +29,10 @@ pub fn encode_json(
     requires desc { DescPasses table.now desc.now }
     requires fits { Fits table.now desc.now tree.now }
     ensures json { IfOk result (λ json. json ≡ json_of_tree table.now desc.now tree.now) }
+    ensures sound { IfOk result (λ json. IsSound json) }
+    ensures denotes { IfOk result (λ json. (read : Tree) × JsonDenotes table.now desc.now json read) }
+    ensures again { ReachesNoUntagged table.now desc.now
+        → IfOk result (λ json. JsonDenotes table.now desc.now json tree.now) }
 {
     Scope::new(table, desc).encode_at(alloc, desc, tree)
 }

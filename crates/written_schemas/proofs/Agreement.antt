@@ -1,60 +1,35 @@
 -- A written schema admits exactly the values that denote a tree, with any steps that are enough.
-use Rattle.std.proofs.Common.{◌≡◌, ℕ, zero, suc, ◌≤◌, Bool, List, [], ◌∷◌, map, Option, Some, None, option_map, is_ok, refl, sym, ◌∙◌, ap, subst, arith, MatchOption, ◌⊎◌, inl, inr}
-use Rattle.std.specs.List.{AllByRecursion}
-use Rattle.std.specs.Prelude.{◌≢◌, Contains}
+use Rattle.std.proofs.Common.{◌≡◌, ℕ, zero, suc, ◌≤◌, List, [], ◌∷◌, Option, Some, None, option_map, is_ok, refl, sym, ◌∙◌, ap, subst, arith, MatchOption, inl, inr}
+use Rattle.std.specs.Prelude.{Contains}
 use denote.Param.Weighed.{most}
 use Rattle.schema_values.specs.declared.json_value.Json.{Json, out-Json}
-use Rattle.schema_values.specs.Sound.{AreDistinct}
 use Rattle.openapi_values.specs.Smaller.{smaller_admits}
 use Rattle.typed_values.specs.declared.desc.Desc.{Desc, out-Desc}
 use Rattle.typed_values.specs.declared.desc.Desc.TheOpen.{Desc-F}
 use Rattle.typed_values.specs.declared.desc.Field.{Field}
 use Rattle.typed_values.specs.declared.table.Definition.{Definition}
-use Rattle.typed_values.specs.Checks.{IsPlainlyRight, TablePasses, DescPasses}
-use Rattle.typed_values.specs.Definitions.{definition, entry_of, field_name}
+use Rattle.typed_values.specs.Checks.{TablePasses, DescPasses}
+use Rattle.typed_values.specs.Definitions.{definition, entry_of}
 use Rattle.typed_values.specs.Denotes.{Told, told, truth, number, words, at_definition}
-use Rattle.typed_values.specs.Parts.{IsPart, of_whole, of_table}
 use Rattle.typed_values.specs.Rows.{row}
 use Rattle.typed_values.specs.Sound.{EachRests, RestsBy, Rests, IsSound}
 use Rattle.typed_values.specs.SchemaTable.{schema_json}
-use Rattle.typed_values.proofs.Found.{contains_cases, definition_is, same_or_not}
+use Rattle.typed_values.proofs.Fields.{fields_distinct}
+use Rattle.typed_values.proofs.Found.{contains_cases, definition_is}
+use Rattle.typed_values.proofs.Needed.{IsNeeded, needed_part, option_needed, list_needed, field_needed, alternative_needed, reference_reached, reference_needed}
 use Rattle.typed_values.proofs.Rows.{row_at}
+use Rattle.typed_values.proofs.Soundness.{each_of, is_right}
 use Rattle.written_schemas.specs.Reached.{DefinesReached}
 use Rattle.written_schemas.proofs.Scalars.{truth_admits, number_admits, words_admit}
 use Rattle.written_schemas.proofs.Composites.{is_list_of, list_admits}
 use Rattle.written_schemas.proofs.Structs.{struct_admits}
-use Rattle.written_schemas.proofs.Needed.{IsNeeded, needed_part, option_needed, list_needed, field_needed, alternative_needed, reference_reached, reference_needed, cost_after, cost_by, cost}
+use Rattle.written_schemas.proofs.Costs.{cost_after, cost_by, cost}
 use Rattle.written_schemas.proofs.Forms.{drawn_row}
 use Rattle.written_schemas.proofs.AtOneValue.{AgreesAt, Below, leaf, list_agrees, object_agrees, choice_agrees, option_agrees, reference_agrees}
-
-new_or_not : (name : List ℕ) (names : List (List ℕ)) → AllByRecursion (λ other. name ≢ other) names ⊎ (AllByRecursion (λ other. name ≢ other) names → ⊥)
-new_or_not name [] = inl tt
-new_or_not name (other ∷ names) = elim (same_or_not name other) [
-  | inl same ↦ inr (λ h. h.0 same)
-  | inr ne ↦ elim (new_or_not name names) [ inl h ↦ inl (ne, h) | inr other ↦ inr (λ h. other h.1) ]
-]
-
-distinct_or_not : (names : List (List ℕ)) → AreDistinct names ⊎ (AreDistinct names → ⊥)
-distinct_or_not [] = inl tt
-distinct_or_not (name ∷ names) = elim (new_or_not name names) [
-  | inl new ↦ elim (distinct_or_not names) [ inl h ↦ inl (new, h) | inr other ↦ inr (λ h. other h.1) ]
-  | inr other ↦ inr (λ h. other h.0)
-]
-
-pub fields_distinct : (table : List Definition) (d : Desc) (fs : List Field) (deny : Bool) → out-Desc d ≡ Desc-F.Struct fs deny → IsPlainlyRight table d → AreDistinct (map field_name fs)
-fields_distinct table d fs deny e right = elim (distinct_or_not (map field_name fs)) [ inl h ↦ h | inr other ↦ absurd (right.names_distinct (fs, deny, e, other)) ]
-
-pub is_right : (table : List Definition) (whole : Desc) → TablePasses table → DescPasses table whole → (d : Desc) → IsPart table whole d → IsPlainlyRight table d
-is_right table whole passes right d (of_whole s) = right d s
-is_right table whole passes right d (of_table e c s) = passes.each e c d s
 
 at_most_of : (f : Desc → ℕ) (ds : List Desc) (x : Desc) → Contains ds x → f x ≤ most f ds
 at_most_of f [] x c = absurd (omega (arith, c.1))
 at_most_of f (y ∷ ds) x c = elim (contains_cases y ds x c) [ inl q ↦ omega (arith, ap f q) | inr k ↦ omega (arith, at_most_of f ds x k) ]
-
-pub each_of : (Next : Desc → Type 0) (ds : List Desc) (x : Desc) → EachRests Next ds → Contains ds x → Next x
-each_of Next [] x h c = absurd (omega (arith, c.1))
-each_of Next (y ∷ ds) x h c = elim (contains_cases y ds x c) [ inl q ↦ subst Next q h.0 | inr k ↦ each_of Next ds x h.1 k ]
 
 module _ (table : List Definition) (whole : Desc) (doc : Json) (q : ℕ) (passes : TablePasses table) (right : DescPasses table whole) (sound : IsSound table whole) (defines : DefinesReached doc table whole) where
   module _ (j : Json) (below : Below table whole doc q (out-Json j)) where
@@ -110,7 +85,7 @@ module _ (table : List Definition) (whole : Desc) (doc : Json) (q : ℕ) (passes
     agree_by n ih d need (Desc-F.Struct fs deny) e rests m le =
         leaf table whole doc q j d _ _ (drawn_row d (Desc-F.Struct fs deny) e)
         (λ next extra t s. struct_admits doc (smaller_admits doc q) next extra t s (out-Json j) _ _ deny)
-        (object_agrees table whole doc q j fs deny (fields_distinct table d fs deny e (is_right table whole passes right d (needed_part table whole d need))) (λ f c. field_needed table whole d fs deny f e c need) (out-Json j) below
+        (object_agrees table whole doc q j fs deny (fields_distinct table d fs deny e (is_right table whole d passes right (needed_part table whole d need))) (λ f c. field_needed table whole d fs deny f e c need) (out-Json j) below
         ∙ ap (λ (o : Told). is_ok o) (sym (told_row d need (Desc-F.Struct fs deny) e))) m le
     agree_by n ih d need (Desc-F.Untagged ds) e rests m le = choice_row n ih d ds need e rests m le
     agree_by n ih d need (Desc-F.Ref name) e rests m le = reference_row n ih d name need e rests m le (entry_of table name) refl

@@ -24,14 +24,14 @@ use Rattle.typed_values.specs.Denotes.{Told, told, optional, first_told}
 use Rattle.typed_values.specs.Order.{sorted_by}
 use Rattle.typed_values.specs.Rows.{told_item, list_row, struct_row}
 use Rattle.typed_values.specs.SchemaTable.{Drawn, plain, reference, drawn, drawn_json, property_of, required_names, same_name, schema_json, schema_json_described}
+use Rattle.typed_values.proofs.Denoted.{ok_below, ok_just, ok_items, ok_first}
 use Rattle.typed_values.proofs.Found.{contains_first, contains_later}
+use Rattle.typed_values.proofs.Needed.{IsNeeded}
 use Rattle.typed_values.proofs.Rows.{two_maps}
 use Rattle.written_schemas.proofs.Notes.{noted, notes}
 use Rattle.written_schemas.proofs.Composites.{is_list_of, wrapped_admits, reference_admits, choice_admits}
 use Rattle.written_schemas.proofs.Structs.{is_struct_of}
-use Rattle.written_schemas.proofs.Denoted.{ok_below, ok_just, ok_items, ok_first}
 use Rattle.written_schemas.proofs.Fields.{drawn_of, property, AgreesOn, struct_agrees}
-use Rattle.written_schemas.proofs.Needed.{IsNeeded}
 use Rattle.written_schemas.proofs.Forms.{noted_plain}
 
 module _ (table : List Definition) (whole : Desc) (doc : Json) (q : ℕ) where

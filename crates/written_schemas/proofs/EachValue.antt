@@ -14,8 +14,9 @@ use Rattle.typed_values.specs.declared.table.Definition.{Definition}
 use Rattle.typed_values.specs.Checks.{TablePasses, DescPasses}
 use Rattle.typed_values.specs.Denotes.{room}
 use Rattle.typed_values.specs.Sound.{IsSound}
+use Rattle.typed_values.proofs.Needed.{IsNeeded, needed_part}
 use Rattle.written_schemas.specs.Reached.{DefinesReached}
-use Rattle.written_schemas.proofs.Needed.{IsNeeded, needed_part, cost}
+use Rattle.written_schemas.proofs.Costs.{cost}
 use Rattle.written_schemas.proofs.AtOneValue.{Agrees, Below}
 use Rattle.written_schemas.proofs.Agreement.{agree_at}
 use Rattle.written_schemas.proofs.Parts.{OfParts, by_parts}

@@ -23,10 +23,10 @@ use Rattle.typed_values.specs.Denotes.{value_named, is_declared, told, by_presen
 use Rattle.typed_values.specs.Order.{sorted_by}
 use Rattle.typed_values.specs.Rows.{value_denotes, told_field, told_fields, told_struct}
 use Rattle.typed_values.specs.SchemaTable.{DrawnField, drawn, property_of, required_names, same_name}
+use Rattle.typed_values.proofs.Denoted.{ok_below, ok_just, ok_all, ok_struct}
 use Rattle.typed_values.proofs.Found.{contains_first, contains_later, other_name}
 use Rattle.written_schemas.proofs.Structs.{all_same, is_struct_of, other_passes}
 use Rattle.written_schemas.proofs.Sorted.{all_sorted, any_sorted, first_sorted, absent, and_swapped}
-use Rattle.written_schemas.proofs.Denoted.{ok_below, ok_just, ok_all, ok_struct}
 
 -- a field with the schema of its type
 abbrev pub drawn_of : Field → DrawnField

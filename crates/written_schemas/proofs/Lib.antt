@@ -9,9 +9,8 @@ pub mod Scalars
 pub mod Composites
 pub mod Structs
 pub mod Sorted
-pub mod Denoted
 pub mod Fields
-pub mod Needed
+pub mod Costs
 pub mod Forms
 pub mod AtOneValue
 pub mod Agreement
@@ -24,9 +23,3 @@ pub mod Rooms
 pub mod Whole
 pub mod MoreSteps
 pub mod BodyLemmas
-pub mod TreeParts
-pub mod NullTaken
-pub mod WrittenMembers
-pub mod ToldTrees
-pub mod ScalarsBack
-pub mod WrittenBack

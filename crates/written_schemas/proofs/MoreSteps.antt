@@ -22,12 +22,11 @@ use Rattle.typed_values.specs.Parts.{the_whole}
 use Rattle.typed_values.specs.Rows.{told_item, value_denotes, told_field, list_row, struct_row, row}
 use Rattle.typed_values.specs.Sound.{EachRests, RestsBy, Rests, IsSound}
 use Rattle.typed_values.proofs.Found.{contains_first, contains_later, definition_is}
+use Rattle.typed_values.proofs.Needed.{IsNeeded, of_whole, needed_part, option_needed, list_needed, field_needed, alternative_needed, reference_needed}
 use Rattle.typed_values.proofs.Rows.{row_at}
-use Rattle.typed_values.proofs.Soundness.{passes_is_sound}
+use Rattle.typed_values.proofs.Soundness.{passes_is_sound, each_of}
 use Rattle.typed_values.proofs.Tops.{nodes_at}
-use Rattle.written_schemas.proofs.Agreement.{each_of}
 use Rattle.written_schemas.proofs.Parts.{OfParts, by_parts}
-use Rattle.written_schemas.proofs.Needed.{IsNeeded, of_whole, needed_part, option_needed, list_needed, field_needed, alternative_needed, reference_needed}
 
 -- a descriptor under so many options
 options : ℕ → Desc → Desc

@@ -13,10 +13,10 @@ use Rattle.typed_values.specs.declared.tree.Tree.{Tree}
 use Rattle.typed_values.specs.Denotes.{Told, told, room as table_room}
 use Rattle.typed_values.specs.Parts.{the_whole}
 use Rattle.typed_values.specs.SchemaTable.{drawn, drawn_json, schema_json, schema_json_titled, schema_json_described}
+use Rattle.typed_values.proofs.Needed.{of_whole}
 use Rattle.typed_values.proofs.Soundness.{passes_is_sound}
 use Rattle.written_schemas.specs.Written.{IsWritten, AdmitsDenoted}
 use Rattle.written_schemas.proofs.Notes.{noted}
-use Rattle.written_schemas.proofs.Needed.{of_whole}
 use Rattle.written_schemas.proofs.EachValue.{agree}
 use Rattle.written_schemas.proofs.Sizes.{bare, bare_fits}
 use Rattle.written_schemas.proofs.Rooms.{cost_bounded}

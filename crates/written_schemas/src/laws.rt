@@ -21,7 +21,6 @@ ghost use Rattle.typed_values.specs.Fits.{Fits};
 ghost use Rattle.typed_values.specs.SchemaTable.{schema_json, schema_json_titled, schema_json_described};
 ghost use Rattle.typed_values.specs.Schemas.{schema_value, in_header};
 ghost use Rattle.written_schemas.specs.Bodies.{TakesJson};
-ghost use Rattle.written_schemas.specs.Reached.{ReachesNoUntagged};
 ghost use Rattle.written_schemas.specs.Written.{IsWritten, AdmitsDenoted};
 
 /// The schema of a descriptor admits exactly the JSON values that denote a tree; so it does under a title or
@@ -58,20 +57,11 @@ pub fn steps_suffice()
         (room doc (schema_json desc)) json (room doc (schema_json desc)) (schema_json desc) }
 {}
 
-/// What is written for a value of a descriptor is sound JSON, denotes a value, and is admitted by the
-/// descriptor's schema; it denotes the very value where no untagged union is reached.
+/// What is written for a value of a descriptor is admitted by the descriptor's schema.
 pub fn encodings_agree()
-    ensures sound { (table : List Entry) (desc : Descriptor) (tree : Value) → TablePasses table
-        → DescPasses table desc → Fits table desc tree → IsSound (json_of_tree table desc tree) }
-    ensures denotes { (table : List Entry) (desc : Descriptor) (tree : Value) → TablePasses table
-        → DescPasses table desc → Fits table desc tree
-        → (read : Value) × JsonDenotes table desc (json_of_tree table desc tree) read }
     ensures admitted { (doc : JsonValue) (table : List Entry) (desc : Descriptor) (tree : Value)
         → IsWritten doc table desc → Fits table desc tree
         → JsonAdmits doc (schema_json desc) (json_of_tree table desc tree) }
-    ensures again { (table : List Entry) (desc : Descriptor) (tree : Value) → TablePasses table
-        → DescPasses table desc → Fits table desc tree → ReachesNoUntagged table desc
-        → JsonDenotes table desc (json_of_tree table desc tree) tree }
 {}
 
 /// The schema of a descriptor is never refused. It is written as the table of schemas has it, also under a

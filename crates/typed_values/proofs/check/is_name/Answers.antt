@@ -1,6 +1,7 @@
-use Rattle.std.proofs.Common.{◌≡◌, ℕ, Bool, true, false, IsTrue, List, [], ◌∷◌, ◌&&◌, refl, sym, ◌∙◌, subst, rules, tests}
+use Rattle.std.proofs.Common.{◌≡◌, ℕ, true, IsTrue, List, [], ◌∷◌, refl, sym, ◌∙◌, subst, rules, tests}
 use Rattle.std.specs.List.{AllByRecursion, list_all}
 use Rattle.std.specs.Str.{chars}
+use Rattle.std.proofs.lemmas.Bool.{and_parts}
 use Rattle.std.proofs.lemmas.Str.{chars-nil}
 use Rattle.std.proofs.lemmas.Iterator.{YieldsList-from_chars}
 use Rattle.std.proofs.lemmas.Iterator.Search.{all_from_yields_List}
@@ -11,13 +12,9 @@ use Rattle.typed_values.proofs.check.is_name.Goals as goal
 abbrev AreNameCharacters : List ℕ → Type 0
 AreNameCharacters = AllByRecursion (λ c. IsTrue (is_name_character c))
 
-both : (a b : Bool) → (a && b) ≡ true → (a ≡ true) × (b ≡ true)
-both true b h = (refl, h)
-both false b h = absurd (cc h)
-
 to_all : (xs : List ℕ) → list_all is_name_character xs ≡ true → AreNameCharacters xs
 to_all [] h = tt
-to_all (x ∷ xs) h = let (here, rest) = both (is_name_character x) (list_all is_name_character xs) h in (here, to_all xs rest)
+to_all (x ∷ xs) h = let (here, rest) = and_parts (is_name_character x) (list_all is_name_character xs) h in (here, to_all xs rest)
 
 from_all : (xs : List ℕ) → AreNameCharacters xs → list_all is_name_character xs ≡ true
 from_all [] h = refl

@@ -1,15 +1,14 @@
--- The descriptors that a descriptor's schema needs, and how many steps of a document each of them takes.
-use Rattle.std.proofs.Common.{◌≡◌, ℕ, zero, suc, Bool, true, false, List, [], ◌∷◌, Option, Some, None, option_map, bytes_eq, cond, refl, sym, ◌∙◌, ap, subst}
+-- The descriptors that stand in a descriptor, or in a definition that it reaches.
+use Rattle.std.proofs.Common.{◌≡◌, ℕ, Bool, true, false, List, [], ◌∷◌, Option, Some, None, option_map, bytes_eq, cond, refl, sym, ◌∙◌, ap, subst}
 use Rattle.std.specs.Prelude.{Contains}
-use denote.Param.Weighed.{most}
 use Rattle.typed_values.specs.declared.desc.Desc.{Desc, out-Desc}
 use Rattle.typed_values.specs.declared.desc.Desc.TheOpen.{Desc-F}
 use Rattle.typed_values.specs.declared.desc.Field.{Field}
 use Rattle.typed_values.specs.declared.table.Definition.{Definition}
 use Rattle.typed_values.specs.Definitions.{definition, entry_of}
 use Rattle.typed_values.specs.Parts.{StandsIn, the_whole, in_option, in_list, in_field, in_alternative, IsPart, of_whole as part_of_whole, of_table}
+use Rattle.typed_values.specs.Reached.{IsReached, directly, through}
 use Rattle.typed_values.proofs.Found.{contains_first, contains_later, definition_is}
-use Rattle.written_schemas.specs.Reached.{IsReached, directly, through}
 
 -- it stands in the whole descriptor, or in a definition that this reaches
 pub data IsNeeded (table : List Definition) (whole d : Desc) : Type 0 where
@@ -60,19 +59,3 @@ module _ (table : List Definition) (whole d : Desc) where
       by_entry (Some x) g =
           let is : x.desc ≡ y = cc (sym f ∙ definition_is table name ∙ ap (option_map (λ e. e.desc)) g) in
           subst (IsNeeded table whole) is (reference_needed name x e g n)
-
--- a reference takes two steps, since its schema or that of its definition may be an `allOf` of one
-abbrev pub cost_after : (Desc → ℕ) → Option Desc → ℕ
-cost_after next None = 0
-cost_after next (Some y) = suc (suc (next y))
-
-abbrev pub cost_by : List Definition → (Desc → ℕ) → Desc-F Desc Field → ℕ
-cost_by table next (Desc-F.Option x) = next x
-cost_by table next (Desc-F.Untagged ds) = suc (most next ds)
-cost_by table next (Desc-F.Ref name) = cost_after next (definition table name)
-cost_by table next _ = 1
-
--- the steps that a descriptor's schema takes at one value, through at most n references, options and choices
-unfoldable pub cost : List Definition → ℕ → Desc → ℕ
-cost table zero d = 0
-cost table (suc n) d = cost_by table (cost table n) (out-Desc d)

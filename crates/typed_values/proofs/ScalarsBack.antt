@@ -1,9 +1,10 @@
 -- What truth values, numbers and texts are written as is sound, and denotes the very tree.
-use Rattle.std.proofs.Common.{◌≡◌, ℕ, ℤ, pos, negsuc, ◌≤ℤ◌, ◌^◌, ◌-◌, Bool, true, false, ◌&&◌, int_le, Option, refl, sym, ◌∙◌, ap, subst, arith}
+use Rattle.std.proofs.Common.{◌≡◌, ℕ, ℤ, pos, negsuc, ◌≤ℤ◌, ◌^◌, ◌-◌, Bool, true, ◌&&◌, int_le, Option, sym, ◌∙◌, ap, subst, arith}
+use Rattle.std.proofs.lemmas.Bool.{and_parts}
+use Rattle.std.proofs.lemmas.Int.{ints}
 use Rattle.schema_values.specs.declared.json_value.Json.{Json, out-Json}
 use Rattle.schema_values.specs.declared.json_value.Json.TheVariants as json
 use Rattle.schema_values.specs.Sound.{IsWhole, IsSound}
-use Rattle.std.proofs.lemmas.Int.{ints}
 use Rattle.std.specs.declared.result.Result.TheVariants.{Ok}
 use Rattle.typed_values.specs.declared.desc.IntKind.{IntKind}
 use Rattle.typed_values.specs.declared.desc.IntKind.TheVariants.{I8, I16, I32, I64, U8, U16, U32, U64}
@@ -16,13 +17,9 @@ use Rattle.typed_values.specs.Bounds.{least_of, greatest_of, is_number_of}
 use Rattle.typed_values.specs.Denotes.{Told, if_holds, truth, number, words}
 use Rattle.typed_values.specs.Encoding.{scalar_written}
 use Rattle.typed_values.specs.Fits.{truth_fits, number_fits, words_fit}
-use Rattle.written_schemas.proofs.ToldTrees.{Gives}
+use Rattle.typed_values.proofs.ToldTrees.{Gives}
 use lib.Dec.{T}
 use lib.Signed.{le_z_yes}
-
-pub both : (a b : Bool) → (a && b) ≡ true → (a ≡ true) × (b ≡ true)
-both true b e = (refl, e)
-both false b e = absurd (cc e)
 
 in_order : (a b : ℤ) → int_le a b ≡ true → a ≤ℤ b
 in_order a b e = le_z_yes (subst T (sym e) tt)
@@ -43,8 +40,8 @@ kind_within U64 = (le_z_yes tt, le_z_yes tt)
 
 whole_number : (kind : IntKind) (min max : Option ℤ) (n : ℤ) → is_number_of kind min max n ≡ true → IsWhole n
 whole_number kind min max n fit =
-    let within = both (int_le (least_of kind) n && int_le n (greatest_of kind)) _ fit in
-    let ends = both (int_le (least_of kind) n) (int_le n (greatest_of kind)) within.0 in
+    let within = and_parts (int_le (least_of kind) n && int_le n (greatest_of kind)) _ fit in
+    let ends = and_parts (int_le (least_of kind) n) (int_le n (greatest_of kind)) within.0 in
     (through _ (least_of kind) n (kind_within kind).0 (in_order (least_of kind) n ends.0), through n (greatest_of kind) _ (in_order n (greatest_of kind) ends.1) (kind_within kind).1)
 
 module _ (Exact : Type 0) where

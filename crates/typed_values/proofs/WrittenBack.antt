@@ -1,5 +1,6 @@
 -- What a value of a descriptor is written as is sound, and denotes a tree: the very value where no untagged union is reached.
 use Rattle.std.proofs.Common.{◌≡◌, ℕ, zero, suc, ◌+◌, Bool, true, false, ◌||◌, not, List, [], ◌∷◌, length, map, Option, Some, None, is_none, refl, sym, ◌∙◌, ap, subst, MatchOption}
+use Rattle.std.proofs.lemmas.Bool.{and_parts}
 use Rattle.std.proofs.lemmas.List.{length-map}
 use Rattle.std.proofs.Math.Bool.{or-true}
 use Rattle.std.specs.List.{AllByRecursion}
@@ -33,29 +34,22 @@ use Rattle.typed_values.specs.Fits.{option_fits, each_fits, items_fit, field_des
 use Rattle.typed_values.specs.Parts.{the_whole}
 use Rattle.typed_values.specs.Rows.{told_item, value_denotes, told_field, told_fields, list_row, struct_row, row}
 use Rattle.typed_values.specs.Sound.{RestsBy, Rests}
+use Rattle.typed_values.specs.Reached.{IsUntagged, ReachesNoUntagged}
+use Rattle.typed_values.proofs.Arms.{not_null}
+use Rattle.typed_values.proofs.Denoted.{denied_is}
 use Rattle.typed_values.proofs.EncodeSteps.{is_none_tree, written_row, skipped_written}
 use Rattle.typed_values.proofs.FitRows.{skipped_desc}
 use Rattle.typed_values.proofs.FitSteps.{fits_row, skipped_row}
 use Rattle.typed_values.proofs.Found.{contains_first, contains_later}
+use Rattle.typed_values.proofs.Needed.{IsNeeded, of_whole, of_reached, needed_part, option_needed, list_needed, field_needed, alternative_needed, definition_needed}
 use Rattle.typed_values.proofs.Rows.{row_at}
-use Rattle.typed_values.proofs.Soundness.{passes_is_sound}
-use Rattle.written_schemas.specs.Reached.{IsUntagged, ReachesNoUntagged}
-use Rattle.written_schemas.proofs.Agreement.{fields_distinct, is_right}
-use Rattle.written_schemas.proofs.Denoted.{denied_is}
-use Rattle.written_schemas.proofs.Needed.{IsNeeded, of_whole, of_reached, needed_part, option_needed, list_needed, field_needed, alternative_needed, definition_needed}
-use Rattle.written_schemas.proofs.NullTaken.{null_taken}
-use Rattle.written_schemas.proofs.ScalarsBack.{both, ReadsBack, truth_back, number_back, words_back}
-use Rattle.written_schemas.proofs.ToldTrees.{Gives, GivesAll, gives_below, gives_just, gives_then, gives_tree, first_tells}
-use Rattle.written_schemas.proofs.TreeParts.{OfParts, by_parts}
-use Rattle.written_schemas.proofs.WrittenMembers.{Beside, is_left, unless_left, distinct_written, written_declared, IsFound, all_found}
-
-not_null : (x : Json-F Json Member) (told : Told) → (x ≡ Json-F.Null → ⊥) → optional x told ≡ just told
-not_null Json-F.Null told other = absurd (other refl)
-not_null (Json-F.Bool b) told other = refl
-not_null (Json-F.Int n) told other = refl
-not_null (Json-F.Text s) told other = refl
-not_null (Json-F.List js) told other = refl
-not_null (Json-F.Object ms) told other = refl
+use Rattle.typed_values.proofs.Soundness.{is_right, passes_is_sound}
+use Rattle.typed_values.proofs.Fields.{fields_distinct}
+use Rattle.typed_values.proofs.NullTaken.{null_taken}
+use Rattle.typed_values.proofs.ScalarsBack.{ReadsBack, truth_back, number_back, words_back}
+use Rattle.typed_values.proofs.ToldTrees.{Gives, GivesAll, gives_below, gives_just, gives_then, gives_tree, first_tells}
+use Rattle.typed_values.proofs.TreeParts.{OfParts, by_parts}
+use Rattle.typed_values.proofs.WrittenMembers.{Beside, is_left, unless_left, distinct_written, written_declared, IsFound, all_found}
 
 no_name : (name : Option (List ℕ)) (told : Told) → is_none name ≡ true → unless_denied name told ≡ told
 no_name None told e = refl
@@ -94,7 +88,7 @@ module _ (table : List Definition) (whole : Desc) (passes : TablePasses table) (
 
   never_null : (d x : Desc) → IsNeeded table whole d → out-Desc d ≡ Desc-F.Option x → (j : Json) (read : Tree) → told table whole j x ≡ Ok read → out-Json j ≡ Json-F.Null → ⊥
   never_null d x need e j read is null =
-      (is_right table whole passes right d (needed_part table whole d need)).null_once
+      (is_right table whole d passes right (needed_part table whole d need)).null_once
       (x, e, null_taken table whole (passes_is_sound table whole passes right) j null x (option_needed table whole d x e need) read is)
 
   -- ---- row by row
@@ -113,14 +107,14 @@ module _ (table : List Definition) (whole : Desc) (passes : TablePasses table) (
   items_sound : (i : Desc) → IsNeeded table whole i → (ts : List Tree) → AllByRecursion BackInside ts → each_fits (λ s. fits_under table whole s i) ts ≡ true → AllByRecursion IsSoundValue (map (λ s. written s i) ts)
   items_sound i need [] parts fit = tt
   items_sound i need (t ∷ ts) parts fit =
-      let (first, rest) = both (fits_under table whole t i) (each_fits (λ s. fits_under table whole s i) ts) fit in
+      let (first, rest) = and_parts (fits_under table whole t i) (each_fits (λ s. fits_under table whole s i) ts) fit in
       ((parts.0.0 i need first).0, items_sound i need ts parts.1 rest)
 
   items_told_back : (i : Desc) → IsNeeded table whole i → (ts : List Tree) → AllByRecursion BackInside ts → each_fits (λ s. fits_under table whole s i) ts ≡ true
       → (k : ℕ) → GivesAll Exact (all_told (told_item table whole i) k (map (λ s. written s i) ts)) ts
   items_told_back i need [] parts fit k = ([], refl, λ h. refl)
   items_told_back i need (t ∷ ts) parts fit k =
-      let (first, rest) = both (fits_under table whole t i) (each_fits (λ s. fits_under table whole s i) ts) fit in
+      let (first, rest) = and_parts (fits_under table whole t i) (each_fits (λ s. fits_under table whole s i) ts) fit in
       gives_then Exact (told_item table whole i k (written t i)) (all_told (told_item table whole i) (k + 1) (map (λ s. written s i) ts)) t ts
       (gives_below Exact _ (told table whole (written t i) i) t (parts.0.0 i need first).1) (items_told_back i need ts parts.1 rest (k + 1))
 
@@ -128,7 +122,7 @@ module _ (table : List Definition) (whole : Desc) (passes : TablePasses table) (
       → ReadsBack Exact (items_written (λ s. written s i) x) (list_row table whole i min max (out-Json (items_written (λ s. written s i) x))) t
   items_back i min max need (Tree-F.List ts) t is parts fit =
       let js : List Json = map (λ s. written s i) ts in
-      let (within, each) = both (is_length_within min max (length ts)) (each_fits (λ s. fits_under table whole s i) ts) fit in
+      let (within, each) = and_parts (is_length_within min max (length ts)) (each_fits (λ s. fits_under table whole s i) ts) fit in
       let whole_list : list_row table whole i min max (out-Json (ItemsJson js)) ≡ as_tree Items (all_told (told_item table whole i) 0 js) =
       ap (list_row table whole i min max) (json.outs-List js)
       ∙ ap (λ (b : Bool). if_holds b BadLength (as_tree Items (all_told (told_item table whole i) 0 js))) (ap (is_length_within min max) (length-map ts (λ s. written s i)) ∙ within) in (
@@ -180,7 +174,7 @@ module _ (table : List Definition) (whole : Desc) (passes : TablePasses table) (
   fields_back [] (x ∷ xs) need known fit = absurd (cc fit)
   fields_back (f ∷ fs) [] need known fit = absurd (cc fit)
   fields_back (f ∷ fs) (x ∷ xs) need known fit =
-      let (first, rest) = both (fits_under table whole x (field_desc f)) (fields_fit (fits_under table whole) fs xs) fit in
+      let (first, rest) = and_parts (fits_under table whole x (field_desc f)) (fields_fit (fits_under table whole) fs xs) fit in
       (field_by f (need f (contains_first f fs)) f.presence refl x known.0 first, fields_back fs xs (λ g c. need g (contains_later f fs g c)) known.1 rest)
 
   members_sound : (fs : List Field) (xs : List Tree) → Beside FieldBack fs xs → AllByRecursion HasSoundValue (members_written is_none_tree written fs xs)
@@ -245,7 +239,7 @@ module _ (table : List Definition) (whole : Desc) (passes : TablePasses table) (
     row_back n next d need (Desc-F.Option i) e rest fit = option_back d i need e (out-Tree t) t (roll-out-Tree t) parts fit
     row_back n next d need (Desc-F.List i min max) e rest fit = items_back i min max (list_needed table whole d i min max e need) (out-Tree t) t (roll-out-Tree t) parts fit
     row_back n next d need (Desc-F.Struct fs deny) e rest fit =
-        let distinct = fields_distinct table d fs deny e (is_right table whole passes right d (needed_part table whole d need)) in
+        let distinct = fields_distinct table d fs deny e (is_right table whole d passes right (needed_part table whole d need)) in
         parts_back fs deny distinct (λ f c. field_needed table whole d fs deny f e c need) (out-Tree t) t (roll-out-Tree t) parts fit
     row_back n next d need (Desc-F.Untagged ds) e rest fit = choice_back d ds need e (out-Tree t) t parts fit
     row_back n next d need (Desc-F.Ref name) e rest fit = reference_back n next d name need e (definition table name) refl rest fit

@@ -15,9 +15,9 @@ use Rattle.typed_values.specs.Denotes.{Told, room, told, or_else, first_told, at
 use Rattle.typed_values.specs.Rows.{row}
 use Rattle.typed_values.specs.Sound.{RestsBy, Rests, IsSound}
 use Rattle.typed_values.proofs.Found.{contains_first, contains_later}
+use Rattle.typed_values.proofs.Needed.{IsNeeded, needed_part, alternative_needed, definition_needed}
 use Rattle.typed_values.proofs.Rows.{row_at}
-use Rattle.written_schemas.proofs.Agreement.{each_of}
-use Rattle.written_schemas.proofs.Needed.{IsNeeded, needed_part, alternative_needed, definition_needed}
+use Rattle.typed_values.proofs.Soundness.{each_of}
 
 -- the alternative under which a choice is told
 abbrev SomeTells : (Desc → Told) → List Desc → Type 0

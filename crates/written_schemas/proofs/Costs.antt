@@ -1,0 +1,24 @@
+-- How many steps of a document the schema of a descriptor takes at one value.
+use Rattle.std.proofs.Common.{ℕ, zero, suc, List, Option, Some, None}
+use denote.Param.Weighed.{most}
+use Rattle.typed_values.specs.declared.desc.Desc.{Desc, out-Desc}
+use Rattle.typed_values.specs.declared.desc.Desc.TheOpen.{Desc-F}
+use Rattle.typed_values.specs.declared.desc.Field.{Field}
+use Rattle.typed_values.specs.declared.table.Definition.{Definition}
+use Rattle.typed_values.specs.Definitions.{definition}
+
+-- a reference takes two steps, since its schema or that of its definition may be an `allOf` of one
+abbrev pub cost_after : (Desc → ℕ) → Option Desc → ℕ
+cost_after next None = 0
+cost_after next (Some y) = suc (suc (next y))
+
+abbrev pub cost_by : List Definition → (Desc → ℕ) → Desc-F Desc Field → ℕ
+cost_by table next (Desc-F.Option x) = next x
+cost_by table next (Desc-F.Untagged ds) = suc (most next ds)
+cost_by table next (Desc-F.Ref name) = cost_after next (definition table name)
+cost_by table next _ = 1
+
+-- the steps that a descriptor's schema takes at one value, through at most n references, options and choices
+unfoldable pub cost : List Definition → ℕ → Desc → ℕ
+cost table zero d = 0
+cost table (suc n) d = cost_by table (cost table n) (out-Desc d)
