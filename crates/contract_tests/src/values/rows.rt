@@ -21,7 +21,6 @@ pub const ROWS: [Row; 113] = [
     (r#"{"on":true,}"#, "not JSON"),
     (r#"{"on":true,"limit":01}"#, "not JSON"),
     (r#"{"on":true,"limit":1.0}"#, "not JSON"),
-    (r#"{"on":true,"limit":-0}"#, "not JSON"),
     (r#"{"on":true,"limit":1e2}"#, "not JSON"),
     (r#"{"on":true,"limit":-0}"#, "not JSON"),
     (r#"{"on":true,"limit":18446744073709551616}"#, "not JSON"),
