@@ -1,6 +1,7 @@
 #!/bin/sh
 # Lines a second of a session over N lines and over 2N lines of a point each (N is 100000 by default), and of the
-# slowest tenth of the replies, by the moments at which each tenth had come out of a pipe.
+# slowest tenth of the replies, by the moments at which each tenth had come out of a pipe. With GNU time also the most
+# memory that was in use.
 here=$(cd "$(dirname "$0")/.." && pwd) || exit 1
 lines=${1:-100000}
 work=$(mktemp -d) || exit 1
@@ -43,4 +44,7 @@ for count in "$lines" $((lines * 2)); do
             printf "%d lines, %.2f s, %.0f lines a second; the slowest tenth %.3f s, %.0f lines a second\n",
                 count, all / 1e9, count * 1e9 / all, slowest / 1e9, count * 1e8 / slowest
         }' "$work/moments" || exit 1
+    if [ -x /usr/bin/time ]; then
+        /usr/bin/time -f '%M kilobytes at most' "$here/contract-tool" session 1.0.0 <"$work/input" 2>&1 >/dev/null
+    fi
 done

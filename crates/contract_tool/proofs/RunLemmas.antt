@@ -7,18 +7,21 @@ use Rattle.line_session.specs.declared.outside.Sink.{Ghosts as SinkGhosts}
 use Rattle.line_session.specs.declared.outside.Source.{Ghosts as SourceGhosts}
 use Rattle.line_session.specs.declared.serving.SessionEnd.{SessionEnd}
 use Rattle.line_session.specs.declared.serving.SessionEnd.TheVariants as ended
+use Rattle.api_description.specs.declared.api_extract.request.RequestParts.{RequestParts}
 use Rattle.api_description.specs.declared.endpoint.ApiEndpoint.{ApiEndpoint}
 use Rattle.api_description.specs.declared.exchange.Exchange.{Exchange}
 use Rattle.api_description.specs.declared.exchange.ExchangeError.{ExchangeError}
 use Rattle.api_description.specs.declared.exchange.ExchangeError.TheVariants.{OutOfMemory as NoMemory}
-use Rattle.api_description.specs.Agreement.{IsAgreed}
+use Rattle.api_description.specs.Agreement.{FollowsDocument, IsAgreed, IsListed}
 use Rattle.api_description.specs.Documents.{document_of}
 use Rattle.api_description.specs.Endpoints.{Meanings}
+use Rattle.api_description.specs.Exchanges.{Answers}
 use Rattle.api_description.specs.Registering.{AreAccepted}
 use Rattle.api_description.specs.Stores.{Tables}
 use Rattle.schema_values.specs.declared.json_value.Json.{Json}
 use Rattle.std.specs.declared.alloc.Global.{Global}
 use Rattle.std.specs.declared.string.String.{String}
+use Rattle.semver.specs.Identifiers.{parts_of}
 use Rattle.semver.specs.Parse.{Parts}
 use Rattle.contract_tool.specs.declared.config.ToolStatus.{ToolStatus}
 use Rattle.contract_tool.specs.declared.config.ToolStatus.TheVariants.{Done, Usage, Refused, ReadFault, WriteFault, LineTooLong, TooMuchInput, OutOfMemory}
@@ -26,9 +29,6 @@ use Rattle.contract_tool.specs.declared.config.ToolConfig.{ToolConfig}
 use Rattle.contract_tool.specs.LineAnswers.{LineAnswers}
 use Rattle.contract_tool.specs.ReplyLines.{Tells}
 use Rattle.contract_tool.specs.Words.{AskForSession}
-use Rattle.api_description.proofs.Agreed.{request_agrees}
-use Rattle.api_description.proofs.Followed.{answers_follow}
-use Rattle.api_description.proofs.Listed.{is_listed, accepted_methods}
 use Rattle.contract_tool.specs.Ends.{CallsFor, FailedToRead, FailedToWrite, IsEnded, IsSessionUpTo, Outside}
 use Rattle.contract_tool.specs.Sessions.{IsOpened, status_of}
 
@@ -81,17 +81,21 @@ told-is-answer : (outcome : Result Exchange ExchangeError) (told : Json) → Tel
 told-is-answer outcome told tells same = subst (λ (o : Result Exchange ExchangeError). Tells o told) same tells
 
 module _ {X : Type 0} {F : X → Type 0} (m : Meanings X F) where
-  -- a session of accepted endpoints is opened
-  pub opened : (config : ToolConfig) (version : Parts) (es : List (ApiEndpoint X F)) (words : List (String Global)) → AskForSession words version → AreAccepted m [] es → IsOpened m config version es words
-  opened config version es words asked accepted =
-      let agreed : IsAgreed m version es (document_of m es config.title version) = λ request body at. request_agrees m config.title version request body at es accepted in
-      record {
-        asked = asked;
-        accepted = accepted;
-        listed = is_listed m version es config.title (accepted_methods m [] es accepted);
-        agreed = agreed;
-        followed = λ before line reply after x id. answers_follow m config.server es x.request x.body before after version (document_of m es config.title version) agreed x.asks_for.at_version x.outcome x.answers id (told-is-answer x.outcome x.told x.tells);
-      }
+  -- a session is opened of accepted endpoints that agree with their document
+  pub opened : (config : ToolConfig) (version : Parts) (es : List (ApiEndpoint X F)) (words : List (String Global)) → AskForSession words version → AreAccepted m [] es
+      → IsListed m version es (document_of m es config.title version) → IsAgreed m version es (document_of m es config.title version)
+      → ((request : RequestParts) (body : List ℕ) (before : Tables) (outcome : Result Exchange ExchangeError) (after : Tables) → Answers m config.server es request body before outcome after
+      → FollowsDocument (document_of m es config.title (parts_of request.version)) request body outcome)
+      → IsOpened m config version es words
+  opened config version es words asked accepted listed agreed follow = record {
+    asked = asked;
+    accepted = accepted;
+    listed = listed;
+    agreed = agreed;
+    followed = λ before line reply after x id.
+        subst (λ (v : Parts). FollowsDocument (document_of m es config.title v) x.request x.body x.outcome) x.asks_for.at_version
+        (follow x.request x.body before x.outcome after x.answers) id (told-is-answer x.outcome x.told x.tells);
+  }
 
   -- what was served, of endpoints and a front that are equal
   pub served-same : (config : ToolConfig) (version : Parts) (one two : List (ApiEndpoint X F)) (front front' : List ℕ) (most longest : ℕ) (x y t u : Option (List ℕ)) (old new : Tables) (end : SessionEnd)

@@ -75,6 +75,8 @@ pub fn run<S: Source, K: Sink>(
         Err(RegisterError::Refused(error)) => return ToolStatus::Refused(error),
         Err(RegisterError::OutOfMemory) => return ToolStatus::OutOfMemory,
     };
+    // The law of its document, which `session` and `ended` rest on.
+    api.agrees();
     let Ok(front) = front(alloc, &api, config, &version) else {
         return ToolStatus::OutOfMemory;
     };

@@ -1,6 +1,7 @@
-use Rattle.std.proofs.Common.{◌∙◌, Err, ap, refl, sym}
+use Rattle.std.proofs.Common.{◌∙◌, Err, ap, refl, subst, sym}
 use Rattle.semver.specs.Identifiers.{parts_of}
 use Rattle.contract_tool.specs.declared.config.ToolStatus.TheVariants.{Done}
+use Rattle.contract_tool.specs.Sessions.{IsOpened}
 use Rattle.contract_tool.proofs.RunLemmas.{answered-same, called-for, ended-so, is-ended, opened, served-same}
 use Rattle.contract_tool.proofs.tool.run.Goals as goal
 
@@ -24,7 +25,10 @@ returns-clause-session g c is all written left taken =
     let front = rw c.in-Ok-of_endpoints.ensures.items at (c.as_slice.ensures ∙ c.in-Ok-front.ensures) in
     record {
       version = parts_of c.in-Ok.version;
-      opened = opened _ c.args.config.now (parts_of c.in-Ok.version) c.args.endpoints.items c.args.words.now c.in-Ok.ensures.session c.in-Ok-of_endpoints.ensures.accepted;
+      opened = subst (λ es. IsOpened _ c.args.config.now (parts_of c.in-Ok.version) es c.args.words.now) c.in-Ok-of_endpoints.ensures.items
+          (opened _ c.args.config.now (parts_of c.in-Ok.version) _ c.args.words.now c.in-Ok.ensures.session c.in-Ok-of_endpoints.ensures.registered
+          (c.agrees.ensures.listed c.args.config.now.title (parts_of c.in-Ok.version)) (c.agrees.ensures.agreed c.args.config.now.title (parts_of c.in-Ok.version))
+          (c.agrees.ensures.followed c.args.config.now.title c.args.config.now.server));
       answered = answered-same _ c.args.config.now (parts_of c.in-Ok.version) _ c.args.endpoints.items _ _ all written _ _ _ _ c.in-Ok-of_endpoints.ensures.items front (c.serve.ensures.session end all written left taken);
     }
 
@@ -33,7 +37,10 @@ returns-clause-ended g c =
     let front = rw c.in-Ok-of_endpoints.ensures.items at (c.as_slice.ensures ∙ c.in-Ok-front.ensures) in
     is-ended _ c.args.config.now c.args.endpoints.items c.args.words.now _ _ _ _ c.serve.result c.status_of.result c.status_of.ensures (record {
       version = parts_of c.in-Ok.version;
-      opened = opened _ c.args.config.now (parts_of c.in-Ok.version) c.args.endpoints.items c.args.words.now c.in-Ok.ensures.session c.in-Ok-of_endpoints.ensures.accepted;
+      opened = subst (λ es. IsOpened _ c.args.config.now (parts_of c.in-Ok.version) es c.args.words.now) c.in-Ok-of_endpoints.ensures.items
+          (opened _ c.args.config.now (parts_of c.in-Ok.version) _ c.args.words.now c.in-Ok.ensures.session c.in-Ok-of_endpoints.ensures.registered
+          (c.agrees.ensures.listed c.args.config.now.title (parts_of c.in-Ok.version)) (c.agrees.ensures.agreed c.args.config.now.title (parts_of c.in-Ok.version))
+          (c.agrees.ensures.followed c.args.config.now.title c.args.config.now.server));
       served = served-same _ c.args.config.now (parts_of c.in-Ok.version) _ c.args.endpoints.items _ _ _ _ _ _ _ _ _ _ _ c.in-Ok-of_endpoints.ensures.items front c.serve.ensures.served;
       limits = c.serve.ensures.limits;
     }) c.serve.ensures.read_fault c.serve.ensures.write_fault
