@@ -208,8 +208,10 @@ fn requests_are_handled(rt: HostRuntime) -> Result<(), Fail> {
 fn bodies_that_are_no_json_are_refused(rt: HostRuntime) -> Result<(), Fail> {
     let alloc = rt.alloc();
     let exchange = answer(alloc, &flags(alloc)?, b"x")?;
-    let refused =
-        "refused 400 {\n  \"request_id\": \"123\",\n  \"message\": \"unable to parse JSON body: not JSON\"\n}";
+    let refused = r#"refused 400 {
+  "request_id": "123",
+  "message": "unable to parse JSON body: not JSON"
+}"#;
     assert_eq!(rt; told(alloc, &exchange)?.as_slice(), refused.as_bytes());
     Ok(())
 }
@@ -270,7 +272,7 @@ fn endpoints_take_json(rt: HostRuntime) -> Result<(), Fail> {
 #[test]
 fn refused_media_types_are_printed(rt: HostRuntime) -> Result<(), Fail> {
     let alloc = rt.alloc();
-    let error = NewEndpointError::UnsupportedMime(text(alloc, "text/plain")?);
+    let error = NewEndpointError::UnsupportedMime(text(alloc, "text/plain")?).copy(alloc)?;
     assert!(rt;
         format!(in alloc; "{error}")?
             .as_str()

@@ -1,7 +1,6 @@
 //! A handler whose every reply is a failure.
 ghost use Rattle.std.specs.Prelude.{◌≡◌, ◌∷◌, [], IfOk, Some, codes};
 ghost use Rattle.typed_values.specs.declared.desc.Desc.{Ref};
-ghost use Rattle.api_description.specs.Replies.{HasHttpErrors};
 ghost use Rattle.api_description.specs.Responses.{error_definition};
 
 use crate::api_extract::ArgList;
@@ -24,7 +23,10 @@ use typed_values::{Definition, Desc, DescTable};
 #[derive(Drop)]
 struct Fails {
     shape: HandlerShape,
-    ghost has_http_errors: { HasHttpErrors shape },
+    ghost errors: { shape ≡ record shape {
+      table = error_definition ∷ [];
+      error = Some (record { desc = Ref (codes "Error"); name = codes "Error" });
+    } },
 }
 
 impl RouteHandler for Fails {
@@ -87,7 +89,10 @@ fn error(alloc: Global) -> Result<ApiEndpointErrorResponse, AllocError>
 }
 
 fn shape(alloc: Global) -> Result<HandlerShape, AllocError>
-    ensures { IfOk result (λ shape. HasHttpErrors shape) }
+    ensures { IfOk result (λ shape. shape ≡ record shape {
+      table = error_definition ∷ [];
+      error = Some (record { desc = Ref (codes "Error"); name = codes "Error" });
+    }) }
 {
     Ok(HandlerShape {
         table: table(alloc)?,
@@ -135,8 +140,14 @@ fn sent(alloc: Global, exchange: &Exchange) -> Result<Vec<u8>, AllocError> {
     }
 }
 
-const SENT: &str =
-    "500\ncontent-type: application/json\nx-request-id: 123\n{\n  \"request_id\": \"123\",\n  \"error_code\": \"Internal\",\n  \"message\": \"Internal Server Error\"\n}";
+const SENT: &str = r#"500
+content-type: application/json
+x-request-id: 123
+{
+  "request_id": "123",
+  "error_code": "Internal",
+  "message": "Internal Server Error"
+}"#;
 
 #[test]
 fn an_internal_error_is_sent_without_its_message(rt: HostRuntime) -> Result<(), Fail> {

@@ -149,18 +149,28 @@ fn a_document_has_the_definitions_that_are_reached(rt: HostRuntime) -> Result<()
 }
 
 // Members are written in the order in which the fields are declared.
-const ROWS: [(&str, &str); 3] = [
+const ROWS: [(&str, &str); 4] = [
     (
-        r#"{"children":[{"name":"b","children":[{"owner":{"home":{"street":"e"},"name":"d"},"children":[],"name":"c"}]}],"name":"a"}"#,
-        r#"handled 200 {"name":"a","children":[{"name":"b","children":[{"name":"c","children":[],"owner":{"name":"d","home":{"street":"e"}}}]}]}"#,
+        r#"{"children":[{"name":"b","children":[{"children":[],"name":"c"}]}],"name":"a"}"#,
+        r#"handled 200 {"name":"a","children":[{"name":"b","children":[{"name":"c","children":[]}]}]}"#,
+    ),
+    (
+        r#"{"owner":{"home":{"street":"e"},"name":"d"},"children":[],"name":"a"}"#,
+        r#"handled 200 {"name":"a","children":[],"owner":{"name":"d","home":{"street":"e"}}}"#,
     ),
     (
         r#"{"name":"a","children":[{"name":"b","children":[{"name":"c"}]}]}"#,
-        "refused 400 {\n  \"request_id\": \"123\",\n  \"message\": \"unable to parse JSON body: children[0].children[0]: missing field `children`\"\n}",
+        r#"refused 400 {
+  "request_id": "123",
+  "message": "unable to parse JSON body: children[0].children[0]: missing field `children`"
+}"#,
     ),
     (
         r#"{"name":"a","children":[{"name":"b","children":[],"owner":{"name":"d","home":{}}}]}"#,
-        "refused 400 {\n  \"request_id\": \"123\",\n  \"message\": \"unable to parse JSON body: children[0].owner.home: missing field `street`\"\n}",
+        r#"refused 400 {
+  "request_id": "123",
+  "message": "unable to parse JSON body: children[0].owner.home: missing field `street`"
+}"#,
     ),
 ];
 

@@ -248,11 +248,17 @@ fn a_second_endpoint_is_not_built_and_changes_nothing(rt: HostRuntime) -> Result
 // What a copy of the refusal of an endpoint prints.
 fn printed(alloc: Global, endpoint: ApiEndpoint) -> Result<String, AllocError> {
     match ApiDescription::new(alloc).register(endpoint) {
-        Err(RegisterError::Refused(error)) => {
-            let copy = error.copy(alloc)?;
-            format!(in alloc; "{copy}, {:?} of {}", copy.cause(), copy.operation_id())
+        Ok(()) => String::from_str(alloc, "registered"),
+        Err(error) => printed_of(alloc, &error.copy(alloc)?),
+    }
+}
+
+fn printed_of(alloc: Global, error: &RegisterError) -> Result<String, AllocError> {
+    match error {
+        RegisterError::Refused(error) => {
+            format!(in alloc; "{error}, {:?} of {}", error.cause(), error.operation_id())
         }
-        _ => String::from_str(alloc, "not refused"),
+        RegisterError::OutOfMemory => Err(AllocError),
     }
 }
 
