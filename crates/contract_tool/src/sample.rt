@@ -29,7 +29,7 @@ use typed_values::{AddError, Definition, Desc, DescTable, Field, IntKind, Presen
 pub fn config(alloc: Global) -> Result<ToolConfig, AllocError>
     ensures { IfOk result (λ config. (config.title ≡ codes "sample")
         × (config.server.default_request_body_max_bytes ≡ 2 ^ 10)
-        × (config.server.page_max_nitems ≡ 10000) × (config.server.page_default_nitems ≡ 100)
+        × (config.server.page_max_nitems.value ≡ 10000) × (config.server.page_default_nitems.value ≡ 100)
         × (config.frame_budget ≡ 1000)
         × (config.longest_line ≡ 2 ^ 20) × (config.most_input ≡ 2 ^ 31)) }
 {

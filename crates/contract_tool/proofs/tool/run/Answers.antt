@@ -25,8 +25,8 @@ returns-clause-session g c is all written left taken =
     let front = rw c.in-Ok-of_endpoints.ensures.items at (c.as_slice.ensures ∙ c.in-Ok-front.ensures) in
     record {
       version = parts_of c.in-Ok.version;
-      opened = subst (λ es. IsOpened _ c.args.config.now (parts_of c.in-Ok.version) es c.args.words.now) c.in-Ok-of_endpoints.ensures.items
-          (opened _ c.args.config.now (parts_of c.in-Ok.version) _ c.args.words.now c.in-Ok.ensures.session c.in-Ok-of_endpoints.ensures.registered
+      opened = subst (λ es. IsOpened (λ e. goal.RouteHandler-dyn g (e.handler.vtable, e.handler.value)) c.args.config.now (parts_of c.in-Ok.version) es c.args.words.now) c.in-Ok-of_endpoints.ensures.items
+          (opened (λ e. goal.RouteHandler-dyn g (e.handler.vtable, e.handler.value)) c.args.config.now (parts_of c.in-Ok.version) _ c.args.words.now c.in-Ok.ensures.session c.in-Ok-of_endpoints.ensures.registered
           (c.agrees.ensures.listed c.args.config.now.title (parts_of c.in-Ok.version)) (c.agrees.ensures.agreed c.args.config.now.title (parts_of c.in-Ok.version))
           (c.agrees.ensures.followed c.args.config.now.title c.args.config.now.server));
       answered = answered-same _ c.args.config.now (parts_of c.in-Ok.version) _ c.args.endpoints.items _ _ all written _ _ _ _ c.in-Ok-of_endpoints.ensures.items front (c.serve.ensures.session end all written left taken);
@@ -37,8 +37,8 @@ returns-clause-ended g c =
     let front = rw c.in-Ok-of_endpoints.ensures.items at (c.as_slice.ensures ∙ c.in-Ok-front.ensures) in
     is-ended _ c.args.config.now c.args.endpoints.items c.args.words.now _ _ _ _ c.serve.result c.status_of.result c.status_of.ensures (record {
       version = parts_of c.in-Ok.version;
-      opened = subst (λ es. IsOpened _ c.args.config.now (parts_of c.in-Ok.version) es c.args.words.now) c.in-Ok-of_endpoints.ensures.items
-          (opened _ c.args.config.now (parts_of c.in-Ok.version) _ c.args.words.now c.in-Ok.ensures.session c.in-Ok-of_endpoints.ensures.registered
+      opened = subst (λ es. IsOpened (λ e. goal.RouteHandler-dyn g (e.handler.vtable, e.handler.value)) c.args.config.now (parts_of c.in-Ok.version) es c.args.words.now) c.in-Ok-of_endpoints.ensures.items
+          (opened (λ e. goal.RouteHandler-dyn g (e.handler.vtable, e.handler.value)) c.args.config.now (parts_of c.in-Ok.version) _ c.args.words.now c.in-Ok.ensures.session c.in-Ok-of_endpoints.ensures.registered
           (c.agrees.ensures.listed c.args.config.now.title (parts_of c.in-Ok.version)) (c.agrees.ensures.agreed c.args.config.now.title (parts_of c.in-Ok.version))
           (c.agrees.ensures.followed c.args.config.now.title c.args.config.now.server));
       served = served-same _ c.args.config.now (parts_of c.in-Ok.version) _ c.args.endpoints.items _ _ _ _ _ _ _ _ _ _ _ c.in-Ok-of_endpoints.ensures.items front c.serve.ensures.served;
