@@ -8,7 +8,7 @@ use contract_tool::sample::{self, PointCreate};
 use contract_tool::{StdSink, StdSource, ToolStatus, run};
 use http::Method;
 use schema_values::Text;
-use std::alloc::{AllocError, Global};
+use std::alloc::AllocError;
 use std::env;
 use std::io::ErrorKind;
 use std::process::ExitCode;
@@ -33,9 +33,11 @@ fn command_words(rt: &HostRuntime) -> Result<Vec<String>, ToolStatus> {
     }
 }
 
-// The sample's endpoint.
-fn point_create(alloc: Global) -> Result<ApiEndpoint, AllocError> {
-    let endpoint = ApiEndpoint::new(
+// Runs a command of the sample API over the standard streams.
+fn run_sample(rt: &HostRuntime, words: &[String]) -> Result<ToolStatus, AllocError> {
+    let alloc = rt.alloc();
+    let mut endpoints = Vec::new(alloc);
+    match ApiEndpoint::new(
         alloc,
         Text::from_ascii(alloc, "point_create")?,
         Box::new(alloc, PointCreate::new(alloc)?)?,
@@ -43,19 +45,11 @@ fn point_create(alloc: Global) -> Result<ApiEndpoint, AllocError> {
         "application/json",
         Text::from_ascii(alloc, "/points")?,
         ApiEndpointVersions::all(),
-    );
-    match endpoint {
-        Ok(endpoint) => Ok(endpoint),
-        Err(NewEndpointError::OutOfMemory) => Err(AllocError),
+    ) {
+        Ok(endpoint) => endpoints.push(endpoint)?,
+        Err(NewEndpointError::OutOfMemory) => return Err(AllocError),
         Err(NewEndpointError::UnsupportedMime(_)) => unreachable!(),
     }
-}
-
-// Runs a command of the sample API over the standard streams.
-fn run_sample(rt: &HostRuntime, words: &[String]) -> Result<ToolStatus, AllocError> {
-    let alloc = rt.alloc();
-    let mut endpoints = Vec::new(alloc);
-    endpoints.push(point_create(alloc)?)?;
     let config = sample::config(alloc)?;
     Ok(run(
         alloc,
