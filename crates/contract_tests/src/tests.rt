@@ -1,49 +1,60 @@
 use crate::session::{Setting, document_and, joined, plain, run_session};
 use std::test::Fail;
 
-const CREATE: &str =
-    "{\"method\":\"POST\",\"template\":\"/points\",\"frames\":[\"{\\\"label\\\":\\\"a\\\",\\\"n\\\":7,\\\"on\\\":true}\"],\"request_id\":\"r1\"}";
+const CREATE: &str = concat!(
+    r#"{"method":"POST","template":"/points","frames":["{\"label\":\"a\",\"n\":7,"#,
+    r#"\"on\":true}"],"request_id":"r1"}"#,
+);
 
-const CREATED: &str =
-    "{\"outcome\":\"handled\",\"status\":201,\"headers\":[[\"content-type\",\"application/json\"]],\"body\":\"{\\\"label\\\":\\\"a\\\",\\\"n\\\":7,\\\"on\\\":true}\"}";
+const CREATED: &str = concat!(
+    r#"{"outcome":"handled","status":201,"headers":[["content-type","application/json"]],"#,
+    r#""body":"{\"label\":\"a\",\"n\":7,\"on\":true}"}"#,
+);
 
-const CREATE_AGAIN: &str =
-    "{\"method\":\"POST\",\"template\":\"/points\",\"frames\":[\"{\\\"label\\\":\\\"a\\\",\\\"n\\\":8,\\\"on\\\":true}\"],\"request_id\":\"r2\"}";
+const CREATE_AGAIN: &str = concat!(
+    r#"{"method":"POST","template":"/points","frames":["{\"label\":\"a\",\"n\":8,"#,
+    r#"\"on\":true}"],"request_id":"r2"}"#,
+);
 
-const CREATED_AGAIN: &str =
-    "{\"outcome\":\"handled\",\"status\":201,\"headers\":[[\"content-type\",\"application/json\"]],\"body\":\"{\\\"label\\\":\\\"a\\\",\\\"n\\\":8,\\\"on\\\":true}\"}";
+const CREATED_AGAIN: &str = concat!(
+    r#"{"outcome":"handled","status":201,"headers":[["content-type","application/json"]],"#,
+    r#""body":"{\"label\":\"a\",\"n\":8,\"on\":true}"}"#,
+);
 
-const TRAILING: &str =
-    "{\"method\":\"POST\",\"template\":\"/points\",\"frames\":[\"{\\\"label\\\":\\\"a\\\",\\\"n\\\":7,\\\"on\\\":true} x\"],\"request_id\":\"r3\"}";
+const TRAILING: &str = concat!(
+    r#"{"method":"POST","template":"/points","frames":["{\"label\":\"a\",\"n\":7,"#,
+    r#"\"on\":true} x"],"request_id":"r3"}"#,
+);
 
 const CUT: &str =
-    "{\"method\":\"POST\",\"template\":\"/points\",\"frames\":[\"{\\\"label\\\":\\\"a\\\"\"],\"request_id\":\"r3\"}";
+    r#"{"method":"POST","template":"/points","frames":["{\"label\":\"a\""],"request_id":"r3"}"#;
 
 const ELSEWHERE: &str =
-    "{\"method\":\"POST\",\"template\":\"/circles\",\"frames\":[\"{}\"],\"request_id\":\"r\"}";
+    r#"{"method":"POST","template":"/circles","frames":["{}"],"request_id":"r"}"#;
 
 const WITH_URI: &str =
-    "{\"method\":\"POST\",\"template\":\"/points\",\"uri\":\"/points\",\"frames\":[\"{}\"],\"request_id\":\"r\"}";
+    r#"{"method":"POST","template":"/points","uri":"/points","frames":["{}"],"request_id":"r"}"#;
 
-const GET: &str =
-    "{\"method\":\"GET\",\"template\":\"/points\",\"request_id\":\"r\",\"frames\":[\"\"]}";
+const GET: &str = r#"{"method":"GET","template":"/points","request_id":"r","frames":[""]}"#;
 
-const NO_METHOD: &str =
-    "{\"method\":\"A B\",\"template\":\"/points\",\"request_id\":\"r\",\"frames\":[\"\"]}";
+const NO_METHOD: &str = r#"{"method":"A B","template":"/points","request_id":"r","frames":[""]}"#;
 
 const BAD_ID_ASKED: &str =
-    "{\"method\":\"POST\",\"template\":\"/points/\",\"request_id\":\"a\\nb\",\"frames\":[\"\"]}";
+    r#"{"method":"POST","template":"/points/","request_id":"a\nb","frames":[""]}"#;
 
-const BAD: &str = "{\"outcome\":\"bad-line\"}";
+const BAD: &str = r#"{"outcome":"bad-line"}"#;
 
-const BAD_ID: &str = "{\"outcome\":\"bad-request-id\"}";
+const BAD_ID: &str = r#"{"outcome":"bad-request-id"}"#;
 
-const NONE: &str = "{\"outcome\":\"no-such-operation\"}";
+const NONE: &str = r#"{"outcome":"no-such-operation"}"#;
 
-const NOT_BUILT: &str = "{\"outcome\":\"not-built\"}";
+const NOT_BUILT: &str = r#"{"outcome":"not-built"}"#;
 
-const REFUSED: &str =
-    "{\"outcome\":\"refused\",\"status\":400,\"headers\":[[\"content-type\",\"application/json\"],[\"x-request-id\",\"r3\"]],\"body\":\"{\\n  \\\"request_id\\\": \\\"r3\\\",\\n  \\\"message\\\": \\\"unable to parse JSON body: not JSON\\\"\\n}\"}";
+const REFUSED: &str = concat!(
+    r#"{"outcome":"refused","status":400,"headers":[["content-type","application/json"],"#,
+    r#"["x-request-id","r3"]],"body":"{\n  \"request_id\": \"r3\","#,
+    r#"\n  \"message\": \"unable to parse JSON body: not JSON\"\n}"}"#,
+);
 
 // The reply lines to input lines, behind the document, and the number of the point `a` that is then stored.
 #[test]
