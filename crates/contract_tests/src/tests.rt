@@ -118,8 +118,8 @@ fn each_cause_has_its_status(rt: HostRuntime) -> Result<(), Fail> {
 }
 
 // The reads and the writes of a session of one line, each failing in turn: the status tells which of the two
-// it was, and what was written is a part of the whole output, from its front. A point is stored where its line
-// was read to its end and the document written. Beyond the last call nothing fails.
+// it was, and what was written is a part of the whole output, from its front. A point is stored where its
+// line was read to its end and the document written. Beyond the last call nothing fails.
 #[test]
 fn each_read_and_each_write_may_fail(rt: HostRuntime) -> Result<(), Fail> {
     let alloc = rt.alloc();
