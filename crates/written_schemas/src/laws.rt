@@ -36,7 +36,8 @@ pub fn schemas_agree()
         → AdmitsDenoted doc (schema_json_described text desc) table desc }
 {}
 
-/// A written document admits a request exactly where its body's JSON denotes a tree.
+/// Where an operation of a written document takes JSON under a descriptor's titled schema, a request whose
+/// body reads as JSON is admitted exactly where that JSON denotes a tree.
 pub fn bodies_agree()
     ensures { (document : Document) (path method name : List ℕ) (table : List Entry) (desc : Descriptor)
         → TakesJson document path method name desc → IsWritten (open_api_json document) table desc

@@ -41,15 +41,35 @@ fn point(alloc: Global) -> Result<Definition, AllocError> {
     })
 }
 
+const POINT: &str = r#"{
+  "description": "A point.",
+  "type": "object",
+  "properties": {
+    "label": {
+      "type": "string",
+      "minLength": 1
+    },
+    "n": {
+      "type": "integer",
+      "format": "int32"
+    },
+    "on": {
+      "type": "boolean"
+    }
+  },
+  "required": [
+    "label",
+    "n",
+    "on"
+  ]
+}"#;
+
 #[test]
 fn definitions_are_written(rt: HostRuntime) -> Result<(), Fail> {
     let alloc = rt.alloc();
     let json = definition_schema(alloc, &point(alloc)?)?;
-    let text = json.compact(alloc)?;
-    assert_eq!(rt;
-        text.as_str(),
-        "{\"description\":\"A point.\",\"type\":\"object\",\"properties\":{\"label\":{\"type\":\"string\",\"minLength\":1},\"n\":{\"type\":\"integer\",\"format\":\"int32\"},\"on\":{\"type\":\"boolean\"}},\"required\":[\"label\",\"n\",\"on\"]}"
-    );
+    let text = json.pretty(alloc)?;
+    assert_eq!(rt; text.as_str(), POINT);
     Ok(())
 }
 
