@@ -7,7 +7,7 @@ use Rattle.typed_values.specs.declared.desc.Desc.TheFolds.{fold-Field, fold_out-
 use Rattle.typed_values.specs.declared.desc.Desc.TheOpen.{Desc-F}
 use Rattle.typed_values.specs.declared.desc.Desc.TheVariants as desc
 use Rattle.typed_values.specs.declared.desc.Field.{Field}
-use Rattle.typed_values.specs.Parts.{StandsIn, the_whole, in_option, in_list, in_field, in_alternative}
+use Rattle.typed_values.specs.Parts.{StandsIn, the_whole, in_option, in_list, in_map, in_field, in_alternative}
 use Rattle.typed_values.specs.Reached.{Mentions}
 use Rattle.api_description.specs.Documents.{references, references_step, references_of_field, is_among}
 use Rattle.api_description.proofs.Among.{any_contained, at_itself, among_joined}
@@ -50,6 +50,7 @@ module _ (name : List ℕ) where
   has_part whole d the_whole h = h
   has_part whole d (in_option {d = p} x s e) h = has_part whole p s (ap (is_among name) (references_row p (Desc-F.Option x) e) ∙ h)
   has_part whole d (in_list {d = p} x min max s e) h = has_part whole p s (ap (is_among name) (references_row p (Desc-F.List x min max) e) ∙ h)
+  has_part whole d (in_map {d = p} x s e) h = has_part whole p s (ap (is_among name) (references_row p (Desc-F.Map x) e) ∙ h)
   has_part whole d (in_field {d = p} fs deny f s e c) h =
       has_part whole p s (ap (is_among name) (struct_row p fs deny e) ∙ among_joined name (λ f. references f.desc) fs ∙ any_contained (λ f. is_among name (references f.desc)) fs f c h)
   has_part whole d (in_alternative {d = p} ds x s e c) h =

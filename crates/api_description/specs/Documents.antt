@@ -118,6 +118,7 @@ paths_of m version endpoints = map (λ template. (template, path_item_of m versi
 abbrev pub references_step : Desc-F (List (List ℕ)) (List (List ℕ)) → List (List ℕ)
 references_step (Desc-F.Option names) = names
 references_step (Desc-F.List names min max) = names
+references_step (Desc-F.Map names) = names
 references_step (Desc-F.Struct names deny) = flat_map (λ some. some) names
 references_step (Desc-F.Untagged names) = flat_map (λ some. some) names
 references_step (Desc-F.Ref name) = name ∷ []

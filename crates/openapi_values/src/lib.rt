@@ -19,6 +19,8 @@ mod schema_parts;
 #[cfg(test)]
 mod tests;
 mod written;
+#[cfg(test)]
+mod written_tests;
 
 pub use admits::json_admits;
 pub use document::{Components, Info, OpenApi};

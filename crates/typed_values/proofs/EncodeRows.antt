@@ -1,9 +1,9 @@
 -- What each arm of the encoder needs: its row.
-use Rattle.std.proofs.Common.{◌≡◌, ◌<◌, ◌≤◌, ◌+◌, ◌++◌, ◌⊎◌, inl, inr, ℕ, ℤ, Bool, false, List, [], ◌∷◌, length, drop, get_or, Option, refl, sym, ◌∙◌, ap, arith, min}
+use Rattle.std.proofs.Common.{◌≡◌, ◌<◌, ◌≤◌, ◌+◌, ◌++◌, ◌⊎◌, inl, inr, ℕ, zero, suc, ℤ, Bool, false, List, [], ◌∷◌, length, drop, get_or, Option, Some, None, refl, sym, ◌∙◌, ap, arith, min}
 use Rattle.std.proofs.lemmas.List.{drop_more, append_assoc, append-nil}
 use Rattle.std.proofs.Math.ListN.{drop_of_length-le}
 use Rattle.std.specs.Prelude.{slice_get}
-use Rattle.schema_values.specs.declared.json_value.Json.{Json}
+use Rattle.schema_values.specs.declared.json_value.Json.{Json, Null, Text as Words}
 use Rattle.schema_values.specs.declared.json_value.Member.{Member}
 use Rattle.schema_values.specs.Member.{member}
 use Rattle.typed_values.specs.declared.desc.Desc.{Desc, out-Desc}
@@ -11,23 +11,38 @@ use Rattle.typed_values.specs.declared.desc.Desc.TheOpen.{Desc-F}
 use Rattle.typed_values.specs.declared.desc.Desc.TheVariants as desc
 use Rattle.typed_values.specs.declared.desc.Field.{Field}
 use Rattle.typed_values.specs.declared.desc.IntKind.{IntKind}
+use Rattle.typed_values.specs.declared.desc.Named.{Named}
 use Rattle.typed_values.specs.declared.tree.Tree.{Tree, Variant as Choice, out-Tree}
 use Rattle.typed_values.specs.declared.tree.Tree.TheVariants.{outs-Variant}
 use Rattle.typed_values.specs.declared.table.Definition.{Definition}
 use Rattle.typed_values.specs.Definitions.{definition}
 use Rattle.typed_values.specs.Denotes.{room}
-use Rattle.typed_values.specs.Encoding.{is_left_out, unless, members_written, scalar_written, option_written, items_written, parts_written, choice_written, written_if_there, written_by, written_under}
+use Rattle.typed_values.specs.Encoding.{is_left_out, unless, members_written, scalar_written, whole_written, name_written, listed_written, option_written, items_written, entries_written, parts_written, choice_written, written_if_there, written_by, written_under}
 use Rattle.typed_values.specs.Fits.{field_desc}
 use Rattle.typed_values.specs.Sound.{Rests}
 use Rattle.typed_values.proofs.EncodeSteps.{written_row, is_none_tree}
 use Rattle.typed_values.proofs.FitRows.{alternative_is}
 
+abbrev pub name_of_slot : Option Named → Json
+name_of_slot None = Null
+name_of_slot (Some n) = Words n.name
+
 module _ (table : List Definition) (whole : Desc) (t : Tree) (d : Desc) (h : Rests table (room table whole) d) where
   row_at : (y : Desc-F Desc Field) → out-Desc d ≡ y → written_under table whole t d ≡ written_by table is_none_tree (written_under table whole) (written_under table whole t) y (out-Tree t)
   row_at y e = written_row table whole t d h ∙ ap (λ (z : Desc-F Desc Field). written_by table is_none_tree (written_under table whole) (written_under table whole t) z (out-Tree t)) e
 
+  pub written_any : d ≡ desc.Any → written_under table whole t d ≡ whole_written (out-Tree t)
+  written_any e = row_at Desc-F.Any (ap out-Desc e ∙ desc.outs-Any)
+
+  pub written_null : ((d ≡ desc.Never) ⊎ (d ≡ desc.Null)) → written_under table whole t d ≡ Null
+  written_null (inl e) = row_at Desc-F.Never (ap out-Desc e ∙ desc.outs-Never)
+  written_null (inr e) = row_at Desc-F.Null (ap out-Desc e ∙ desc.outs-Null)
+
   written_bool : d ≡ desc.Bool → written_under table whole t d ≡ scalar_written (out-Tree t)
   written_bool e = row_at Desc-F.Bool (ap out-Desc e ∙ desc.outs-Bool)
+
+  written_char : d ≡ desc.Char → written_under table whole t d ≡ scalar_written (out-Tree t)
+  written_char e = row_at Desc-F.Char (ap out-Desc e ∙ desc.outs-Char)
 
   written_int : (kind : IntKind) (min max : Option ℤ) → d ≡ desc.Int kind min max → written_under table whole t d ≡ scalar_written (out-Tree t)
   written_int kind min max e = row_at (Desc-F.Int kind min max) (ap out-Desc e ∙ desc.outs-Int kind min max)
@@ -35,16 +50,23 @@ module _ (table : List Definition) (whole : Desc) (t : Tree) (d : Desc) (h : Res
   written_text : (min max : Option ℕ) (format : Option (List ℕ)) → d ≡ desc.Text min max format → written_under table whole t d ≡ scalar_written (out-Tree t)
   written_text min max format e = row_at (Desc-F.Text min max format) (ap out-Desc e ∙ desc.outs-Text min max format)
 
-  pub written_scalar : ((d ≡ desc.Bool) ⊎ (((kind : IntKind) × (min : Option ℤ) × (max : Option ℤ) × (d ≡ desc.Int kind min max)) ⊎ ((min : Option ℕ) × (max : Option ℕ) × (format : Option (List ℕ)) × (d ≡ desc.Text min max format)))) → written_under table whole t d ≡ scalar_written (out-Tree t)
+  pub written_scalar : ((d ≡ desc.Bool) ⊎ ((d ≡ desc.Char) ⊎ (((kind : IntKind) × (min : Option ℤ) × (max : Option ℤ) × (d ≡ desc.Int kind min max)) ⊎ ((min : Option ℕ) × (max : Option ℕ) × (format : Option (List ℕ)) × (d ≡ desc.Text min max format))))) → written_under table whole t d ≡ scalar_written (out-Tree t)
   written_scalar (inl e) = written_bool e
-  written_scalar (inr (inl e)) = written_int e.0 e.1 e.2 e.3
-  written_scalar (inr (inr e)) = written_text e.0 e.1 e.2 e.3
+  written_scalar (inr (inl e)) = written_char e
+  written_scalar (inr (inr (inl e))) = written_int e.0 e.1 e.2 e.3
+  written_scalar (inr (inr (inr e))) = written_text e.0 e.1 e.2 e.3
+
+  pub written_enumeration : (ns : List Named) → d ≡ desc.Enumeration ns → written_under table whole t d ≡ listed_written ns (out-Tree t)
+  written_enumeration ns e = row_at (Desc-F.Enumeration ns) (ap out-Desc e ∙ desc.outs-Enumeration ns)
 
   pub written_option : (x : Desc) → d ≡ desc.Option x → written_under table whole t d ≡ option_written (λ s. written_under table whole s x) (out-Tree t)
   written_option x e = row_at (Desc-F.Option x) (ap out-Desc e ∙ desc.outs-Option x)
 
   pub written_list : (x : Desc) (min max : Option ℕ) → d ≡ desc.List x min max → written_under table whole t d ≡ items_written (λ s. written_under table whole s x) (out-Tree t)
   written_list x min max e = row_at (Desc-F.List x min max) (ap out-Desc e ∙ desc.outs-List x min max)
+
+  pub written_map : (x : Desc) → d ≡ desc.Map x → written_under table whole t d ≡ entries_written (λ s. written_under table whole s x) (out-Tree t)
+  written_map x e = row_at (Desc-F.Map x) (ap out-Desc e ∙ desc.outs-Map x)
 
   pub written_struct : (fs : List Field) (deny : Bool) → d ≡ desc.Struct fs deny → written_under table whole t d ≡ parts_written is_none_tree (written_under table whole) fs (out-Tree t)
   written_struct fs deny e = row_at (Desc-F.Struct fs deny) (ap out-Desc e ∙ desc.outs-Struct fs deny)
@@ -54,6 +76,15 @@ module _ (table : List Definition) (whole : Desc) (t : Tree) (d : Desc) (h : Res
 
   pub written_ref : (name : List ℕ) (o : Option Desc) → d ≡ desc.Ref name → definition table name ≡ o → written_under table whole t d ≡ written_if_there (written_under table whole t) o
   written_ref name o e f = row_at (Desc-F.Ref name) (ap out-Desc e ∙ desc.outs-Ref name) ∙ ap (written_if_there (written_under table whole t)) f
+
+name_is : (ns : List Named) (i : ℕ) → name_written ns i ≡ name_of_slot (slice_get ns i)
+name_is [] i = refl
+name_is (n ∷ ns) zero = refl
+name_is (n ∷ ns) (suc i) = name_is ns i
+
+-- an enumeration's tree, with the name at its place
+pub named_row : (ns : List Named) (t : Tree) (i : ℕ) (x : Tree) (o : Option Named) → t ≡ Choice i x → slice_get ns i ≡ o → listed_written ns (out-Tree t) ≡ name_of_slot o
+named_row ns t i x o e f = ap (listed_written ns) (ap out-Tree e ∙ outs-Variant i x) ∙ name_is ns i ∙ ap name_of_slot f
 
 -- a choice, with the alternative at its place
 pub chosen_row : (written : Tree → Desc → Json) (ds : List Desc) (t : Tree) (i : ℕ) (x : Tree) (o : Option Desc) → t ≡ Choice i x → slice_get ds i ≡ o → choice_written written ds (out-Tree t) ≡ written_if_there (written x) o

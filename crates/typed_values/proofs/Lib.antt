@@ -1,6 +1,9 @@
 pub mod Found
 pub mod Tops
 pub mod Soundness
+pub mod SortedLemmas
+pub mod Ordered
+pub mod Listed
 pub mod Steps
 pub mod Rows
 pub mod Inside
@@ -8,8 +11,11 @@ pub mod Arms
 pub mod Measure
 pub mod JsonSizes
 pub mod TreeSizes
+pub mod TreeLevels
+pub mod AscendingKeys
 pub mod FitSteps
 pub mod FitRows
+pub mod DenotedRows
 pub mod DenotedFits
 pub mod EncodeSteps
 pub mod EncodeRows

@@ -6,7 +6,7 @@ use Rattle.typed_values.specs.declared.desc.Desc.TheOpen.{Desc-F}
 use Rattle.typed_values.specs.declared.desc.Field.{Field}
 use Rattle.typed_values.specs.declared.table.Definition.{Definition}
 use Rattle.typed_values.specs.Definitions.{definition, entry_of}
-use Rattle.typed_values.specs.Parts.{StandsIn, the_whole, in_option, in_list, in_field, in_alternative, IsPart, of_whole as part_of_whole, of_table}
+use Rattle.typed_values.specs.Parts.{StandsIn, the_whole, in_option, in_list, in_map, in_field, in_alternative, IsPart, of_whole as part_of_whole, of_table}
 use Rattle.typed_values.specs.Reached.{IsReached, directly, through}
 use Rattle.typed_values.proofs.Found.{contains_first, contains_later, definition_is}
 
@@ -35,6 +35,10 @@ module _ (table : List Definition) (whole d : Desc) where
   pub list_needed : (x : Desc) (min max : Option ℕ) → out-Desc d ≡ Desc-F.List x min max → IsNeeded table whole d → IsNeeded table whole x
   list_needed x min max e (of_whole s) = of_whole (in_list x min max s e)
   list_needed x min max e (of_reached name y r f s) = of_reached name y r f (in_list x min max s e)
+
+  pub map_needed : (x : Desc) → out-Desc d ≡ Desc-F.Map x → IsNeeded table whole d → IsNeeded table whole x
+  map_needed x e (of_whole s) = of_whole (in_map x s e)
+  map_needed x e (of_reached name y r f s) = of_reached name y r f (in_map x s e)
 
   pub field_needed : (fs : List Field) (deny : Bool) (g : Field) → out-Desc d ≡ Desc-F.Struct fs deny → Contains fs g → IsNeeded table whole d → IsNeeded table whole g.desc
   field_needed fs deny g e c (of_whole s) = of_whole (in_field fs deny g s e c)

@@ -113,10 +113,16 @@ module _ (table : List Definition) (whole : Desc) (passes : TablePasses table) (
   rests_by : (n : ℕ) → Budget n → (left : List Definition) (d : Desc) → IsPart table whole d → top d + tops left ≤ suc n → AreLeft table left d
       → (z : Desc-F Desc Field) → out-Desc d ≡ z → RestsBy table (Rests table n) z
   unfolding Budget
+  rests_by n budget left d part le inv Desc-F.Any e = tt
+  rests_by n budget left d part le inv Desc-F.Never e = tt
+  rests_by n budget left d part le inv Desc-F.Null e = tt
   rests_by n budget left d part le inv Desc-F.Bool e = tt
+  rests_by n budget left d part le inv Desc-F.Char e = tt
   rests_by n budget left d part le inv (Desc-F.Int kind min max) e = tt
   rests_by n budget left d part le inv (Desc-F.Text min max format) e = tt
+  rests_by n budget left d part le inv (Desc-F.Enumeration ns) e = tt
   rests_by n budget left d part le inv (Desc-F.List x min max) e = tt
+  rests_by n budget left d part le inv (Desc-F.Map x) e = tt
   rests_by n budget left d part le inv (Desc-F.Struct fs deny) e = tt
   rests_by n budget left d part le inv (Desc-F.Option x) e =
       budget left x (option_part table whole d x e part) (omega (arith, le, top_at d _ e)) (go_on table left d x (through_option table x e) inv)

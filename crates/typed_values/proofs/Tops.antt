@@ -9,7 +9,7 @@ use Rattle.typed_values.specs.declared.desc.Field.{Field}
 use Rattle.typed_values.specs.declared.table.Definition.{Definition}
 use Rattle.typed_values.specs.Denotes.{nodes, nodes_step, field_nodes, nodes_of_table}
 use Rattle.typed_values.specs.Guarded.{named_in_option, named_in_alternative, Reaches, at_once, through}
-use Rattle.typed_values.specs.Parts.{StandsIn, the_whole, in_option, in_list, in_field, in_alternative}
+use Rattle.typed_values.specs.Parts.{StandsIn, the_whole, in_option, in_list, in_map, in_field, in_alternative}
 
 abbrev pub top_step : Desc-F ℕ ℕ → ℕ
 top_step (Desc-F.Option n) = suc n
@@ -37,11 +37,17 @@ map_sum g (y ∷ ys) zero x h e = omega (arith, ap g e, sum_by-cons (λ n. n) (g
 map_sum g (y ∷ ys) (suc k) x h e = let q : g x ≤ sum (map g ys) = map_sum g ys k x (omega arith) e in omega (arith, q, sum_by-cons (λ n. n) (g y) (map g ys))
 
 positive_by : (x : Desc-F ℕ ℕ) → 1 ≤ top_step x
+positive_by Desc-F.Any = omega arith
+positive_by Desc-F.Never = omega arith
+positive_by Desc-F.Null = omega arith
 positive_by Desc-F.Bool = omega arith
+positive_by Desc-F.Char = omega arith
 positive_by (Desc-F.Int kind min max) = omega arith
 positive_by (Desc-F.Text min max format) = omega arith
+positive_by (Desc-F.Enumeration ns) = omega arith
 positive_by (Desc-F.Option d) = omega arith
 positive_by (Desc-F.List d min max) = omega arith
+positive_by (Desc-F.Map d) = omega arith
 positive_by (Desc-F.Struct fs deny) = omega arith
 positive_by (Desc-F.Untagged ds) = omega arith
 positive_by (Desc-F.Ref name) = omega arith
@@ -63,11 +69,17 @@ pairs_fit (e ∷ es) = omega (arith, e.1, pairs_fit es, sum_by-cons (λ n. n) (t
 fits_by : (y : Desc-F ((d : Desc) × TopFits d) ((f : Field) × FieldFits f))
     → top_step (map-Desc Desc Field ℕ ℕ top (fold-Field ℕ ℕ top_step field_nodes) (map-Desc ((d : Desc) × TopFits d) ((f : Field) × FieldFits f) Desc Field (λ e. e.0) (λ e. e.0) y))
     ≤ nodes_step (map-Desc Desc Field ℕ ℕ nodes (fold-Field ℕ ℕ nodes_step field_nodes) (map-Desc ((d : Desc) × TopFits d) ((f : Field) × FieldFits f) Desc Field (λ e. e.0) (λ e. e.0) y))
+fits_by Desc-F.Any = omega arith
+fits_by Desc-F.Never = omega arith
+fits_by Desc-F.Null = omega arith
 fits_by Desc-F.Bool = omega arith
+fits_by Desc-F.Char = omega arith
 fits_by (Desc-F.Int kind min max) = omega arith
 fits_by (Desc-F.Text min max format) = omega arith
+fits_by (Desc-F.Enumeration ns) = omega arith
 fits_by (Desc-F.Option e) = omega (arith, e.1)
 fits_by (Desc-F.List e min max) = omega arith
+fits_by (Desc-F.Map e) = omega arith
 fits_by (Desc-F.Struct fs deny) = omega arith
 fits_by (Desc-F.Untagged es) = pairs_fit es
 fits_by (Desc-F.Ref name) = omega arith
@@ -142,6 +154,10 @@ module _ (table : List Definition) (y d : Desc) where
   list_inside x min max e (inl a) = inr (omega (arith, a.others, top_at d _ e, nodes_at d _ e))
   list_inside x min max e (inr b) = inr (omega (arith, b, nodes_at d _ e))
 
+  map_inside : (x : Desc) → out-Desc d ≡ Desc-F.Map x → IsInside table y d → IsInside table y x
+  map_inside x e (inl a) = inr (omega (arith, a.others, top_at d _ e, nodes_at d _ e))
+  map_inside x e (inr b) = inr (omega (arith, b, nodes_at d _ e))
+
   field_inside : (fs : List Field) (deny : _) (f : Field) → out-Desc d ≡ Desc-F.Struct fs deny → Contains fs f → IsInside table y d → IsInside table y f.desc
   field_inside fs deny f e c (inl a) = inr (omega (arith, a.others, top_at d _ e, nodes_at d _ e, field_sum fs c.0 f c.1 c.2))
   field_inside fs deny f e c (inr b) = inr (omega (arith, b, nodes_at d _ e, field_sum fs c.0 f c.1 c.2))
@@ -158,5 +174,6 @@ pub stands_inside : (table : List Definition) (y d : Desc) → StandsIn y d → 
 stands_inside table y d the_whole = inl (record { reaches = λ target r. r; fewer = omega arith; others = omega arith })
 stands_inside table y d (in_option {d = p} x s e) = option_inside table y p x e (stands_inside table y p s)
 stands_inside table y d (in_list {d = p} x min max s e) = list_inside table y p x min max e (stands_inside table y p s)
+stands_inside table y d (in_map {d = p} x s e) = map_inside table y p x e (stands_inside table y p s)
 stands_inside table y d (in_field {d = p} fs deny f s e c) = field_inside table y p fs deny f e c (stands_inside table y p s)
 stands_inside table y d (in_alternative {d = p} ds x s e c) = alternative_inside table y p ds x e c (stands_inside table y p s)

@@ -6,7 +6,7 @@ use Rattle.typed_values.specs.declared.desc.Desc.TheViews.{roll-out-Desc, roll-D
 use Rattle.typed_values.specs.declared.desc.Desc.{Desc, out-Desc}
 use Rattle.typed_values.specs.declared.desc.Desc.TheOpen.{Desc-F}
 use Rattle.typed_values.specs.declared.desc.Field.{Field}
-use Rattle.typed_values.specs.Parts.{StandsIn, the_whole, in_option, in_list, in_field, in_alternative}
+use Rattle.typed_values.specs.Parts.{StandsIn, the_whole, in_option, in_list, in_map, in_field, in_alternative}
 use Rattle.typed_values.specs.Causes.{SomePart}
 
 pub untrue : {P : Type 0} {b : Bool} → IsTrue b ↔ P → b ≡ false → P → ⊥
@@ -16,16 +16,23 @@ untrue i e p = let q : false ≡ true = sym e ∙ i.1 p in cc q
 abbrev pub SomeChild : (Desc → Type 0) → Desc-F Desc Field → Type 0
 SomeChild Q (Desc-F.Option x) = Q x
 SomeChild Q (Desc-F.List x min max) = Q x
+SomeChild Q (Desc-F.Map x) = Q x
 SomeChild Q (Desc-F.Struct fs deny) = (f : Field) × Contains fs f × Q f.desc
 SomeChild Q (Desc-F.Untagged ds) = (d : Desc) × Contains ds d × Q d
 SomeChild Q _ = ⊥
 
 child_map : (Q R : Desc → Type 0) → ((x : Desc) → Q x → R x) → (z : Desc-F Desc Field) → SomeChild Q z → SomeChild R z
+child_map Q R f Desc-F.Any c = c
+child_map Q R f Desc-F.Never c = c
+child_map Q R f Desc-F.Null c = c
 child_map Q R f Desc-F.Bool c = c
+child_map Q R f Desc-F.Char c = c
 child_map Q R f (Desc-F.Int kind min max) c = c
 child_map Q R f (Desc-F.Text min max format) c = c
+child_map Q R f (Desc-F.Enumeration ns) c = c
 child_map Q R f (Desc-F.Option x) c = f x c
 child_map Q R f (Desc-F.List x min max) c = f x c
+child_map Q R f (Desc-F.Map x) c = f x c
 child_map Q R f (Desc-F.Struct fs deny) c = (c.0, c.1, f c.0.desc c.2)
 child_map Q R f (Desc-F.Untagged ds) c = (c.0, c.1, f c.0 c.2)
 child_map Q R f (Desc-F.Ref name) c = c
@@ -34,6 +41,7 @@ stands_through : {a b c : Desc} → StandsIn a b → StandsIn b c → StandsIn a
 stands_through s the_whole = s
 stands_through s (in_option x t e) = in_option x (stands_through s t) e
 stands_through s (in_list x min max t e) = in_list x min max (stands_through s t) e
+stands_through s (in_map x t e) = in_map x (stands_through s t) e
 stands_through s (in_field fs deny f t e c) = in_field fs deny f (stands_through s t) e c
 stands_through s (in_alternative ds x t e c) = in_alternative ds x (stands_through s t) e c
 
@@ -53,6 +61,8 @@ first_step whole d (in_option {d = p} x s e) =
     one_step whole p x (λ y t. in_option x t e) (λ z q. subst (SomeChild (λ y. StandsIn y x)) (sym e ∙ q) the_whole) (first_step whole p s)
 first_step whole d (in_list {d = p} x min max s e) =
     one_step whole p x (λ y t. in_list x min max t e) (λ z q. subst (SomeChild (λ y. StandsIn y x)) (sym e ∙ q) the_whole) (first_step whole p s)
+first_step whole d (in_map {d = p} x s e) =
+    one_step whole p x (λ y t. in_map x t e) (λ z q. subst (SomeChild (λ y. StandsIn y x)) (sym e ∙ q) the_whole) (first_step whole p s)
 first_step whole d (in_field {d = p} fs deny f s e c) =
     one_step whole p f.desc (λ y t. in_field fs deny f t e c) (λ z q. subst (SomeChild (λ y. StandsIn y f.desc)) (sym e ∙ q) (f, c, the_whole)) (first_step whole p s)
 first_step whole d (in_alternative {d = p} ds x s e c) =
@@ -63,11 +73,17 @@ module _ (P : Desc → Type 0) (d : Desc) where
   part_here p = (d, the_whole, p)
 
   part_above : (z : Desc-F Desc Field) → out-Desc d ≡ z → SomeChild (SomePart P) z → SomePart P d
+  part_above Desc-F.Any e c = absurd c
+  part_above Desc-F.Never e c = absurd c
+  part_above Desc-F.Null e c = absurd c
   part_above Desc-F.Bool e c = absurd c
+  part_above Desc-F.Char e c = absurd c
   part_above (Desc-F.Int kind min max) e c = absurd c
   part_above (Desc-F.Text min max format) e c = absurd c
+  part_above (Desc-F.Enumeration ns) e c = absurd c
   part_above (Desc-F.Option x) e c = (c.0, stands_through (in_option x the_whole e) c.1, c.2)
   part_above (Desc-F.List x min max) e c = (c.0, stands_through (in_list x min max the_whole e) c.1, c.2)
+  part_above (Desc-F.Map x) e c = (c.0, stands_through (in_map x the_whole e) c.1, c.2)
   part_above (Desc-F.Struct fs deny) e c = (c.2.0, stands_through (in_field fs deny c.0 the_whole e c.1) c.2.1, c.2.2)
   part_above (Desc-F.Untagged ds) e c = (c.2.0, stands_through (in_alternative ds c.0 the_whole e c.1) c.2.1, c.2.2)
   part_above (Desc-F.Ref name) e c = absurd c
@@ -86,16 +102,22 @@ module _ (P : Desc → Type 0) (d : Desc) where
   rolled : (z : Desc-F Desc Field) → out-Desc d ≡ z → d ≡ roll-Desc z
   rolled z e = sym (roll-out-Desc d) ∙ ap roll-Desc e
 
-  no_child : ((x : _) → d ≡ desc.Option x → ⊥) → ((x min max : _) → d ≡ desc.List x min max → ⊥) → ((fs deny : _) → d ≡ desc.Struct fs deny → ⊥) → ((ds : _) → d ≡ desc.Untagged ds → ⊥)
+  no_child : ((x : _) → d ≡ desc.Option x → ⊥) → ((x min max : _) → d ≡ desc.List x min max → ⊥) → ((x : _) → d ≡ desc.Map x → ⊥) → ((fs deny : _) → d ≡ desc.Struct fs deny → ⊥) → ((ds : _) → d ≡ desc.Untagged ds → ⊥)
       → (z : Desc-F Desc Field) → out-Desc d ≡ z → SomeChild (SomePart P) z → ⊥
-  no_child o l s u Desc-F.Bool e c = c
-  no_child o l s u (Desc-F.Int kind min max) e c = c
-  no_child o l s u (Desc-F.Text min max format) e c = c
-  no_child o l s u (Desc-F.Option x) e c = o x (rolled (Desc-F.Option x) e ∙ desc.rolls-Option x)
-  no_child o l s u (Desc-F.List x min max) e c = l x min max (rolled (Desc-F.List x min max) e ∙ desc.rolls-List x min max)
-  no_child o l s u (Desc-F.Struct fs deny) e c = s fs deny (rolled (Desc-F.Struct fs deny) e ∙ desc.rolls-Struct fs deny)
-  no_child o l s u (Desc-F.Untagged ds) e c = u ds (rolled (Desc-F.Untagged ds) e ∙ desc.rolls-Untagged ds)
-  no_child o l s u (Desc-F.Ref name) e c = c
+  no_child o l m s u Desc-F.Any e c = c
+  no_child o l m s u Desc-F.Never e c = c
+  no_child o l m s u Desc-F.Null e c = c
+  no_child o l m s u Desc-F.Bool e c = c
+  no_child o l m s u Desc-F.Char e c = c
+  no_child o l m s u (Desc-F.Int kind min max) e c = c
+  no_child o l m s u (Desc-F.Text min max format) e c = c
+  no_child o l m s u (Desc-F.Enumeration ns) e c = c
+  no_child o l m s u (Desc-F.Option x) e c = o x (rolled (Desc-F.Option x) e ∙ desc.rolls-Option x)
+  no_child o l m s u (Desc-F.List x min max) e c = l x min max (rolled (Desc-F.List x min max) e ∙ desc.rolls-List x min max)
+  no_child o l m s u (Desc-F.Map x) e c = m x (rolled (Desc-F.Map x) e ∙ desc.rolls-Map x)
+  no_child o l m s u (Desc-F.Struct fs deny) e c = s fs deny (rolled (Desc-F.Struct fs deny) e ∙ desc.rolls-Struct fs deny)
+  no_child o l m s u (Desc-F.Untagged ds) e c = u ds (rolled (Desc-F.Untagged ds) e ∙ desc.rolls-Untagged ds)
+  no_child o l m s u (Desc-F.Ref name) e c = c
 
-  pub none_within : (P d → ⊥) → ((x : _) → d ≡ desc.Option x → ⊥) → ((x min max : _) → d ≡ desc.List x min max → ⊥) → ((fs deny : _) → d ≡ desc.Struct fs deny → ⊥) → ((ds : _) → d ≡ desc.Untagged ds → ⊥) → SomePart P d → ⊥
-  none_within never o l s u h = no_child o l s u (out-Desc d) refl (part_below never h)
+  pub none_within : (P d → ⊥) → ((x : _) → d ≡ desc.Option x → ⊥) → ((x min max : _) → d ≡ desc.List x min max → ⊥) → ((x : _) → d ≡ desc.Map x → ⊥) → ((fs deny : _) → d ≡ desc.Struct fs deny → ⊥) → ((ds : _) → d ≡ desc.Untagged ds → ⊥) → SomePart P d → ⊥
+  none_within never o l m s u h = no_child o l m s u (out-Desc d) refl (part_below never h)

@@ -12,42 +12,48 @@ use Rattle.schema_values.specs.declared.json_value.Json.TheVariants as json
 use Rattle.schema_values.specs.declared.json_value.Member.{Member}
 use Rattle.schema_values.specs.Sound.{AreDistinct, IsSound as IsSoundValue}
 use Rattle.schema_values.specs.SoundMembers.{HasSoundValue}
+use Rattle.schema_values.proofs.DistinctLemmas.{AreDistinct-sorted}
 use Rattle.schema_values.proofs.SoundLemmas.{IsSound-List, IsSound-Object}
-use Rattle.schema_values.specs.Member.{member}
-use Rattle.typed_values.specs.declared.desc.Desc.{Desc, out-Desc}
+use Rattle.schema_values.specs.Member.{member, name_of}
+use Rattle.typed_values.specs.declared.desc.Desc.{Desc, Null as NullDesc, out-Desc}
 use Rattle.typed_values.specs.declared.desc.Desc.TheOpen.{Desc-F}
 use Rattle.typed_values.specs.declared.desc.Field.{Field}
 use Rattle.typed_values.specs.declared.desc.Presence.{Presence}
 use Rattle.typed_values.specs.declared.desc.Presence.TheVariants.{Required, Nullable, Skipped}
 use Rattle.typed_values.specs.declared.fault.FaultKind.TheVariants.{BadLength}
 use Rattle.typed_values.specs.declared.table.Definition.{Definition}
-use Rattle.typed_values.specs.declared.tree.Tree.{Tree, None as Nothing, List as Items, Fields as Parts, out-Tree}
+use Rattle.typed_values.specs.declared.fault.Place.TheVariants.{Name}
+use Rattle.typed_values.specs.declared.tree.Pair.{Pair}
+use Rattle.typed_values.specs.declared.tree.Tree.{Tree, Unit as Nought, None as Nothing, List as Items, Map as Entries, Fields as Parts, out-Tree}
 use Rattle.typed_values.specs.declared.tree.Tree.TheOpen.{Tree-F}
 use Rattle.typed_values.specs.declared.tree.Tree.TheVariants as tree
 use Rattle.typed_values.specs.declared.tree.Tree.TheViews.{roll-Tree, roll-out-Tree}
 use Rattle.typed_values.specs.Bounds.{is_length_within}
 use Rattle.typed_values.specs.Checks.{TablePasses, DescPasses}
 use Rattle.typed_values.specs.Definitions.{definition, field_name}
-use Rattle.typed_values.specs.Denotes.{Told, told, room, below, just, all_told, as_tree, if_holds, optional, by_presence, unless_denied, denied_name, at_definition, first_told}
-use Rattle.typed_values.specs.Encoding.{unless, members_written, written_if_there, option_written, items_written, parts_written, choice_written, written_by, is_none_level, written_under, json_of_tree}
-use Rattle.typed_values.specs.Fits.{option_fits, each_fits, items_fit, field_desc, fields_fit, parts_fit, alternative_at, if_there, choice_fits, fits_by, fits_under, Fits}
+use Rattle.typed_values.specs.Denotes.{Told, told, room, below, just, all_told, as_tree, as_pair, member_name, if_holds, optional, by_presence, unless_denied, denied_name, at_definition, first_told}
+use Rattle.typed_values.specs.Encoding.{unless, members_written, written_if_there, option_written, items_written, pair_written, entries_written, parts_written, choice_written, written_by, is_none_level, written_under, json_of_tree}
+use Rattle.typed_values.specs.Fits.{option_fits, each_fits, items_fit, are_ascending, key_of, entries_fit, field_desc, fields_fit, parts_fit, alternative_at, if_there, choice_fits, fits_by, fits_under, Fits}
+use Rattle.typed_values.specs.Levels.{TreeOf}
 use Rattle.typed_values.specs.Parts.{the_whole}
-use Rattle.typed_values.specs.Rows.{told_item, value_denotes, told_field, told_fields, list_row, struct_row, row}
+use Rattle.typed_values.specs.Rows.{told_item, told_entry, value_denotes, told_field, told_fields, list_row, map_row, struct_row, row}
 use Rattle.typed_values.specs.Sound.{RestsBy, Rests}
 use Rattle.typed_values.specs.Reached.{IsUntagged, ReachesNoUntagged}
 use Rattle.typed_values.proofs.Arms.{not_null}
+use Rattle.typed_values.proofs.AscendingKeys.{keys_sorted}
 use Rattle.typed_values.proofs.Denoted.{denied_is}
 use Rattle.typed_values.proofs.EncodeSteps.{is_none_tree, written_row, skipped_written}
 use Rattle.typed_values.proofs.FitRows.{skipped_desc}
-use Rattle.typed_values.proofs.FitSteps.{fits_row, skipped_row}
+use Rattle.typed_values.proofs.FitSteps.{fits_row, nought_row, skipped_row}
 use Rattle.typed_values.proofs.Found.{contains_first, contains_later}
-use Rattle.typed_values.proofs.Needed.{IsNeeded, of_whole, of_reached, needed_part, option_needed, list_needed, field_needed, alternative_needed, definition_needed}
-use Rattle.typed_values.proofs.Rows.{row_at}
+use Rattle.typed_values.proofs.Needed.{IsNeeded, of_whole, of_reached, needed_part, option_needed, list_needed, map_needed, field_needed, alternative_needed, definition_needed}
+use Rattle.typed_values.proofs.Ordered.{Ascends, sorted_stays}
+use Rattle.typed_values.proofs.Rows.{two_maps, row_at}
 use Rattle.typed_values.proofs.Soundness.{is_right, passes_is_sound}
-use Rattle.typed_values.proofs.Fields.{fields_distinct}
+use Rattle.typed_values.proofs.Fields.{names_apart, fields_distinct}
 use Rattle.typed_values.proofs.NullTaken.{null_taken}
-use Rattle.typed_values.proofs.ScalarsBack.{ReadsBack, truth_back, number_back, words_back}
-use Rattle.typed_values.proofs.ToldTrees.{Gives, GivesAll, gives_below, gives_just, gives_then, gives_tree, first_tells}
+use Rattle.typed_values.proofs.ScalarsBack.{ReadsBack, nought_is, whole_back, nought_back, truth_back, character_back, number_back, words_back, name_back}
+use Rattle.typed_values.proofs.ToldTrees.{Gives, gives_below, gives_just, gives_pair, gives_then, gives_tree, first_tells}
 use Rattle.typed_values.proofs.TreeParts.{OfParts, by_parts}
 use Rattle.typed_values.proofs.WrittenMembers.{Beside, is_left, unless_left, distinct_written, written_declared, IsFound, all_found}
 
@@ -93,7 +99,7 @@ module _ (table : List Definition) (whole : Desc) (passes : TablePasses table) (
 
   -- ---- row by row
 
-  option_back : (d i : Desc) → IsNeeded table whole d → out-Desc d ≡ Desc-F.Option i → (x : Tree-F Tree) (t : Tree) → roll-Tree x ≡ t → OfParts BackInside x → option_fits (λ s. fits_under table whole s i) x ≡ true
+  option_back : (d i : Desc) → IsNeeded table whole d → out-Desc d ≡ Desc-F.Option i → (x : TreeOf Tree) (t : Tree) → roll-Tree x ≡ t → OfParts BackInside x → option_fits (λ s. fits_under table whole s i) x ≡ true
       → ReadsBack Exact (option_written (λ s. written s i) x) (optional (out-Json (option_written (λ s. written s i) x)) (told table whole (option_written (λ s. written s i) x) i)) t
   option_back d i need e Tree-F.None t is parts fit = (tt, (Nothing, ap (λ (z : Json-F Json Member). optional z (told table whole Null i)) json.outs-Null, λ h. sym tree.rolls-None ∙ is))
   option_back d i need e (Tree-F.Some s) t is parts fit =
@@ -111,14 +117,14 @@ module _ (table : List Definition) (whole : Desc) (passes : TablePasses table) (
       ((parts.0.0 i need first).0, items_sound i need ts parts.1 rest)
 
   items_told_back : (i : Desc) → IsNeeded table whole i → (ts : List Tree) → AllByRecursion BackInside ts → each_fits (λ s. fits_under table whole s i) ts ≡ true
-      → (k : ℕ) → GivesAll Exact (all_told (told_item table whole i) k (map (λ s. written s i) ts)) ts
+      → (k : ℕ) → Gives Exact (all_told (told_item table whole i) k (map (λ s. written s i) ts)) ts
   items_told_back i need [] parts fit k = ([], refl, λ h. refl)
   items_told_back i need (t ∷ ts) parts fit k =
       let (first, rest) = and_parts (fits_under table whole t i) (each_fits (λ s. fits_under table whole s i) ts) fit in
       gives_then Exact (told_item table whole i k (written t i)) (all_told (told_item table whole i) (k + 1) (map (λ s. written s i) ts)) t ts
       (gives_below Exact _ (told table whole (written t i) i) t (parts.0.0 i need first).1) (items_told_back i need ts parts.1 rest (k + 1))
 
-  items_back : (i : Desc) (min max : Option ℕ) → IsNeeded table whole i → (x : Tree-F Tree) (t : Tree) → roll-Tree x ≡ t → OfParts BackInside x → items_fit (λ s. fits_under table whole s i) min max x ≡ true
+  items_back : (i : Desc) (min max : Option ℕ) → IsNeeded table whole i → (x : TreeOf Tree) (t : Tree) → roll-Tree x ≡ t → OfParts BackInside x → items_fit (λ s. fits_under table whole s i) min max x ≡ true
       → ReadsBack Exact (items_written (λ s. written s i) x) (list_row table whole i min max (out-Json (items_written (λ s. written s i) x))) t
   items_back i min max need (Tree-F.List ts) t is parts fit =
       let js : List Json = map (λ s. written s i) ts in
@@ -133,6 +139,39 @@ module _ (table : List Definition) (whole : Desc) (passes : TablePasses table) (
       )
   items_back i min max need _ t is parts fit = absurd (cc fit)
 
+  entries_sound : (i : Desc) → IsNeeded table whole i → (ps : List Pair) → AllByRecursion (λ p. BackInside p.value) ps → each_fits (λ p. fits_under table whole p.value i) ps ≡ true → AllByRecursion HasSoundValue (map (pair_written (λ s. written s i)) ps)
+  entries_sound i need [] parts fit = tt
+  entries_sound i need (p ∷ ps) parts fit =
+      let (first, rest) = and_parts (fits_under table whole p.value i) (each_fits (λ p. fits_under table whole p.value i) ps) fit in
+      ((parts.0.0 i need first).0, entries_sound i need ps parts.1 rest)
+
+  entries_told_back : (i : Desc) → IsNeeded table whole i → (ps : List Pair) → AllByRecursion (λ p. BackInside p.value) ps → each_fits (λ p. fits_under table whole p.value i) ps ≡ true
+      → (k : ℕ) → Gives Exact (all_told (λ j m. told_entry table whole i m) k (map (pair_written (λ s. written s i)) ps)) ps
+  entries_told_back i need [] parts fit k = ([], refl, λ h. refl)
+  entries_told_back i need (p ∷ ps) parts fit k =
+      let (first, rest) = and_parts (fits_under table whole p.value i) (each_fits (λ p. fits_under table whole p.value i) ps) fit in
+      let o = told table whole (written p.value i) i in
+      gives_then Exact (as_pair p.key (below (Name p.key) o)) (all_told (λ j m. told_entry table whole i m) (k + 1) (map (pair_written (λ s. written s i)) ps)) p ps
+      (gives_pair Exact p.key (below (Name p.key) o) p.value (gives_below Exact (Name p.key) o p.value (parts.0.0 i need first).1)) (entries_told_back i need ps parts.1 rest (k + 1))
+
+  entries_back : (i : Desc) → IsNeeded table whole i → (x : TreeOf Tree) (t : Tree) → roll-Tree x ≡ t → OfParts BackInside x → entries_fit (λ s. fits_under table whole s i) x ≡ true
+      → ReadsBack Exact (entries_written (λ s. written s i) x) (map_row table whole i (out-Json (entries_written (λ s. written s i) x))) t
+  entries_back i need (Tree-F.Map ps) t is parts fit =
+      let ms : List Member = map (pair_written (λ s. written s i)) ps in
+      let (ascend, each) = and_parts (are_ascending (map key_of ps)) (each_fits (λ p. fits_under table whole p.value i) ps) fit in
+      let sorted : Ascends (map name_of ms) = subst Ascends (sym (two_maps name_of (pair_written (λ s. written s i)) key_of (λ p. refl) ps)) (keys_sorted (map key_of ps) ascend) in
+      let all_entries : map_row table whole i (out-Json (Object ms)) ≡ as_tree Entries (all_told (λ j m. told_entry table whole i m) 0 ms) =
+      ap (map_row table whole i) (json.outs-Object ms) ∙ ap (λ (ns : List Member). as_tree Entries (all_told (λ j m. told_entry table whole i m) 0 ns)) (sorted_stays member_name ms sorted) in (
+        (IsSound-Object ms).1 (entries_sound i need ps parts each, AreDistinct-sorted (map name_of ms) sorted),
+        subst (λ (o : Told). Gives Exact o t) (sym all_entries)
+            (subst (Gives Exact (as_tree Entries (all_told (λ j m. told_entry table whole i m) 0 ms))) (sym (tree.rolls-Map ps) ∙ is)
+            (gives_tree Exact Entries (all_told (λ j m. told_entry table whole i m) 0 ms) ps (entries_told_back i need ps parts each 0))),
+      )
+  entries_back i need _ t is parts fit = absurd (cc fit)
+
+  nought_only : (s : Tree) → fits_under table whole s NullDesc ≡ true → s ≡ Nought
+  nought_only s fit = nought_is (out-Tree s) s (roll-out-Tree s) (sym (nought_row table whole s) ∙ fit)
+
   -- a field's value, or its absence
   abbrev FieldBack : Field → Tree → Type 0
   FieldBack f x = ReadsBack Exact (written x (field_desc f)) (by_presence f (value_denotes table whole f.desc (unless_left (is_left f x) (written x (field_desc f))))) x
@@ -142,10 +181,10 @@ module _ (table : List Definition) (whole : Desc) (passes : TablePasses table) (
     plain_back : (place : _) (x : Tree) → BackInside x → fits_under table whole x f.desc ≡ true → ReadsBack Exact (written x f.desc) (below place (told table whole (written x f.desc) f.desc)) x
     plain_back place x known fit = let (sound, gives) = known.0 f.desc need fit in (sound, gives_below Exact place (told table whole (written x f.desc) f.desc) x gives)
 
-    abbrev skipped_json : Tree-F Tree → Json
+    abbrev skipped_json : TreeOf Tree → Json
     skipped_json z = option_written (λ s. written s f.desc) z
 
-    skipped_by : f.presence ≡ Skipped → (z : Tree-F Tree) (x : Tree) → roll-Tree z ≡ x → OfParts Back z → option_fits (λ s. fits_under table whole s f.desc) z ≡ true
+    skipped_by : f.presence ≡ Skipped → (z : TreeOf Tree) (x : Tree) → roll-Tree z ≡ x → OfParts Back z → option_fits (λ s. fits_under table whole s f.desc) z ≡ true
         → ReadsBack Exact (skipped_json z) (by_presence f (value_denotes table whole f.desc (unless_left (is_none_level z) (skipped_json z)))) x
     skipped_by q Tree-F.None x is parts fit = rw q (tt, (Nothing, refl, λ h. sym tree.rolls-None ∙ is))
     skipped_by q (Tree-F.Some s) x is parts fit =
@@ -182,7 +221,7 @@ module _ (table : List Definition) (whole : Desc) (passes : TablePasses table) (
   members_sound (f ∷ fs) [] back = tt
   members_sound (f ∷ fs) (x ∷ xs) back = sound_with (is_left f x) (member f.name (written x (field_desc f))) (members_written is_none_tree written fs xs) back.0.0 (members_sound fs xs back.1)
 
-  fields_told_back : (ms : List Member) (fs : List Field) (xs : List Tree) → Beside FieldBack fs xs → Beside (IsFound written ms) fs xs → (k : ℕ) → GivesAll Exact (all_told (λ i f. told_field table whole ms f) k fs) xs
+  fields_told_back : (ms : List Member) (fs : List Field) (xs : List Tree) → Beside FieldBack fs xs → Beside (IsFound written ms) fs xs → (k : ℕ) → Gives Exact (all_told (λ i f. told_field table whole ms f) k fs) xs
   fields_told_back ms [] [] back found k = ([], refl, λ h. refl)
   fields_told_back ms [] (x ∷ xs) back found k = absurd back
   fields_told_back ms (f ∷ fs) [] back found k = absurd back
@@ -190,7 +229,7 @@ module _ (table : List Definition) (whole : Desc) (passes : TablePasses table) (
       gives_then Exact (told_field table whole ms f) (all_told (λ i f. told_field table whole ms f) (k + 1) fs) x xs
       (subst (λ (o : Option Json). Gives Exact (by_presence f (value_denotes table whole f.desc o)) x) (sym found.0) back.0.1) (fields_told_back ms fs xs back.1 found.1 (k + 1))
 
-  parts_back : (fs : List Field) (deny : Bool) → AreDistinct (map field_name fs) → ((f : Field) → Contains fs f → IsNeeded table whole f.desc) → (x : Tree-F Tree) (t : Tree) → roll-Tree x ≡ t → OfParts BackInside x
+  parts_back : (fs : List Field) (deny : Bool) → AreDistinct (map field_name fs) → ((f : Field) → Contains fs f → IsNeeded table whole f.desc) → (x : TreeOf Tree) (t : Tree) → roll-Tree x ≡ t → OfParts BackInside x
       → parts_fit (fits_under table whole) fs x ≡ true → ReadsBack Exact (parts_written is_none_tree written fs x) (struct_row table whole fs deny (out-Json (parts_written is_none_tree written fs x))) t
   parts_back fs deny distinct need (Tree-F.Fields xs) t is parts fit =
       let ms : List Member = members_written is_none_tree written fs xs in
@@ -213,7 +252,7 @@ module _ (table : List Definition) (whole : Desc) (passes : TablePasses table) (
       let (read, is) = first_tells (told table whole (written s a)) 0 ds i a gives.0 there gives.1 in
       (sound, (read, is, λ exact. absurd (untagged_refuted d need (ds, e) exact)))
 
-  choice_back : (d : Desc) (ds : List Desc) → IsNeeded table whole d → out-Desc d ≡ Desc-F.Untagged ds → (x : Tree-F Tree) (t : Tree) → OfParts BackInside x → choice_fits (fits_under table whole) ds x ≡ true
+  choice_back : (d : Desc) (ds : List Desc) → IsNeeded table whole d → out-Desc d ≡ Desc-F.Untagged ds → (x : TreeOf Tree) (t : Tree) → OfParts BackInside x → choice_fits (fits_under table whole) ds x ≡ true
       → ReadsBack Exact (choice_written written ds x) (first_told 0 (told table whole (choice_written written ds x)) ds) t
   choice_back d ds need e (Tree-F.Variant i s) t parts fit = choice_at d ds need e i s t parts (alternative_at ds i) refl fit
   choice_back d ds need e _ t parts fit = absurd (cc fit)
@@ -233,6 +272,14 @@ module _ (table : List Definition) (whole : Desc) (passes : TablePasses table) (
     -- one row for each descriptor
     row_back : (n : ℕ) → BackWithin n → (d : Desc) → IsNeeded table whole d → (y : Desc-F Desc Field) → out-Desc d ≡ y → RestsBy table (Rests table n) y
         → fits_by table (fits_under table whole) (fits_under table whole t) y (out-Tree t) ≡ true → ReadsBack Exact (row_written y) (row table whole (row_written y) (out-Json (row_written y)) y) t
+    row_back n next d need Desc-F.Any e rest fit = whole_back Exact (out-Tree t) t (roll-out-Tree t) fit
+    row_back n next d need Desc-F.Never e rest fit = absurd (cc fit)
+    row_back n next d need Desc-F.Null e rest fit = nought_back Exact (out-Tree t) t (roll-out-Tree t) fit
+    row_back n next d need Desc-F.Char e rest fit = character_back Exact (out-Tree t) t (roll-out-Tree t) fit
+    row_back n next d need (Desc-F.Enumeration ns) e rest fit =
+        let distinct = names_apart table d (Desc-F.Enumeration ns) e (is_right table whole d passes right (needed_part table whole d need)) in
+        name_back Exact ns distinct (λ s. fits_under table whole s NullDesc) nought_only (out-Tree t) t (roll-out-Tree t) fit
+    row_back n next d need (Desc-F.Map i) e rest fit = entries_back i (map_needed table whole d i e need) (out-Tree t) t (roll-out-Tree t) parts fit
     row_back n next d need Desc-F.Bool e rest fit = truth_back Exact (out-Tree t) t (roll-out-Tree t) fit
     row_back n next d need (Desc-F.Int kind min max) e rest fit = number_back Exact kind min max (out-Tree t) t (roll-out-Tree t) fit
     row_back n next d need (Desc-F.Text min max format) e rest fit = words_back Exact min max (out-Tree t) t (roll-out-Tree t) fit
@@ -256,15 +303,17 @@ module _ (table : List Definition) (whole : Desc) (passes : TablePasses table) (
   each_inside [] h = tt
   each_inside (t ∷ ts) h = (h.0.0, each_inside ts h.1)
 
-  inside_of : (x : Tree-F Tree) → OfParts BackInside x → OfParts Back x
-  inside_of (Tree-F.Bool b) h = tt
-  inside_of (Tree-F.Int n) h = tt
-  inside_of (Tree-F.Text s) h = tt
-  inside_of Tree-F.None h = tt
+  each_value_inside : (ps : List Pair) → AllByRecursion (λ p. BackInside p.value) ps → AllByRecursion (λ p. Back p.value) ps
+  each_value_inside [] h = tt
+  each_value_inside (p ∷ ps) h = (h.0.0, each_value_inside ps h.1)
+
+  inside_of : (x : TreeOf Tree) → OfParts BackInside x → OfParts Back x
   inside_of (Tree-F.Some t) h = h.0
   inside_of (Tree-F.List ts) h = each_inside ts h
+  inside_of (Tree-F.Map ps) h = each_value_inside ps h
   inside_of (Tree-F.Fields ts) h = each_inside ts h
   inside_of (Tree-F.Variant i t) h = h.0
+  inside_of _ h = tt
 
   known : (t : Tree) → BackInside t
   known = by_parts BackInside (λ t parts. (λ d need. back_within t parts (room table whole) d (rests d need) need, inside_of (out-Tree t) parts))

@@ -8,14 +8,20 @@ use Rattle.typed_values.specs.declared.desc.Field.{Field}
 use Rattle.typed_values.specs.declared.desc.IntKind.{IntKind}
 use Rattle.typed_values.specs.declared.desc.Presence.TheVariants.{Nullable, Skipped}
 use Rattle.typed_values.specs.declared.table.Definition.{Definition}
-use Rattle.typed_values.specs.Definitions.{definition, definition_name, field_name}
+use Rattle.typed_values.specs.Definitions.{definition, definition_name, field_name, listed_name}
 use Rattle.typed_values.specs.Bounds.{least_of, greatest_of}
 use Rattle.typed_values.specs.Guarded.{IsGuarded}
 use Rattle.typed_values.specs.Parts.{StandsIn}
 
--- two fields have one name
+-- the names that a descriptor lists: those of a struct's fields, or of an enumeration
+abbrev pub names_in : Desc-F Desc Field → List (List ℕ)
+names_in (Desc-F.Struct fs deny) = map field_name fs
+names_in (Desc-F.Enumeration ns) = map listed_name ns
+names_in _ = []
+
+-- two of them are one
 abbrev pub HasDoubledName : Desc → Type 0
-HasDoubledName d = (fs : List Field) × (deny : Bool) × (out-Desc d ≡ Desc-F.Struct fs deny) × (AreDistinct (map field_name fs) → ⊥)
+HasDoubledName d = AreDistinct (names_in (out-Desc d)) → ⊥
 
 -- letters, digits, `.`, `-` and `_`
 abbrev pub is_name_character : ℕ → Bool
@@ -29,12 +35,20 @@ IsName name = (name ≢ []) × AllByRecursion (λ c. IsTrue (is_name_character c
 abbrev pub IsDangling : List Definition → Desc → Type 0
 IsDangling table d = (name : List ℕ) × (out-Desc d ≡ Desc-F.Ref name) × (definition table name ≡ None)
 
--- a choice without alternatives
-abbrev pub IsEmptyChoice : Desc → Type 0
-IsEmptyChoice d = out-Desc d ≡ Desc-F.Untagged []
+-- a choice without alternatives, or an enumeration without names
+abbrev pub is_empty_choice : Desc-F Desc Field → Bool
+is_empty_choice (Desc-F.Untagged []) = true
+is_empty_choice (Desc-F.Enumeration []) = true
+is_empty_choice _ = false
 
--- null denotes something: an option, a reference to what takes null, or an alternative that does
+-- the descriptor is such
+abbrev pub IsEmptyChoice : Desc → Type 0
+IsEmptyChoice d = is_empty_choice (out-Desc d) ≡ true
+
+-- null denotes something: any value, null itself, an option, a reference to what takes null, or an alternative that does
 pub data TakesNull (table : List Definition) : Desc → Type 0 where
+  any_value : {d : Desc} → out-Desc d ≡ Desc-F.Any → TakesNull table d
+  null_itself : {d : Desc} → out-Desc d ≡ Desc-F.Null → TakesNull table d
   an_option : {d : Desc} (x : Desc) → out-Desc d ≡ Desc-F.Option x → TakesNull table d
   a_reference : {d : Desc} (name : List ℕ) (y : Desc) → out-Desc d ≡ Desc-F.Ref name → definition table name ≡ Some y → TakesNull table y → TakesNull table d
   an_alternative : {d : Desc} (ds : List Desc) (x : Desc) → out-Desc d ≡ Desc-F.Untagged ds → Contains ds x → TakesNull table x → TakesNull table d
@@ -58,15 +72,16 @@ abbrev pub is_bound_of : IntKind → Option ℤ → Bool
 is_bound_of kind None = true
 is_bound_of kind (Some bound) = int_le (least_of kind) bound && int_le bound (greatest_of kind)
 
--- bounds are in order and of their kind, and alternatives no more than 2^32
+-- bounds are in order and of their kind, and alternatives or names no more than 2^32
 abbrev pub are_bounds_right : Desc-F Desc Field → Bool
 are_bounds_right (Desc-F.Int kind min max) = is_number_order min max && (is_bound_of kind min && is_bound_of kind max)
 are_bounds_right (Desc-F.Text min max format) = is_length_order min max
 are_bounds_right (Desc-F.List x min max) = is_length_order min max
+are_bounds_right (Desc-F.Enumeration ns) = nat_le (length ns) 4294967296
 are_bounds_right (Desc-F.Untagged ds) = nat_le (length ds) 4294967296
 are_bounds_right _ = true
 
--- a least bound above the greatest, a bound outside its kind, or more than 2^32 alternatives
+-- a least bound above the greatest, a bound outside its kind, or more than 2^32 alternatives or names
 abbrev pub HasBadRange : Desc → Type 0
 HasBadRange d = are_bounds_right (out-Desc d) ≡ false
 

@@ -2,6 +2,7 @@
 use Rattle.std.specs.Prelude.{ℕ, List, [], ◌∷◌, Option, Some, None, if◌then◌else◌, bytes_eq}
 use Rattle.typed_values.specs.declared.desc.Desc.{Desc}
 use Rattle.typed_values.specs.declared.desc.Field.{Field}
+use Rattle.typed_values.specs.declared.desc.Named.{Named}
 use Rattle.typed_values.specs.declared.table.Definition.{Definition}
 
 -- the definition of a name, description and all
@@ -17,6 +18,10 @@ definition (e ∷ es) name = if bytes_eq e.name name then Some e.desc else defin
 -- the name of a field
 abbrev pub field_name : Field → List ℕ
 field_name field = field.name
+
+-- a name of an enumeration
+abbrev pub listed_name : Named → List ℕ
+listed_name named = named.name
 
 -- the name of a definition
 abbrev pub definition_name : Definition → List ℕ

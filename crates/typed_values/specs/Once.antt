@@ -20,11 +20,17 @@ once_each Next p (d ∷ ds) = λ a b i. (p d a.0 b.0 i, once_each Next p ds a.1 
 
 -- there is one way at most to say it of a descriptor of any form
 once_by : (table : List Definition) (Next : Desc → Type 0) → ((d : Desc) → IsProp (Next d)) → (x : Desc-F Desc Field) → IsProp (RestsBy table Next x)
+once_by table Next p Desc-F.Any = λ a b. refl
+once_by table Next p Desc-F.Never = λ a b. refl
+once_by table Next p Desc-F.Null = λ a b. refl
 once_by table Next p Desc-F.Bool = λ a b. refl
+once_by table Next p Desc-F.Char = λ a b. refl
 once_by table Next p (Desc-F.Int kind min max) = λ a b. refl
 once_by table Next p (Desc-F.Text min max format) = λ a b. refl
+once_by table Next p (Desc-F.Enumeration ns) = λ a b. refl
 once_by table Next p (Desc-F.Option d) = p d
 once_by table Next p (Desc-F.List d min max) = λ a b. refl
+once_by table Next p (Desc-F.Map d) = λ a b. refl
 once_by table Next p (Desc-F.Struct fs deny) = λ a b. refl
 once_by table Next p (Desc-F.Untagged ds) = once_each Next p ds
 once_by table Next p (Desc-F.Ref name) = once_found Next p (definition table name)

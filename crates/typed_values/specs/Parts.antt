@@ -10,6 +10,7 @@ pub data StandsIn (whole : Desc) : Desc → Type 0 where
   the_whole : StandsIn whole whole
   in_option : {d : Desc} (x : Desc) → StandsIn whole d → out-Desc d ≡ Desc-F.Option x → StandsIn whole x
   in_list : {d : Desc} (x : Desc) (min max : _) → StandsIn whole d → out-Desc d ≡ Desc-F.List x min max → StandsIn whole x
+  in_map : {d : Desc} (x : Desc) → StandsIn whole d → out-Desc d ≡ Desc-F.Map x → StandsIn whole x
   in_field : {d : Desc} (fs : List Field) (deny : _) (f : Field) → StandsIn whole d → out-Desc d ≡ Desc-F.Struct fs deny → Contains fs f → StandsIn whole f.desc
   in_alternative : {d : Desc} (ds : List Desc) (x : Desc) → StandsIn whole d → out-Desc d ≡ Desc-F.Untagged ds → Contains ds x → StandsIn whole x
 

@@ -16,7 +16,7 @@ use schema_values::Text;
 /// What is wrong with a table or a descriptor.
 #[derive(Clone, Copy)]
 pub enum TableError<'a> {
-    /// Two fields of one name.
+    /// Two fields, or two names of an enumeration, of one name.
     DoubledName,
     /// The name of a definition is empty or has another character than letters, digits, `.`, `-` and `_`.
     BadName,
@@ -24,11 +24,12 @@ pub enum TableError<'a> {
     Dangling,
     /// References, options and alternatives alone lead from this definition back to it.
     Unguarded(&'a str),
-    /// No alternatives.
+    /// No alternatives, or no names.
     EmptyEnumeration,
     /// An option over a descriptor that takes null.
     NullOfNull,
-    /// A least bound above the greatest, an integer's bound outside its kind, or more than 2^32 alternatives.
+    /// A least bound above the greatest, an integer's bound outside its kind, or more than 2^32 alternatives
+    /// or names.
     BadRange,
     /// `Nullable` over no option, or `Skipped` over a descriptor that takes null.
     BadPresence,

@@ -20,7 +20,14 @@ pub enum IntKind {
 #[derive(Drop)]
 #[cycle(desc)]
 pub enum Desc {
+    /// Every value.
+    Any,
+    /// No value.
+    Never,
+    Null,
     Bool,
+    /// A text of one character.
+    Char,
     Int {
         kind: IntKind,
         min: Option<i128>,
@@ -31,6 +38,10 @@ pub enum Desc {
         max: Option<u32>,
         format: Option<Text>,
     },
+    /// One of some names.
+    Enumeration {
+        names: List<Named>,
+    },
     /// `null`, or a value of the inner type.
     Option(Boxed<Desc>),
     List {
@@ -38,6 +49,8 @@ pub enum Desc {
         min: Option<u32>,
         max: Option<u32>,
     },
+    /// An object whose values are all of the inner type.
+    Map(Boxed<Desc>),
     Struct {
         fields: List<Field>,
         deny_unknown: bool,
@@ -48,6 +61,13 @@ pub enum Desc {
     },
     /// The definition of this name in the table.
     Ref(Text),
+}
+
+/// A name of an enumeration.
+#[derive(Drop)]
+pub struct Named {
+    pub name: Text,
+    pub description: Option<Text>,
 }
 
 /// A field of a struct.
@@ -78,12 +98,19 @@ impl Desc {
         ensures { IfOk result (λ copy. copy ≡ self.now) }
     {
         match self {
+            Desc::Any => Ok(Desc::Any),
+            Desc::Never => Ok(Desc::Never),
+            Desc::Null => Ok(Desc::Null),
             Desc::Bool => Ok(Desc::Bool),
+            Desc::Char => Ok(Desc::Char),
             Desc::Int { kind, min, max } => Ok(copy_int(*kind, min, max)),
             Desc::Text { min, max, format } => Ok(Desc::Text {
                 min: *min,
                 max: *max,
                 format: copy_text(alloc, format)?,
+            }),
+            Desc::Enumeration { names } => Ok(Desc::Enumeration {
+                names: copy_names(alloc, names.as_slice())?,
             }),
             Desc::Option(inner) => Ok(Desc::Option(inner.get().copy_boxed(alloc)?)),
             Desc::List { item, min, max } => Ok(Desc::List {
@@ -91,6 +118,7 @@ impl Desc {
                 min: *min,
                 max: *max,
             }),
+            Desc::Map(value) => Ok(Desc::Map(value.get().copy_boxed(alloc)?)),
             Desc::Struct {
                 fields,
                 deny_unknown,
@@ -113,6 +141,18 @@ impl Desc {
     }
 }
 
+impl Named {
+    /// A name equal to this one.
+    pub fn copy(&self, alloc: Global) -> Result<Named, AllocError>
+        ensures { IfOk result (λ copy. copy ≡ self.now) }
+    {
+        Ok(Named {
+            name: self.name.copy(alloc)?,
+            description: copy_text(alloc, &self.description)?,
+        })
+    }
+}
+
 impl Field {
     /// A field equal to this one.
     #[cycle(copy)]
@@ -126,6 +166,16 @@ impl Field {
             description: copy_text(alloc, &self.description)?,
         })
     }
+}
+
+fn copy_names(alloc: Global, names: &[Named]) -> Result<List<Named>, AllocError>
+    ensures { IfOk result (λ copies. copies ≡ names.now) }
+{
+    let mut copies = List::new(alloc);
+    for name in names {
+        copies.push(name.copy(alloc)?)?;
+    }
+    Ok(copies)
 }
 
 #[cycle(copy)]

@@ -10,15 +10,15 @@ ghost use Rattle.typed_values.specs.Parts.{IsPart};
 ghost use Rattle.typed_values.specs.Reached.{ReachesNoUntagged};
 ghost use Rattle.typed_values.specs.Rows.{AreParts, AreFieldsOf};
 
-use crate::desc::{Desc, Field, Presence};
+use crate::desc::{Desc, Field, Named, Presence};
 use crate::scope::Scope;
 use crate::table::DescTable;
-use crate::tree::Tree;
+use crate::tree::{Pair, Tree};
 use schema_values::{Json, List, Member};
 use std::alloc::{AllocError, Global};
 
 /// The JSON of a tree of a descriptor, which denotes that very tree where no untagged union is reached.
-/// Fields stand in the order in which they are declared.
+/// Fields stand in the order in which they are declared, and the members of a map in that of its keys.
 pub fn encode_json(
     alloc: Global,
     table: &DescTable,
@@ -44,6 +44,27 @@ fn encode_scalar(alloc: Global, tree: &Tree) -> Result<Json, AllocError>
         Tree::Bool(truth) => Ok(Json::Bool(*truth)),
         Tree::Int(number) => Ok(Json::Int(*number)),
         Tree::Text(text) => Ok(Json::Text(text.copy(alloc)?)),
+        _ => Ok(Json::Null),
+    }
+}
+
+fn encode_whole(alloc: Global, tree: &Tree) -> Result<Json, AllocError>
+    ensures { IfOk result (λ json. json ≡ meant.whole_written (out-Tree tree.now)) }
+{
+    match tree {
+        Tree::Any(json) => json.copy(alloc),
+        _ => Ok(Json::Null),
+    }
+}
+
+fn encode_name(alloc: Global, names: &[Named], tree: &Tree) -> Result<Json, AllocError>
+    ensures { IfOk result (λ json. json ≡ meant.listed_written names.now (out-Tree tree.now)) }
+{
+    match tree {
+        Tree::Variant(place, _) => match names.get(*place as usize) {
+            Some(named) => Ok(Json::Text(named.name.copy(alloc)?)),
+            None => Ok(Json::Null),
+        },
         _ => Ok(Json::Null),
     }
 }
@@ -75,9 +96,15 @@ impl Scope<'_> {
             (λ json. json ≡ written_under self.now.table.now self.now.whole.now tree.now desc.now) }
     {
         match desc {
-            Desc::Bool | Desc::Int { .. } | Desc::Text { .. } => encode_scalar(alloc, tree),
+            Desc::Any => encode_whole(alloc, tree),
+            Desc::Never | Desc::Null => Ok(Json::Null),
+            Desc::Bool | Desc::Char | Desc::Int { .. } | Desc::Text { .. } => {
+                encode_scalar(alloc, tree)
+            }
+            Desc::Enumeration { names } => encode_name(alloc, names.as_slice(), tree),
             Desc::Option(inner) => self.encode_option(alloc, inner.get(), tree),
             Desc::List { item, .. } => self.encode_list(alloc, item.get(), tree),
+            Desc::Map(value) => self.encode_map(alloc, value.get(), tree),
             Desc::Struct { fields, .. } => self.encode_struct(alloc, fields.as_slice(), tree),
             Desc::Untagged { alternatives } => {
                 self.encode_choice(alloc, alternatives.as_slice(), tree)
@@ -129,6 +156,42 @@ impl Scope<'_> {
             items.push(self.encode_at(alloc, item, tree)?)?;
         }
         Ok(items)
+    }
+
+    #[cycle(encode)]
+    fn encode_map(&self, alloc: Global, value: &Desc, tree: &Tree) -> Result<Json, AllocError>
+        requires { IsPart self.now.table.now self.now.whole.now value.now }
+        ensures { IfOk result (λ json. json ≡ meant.entries_written
+            (λ t. written_under self.now.table.now self.now.whole.now t value.now) (out-Tree tree.now)) }
+    {
+        match tree {
+            Tree::Map(pairs) => Ok(Json::Object(self.encode_pairs(
+                alloc,
+                value,
+                pairs.as_slice(),
+            )?)),
+            _ => Ok(Json::Null),
+        }
+    }
+
+    #[cycle(encode)]
+    fn encode_pairs(
+        &self,
+        alloc: Global,
+        value: &Desc,
+        pairs: &[Pair],
+    ) -> Result<List<Member>, AllocError>
+        requires { IsPart self.now.table.now self.now.whole.now value.now }
+        ensures { IfOk result (λ members. members ≡ map (meant.pair_written
+            (λ t. written_under self.now.table.now self.now.whole.now t value.now)) pairs.now) }
+    {
+        let mut members = List::new(alloc);
+        for pair in pairs {
+            let name = pair.key.copy(alloc)?;
+            let value = self.encode_at(alloc, value, &pair.value)?;
+            members.push(Member { name, value })?;
+        }
+        Ok(members)
     }
 
     #[cycle(encode)]

@@ -3,13 +3,13 @@ ghost use Rattle.std.specs.Prelude.{◌≢◌, ◌↔◌, IsTrue, map, Contains}
 ghost use Rattle.std.specs.List.{AllByRecursion};
 ghost use Rattle.schema_values.specs.Sound.{AreDistinct};
 ghost use Rattle.typed_values.specs.declared.desc.Field.{Field};
-ghost use Rattle.typed_values.specs.Definitions.{field_name};
 ghost use Rattle.typed_values.specs.Causes.{Tells};
 ghost use Rattle.typed_values.specs.Checks.{HasDoubledName, IsDangling, IsEmptyChoice, IsNullOfNull};
 ghost use Rattle.typed_values.specs.Checks.{IsOption, IsBadField, HasBadPresence};
 
 use crate::check::TableError;
 use crate::desc::{Desc, Field, Presence};
+use crate::order::HasName;
 use crate::ranges::are_bounds_right;
 use crate::search::takes_null;
 use crate::table::DescTable;
@@ -34,25 +34,30 @@ fn has_doubled_name(desc: &Desc) -> bool
     ensures { IsTrue result ↔ HasDoubledName desc.now }
 {
     match desc {
-        Desc::Struct { fields, .. } => !names_distinct(fields.as_slice()),
+        Desc::Struct { fields, .. } => !are_distinct(fields.as_slice()),
+        Desc::Enumeration { names } => !are_distinct(names.as_slice()),
         _ => false,
     }
 }
 
-fn names_distinct(fields: &[Field]) -> bool
-    ensures { IsTrue result ↔ AreDistinct (map field_name fields.now) }
+fn are_distinct<T: HasName>(items: &[T]) -> bool
+    ensures { IsTrue result ↔ AreDistinct (map T.name_of items.now) }
 {
-    match fields.split_first() {
-        None => true,
-        Some((first, others)) => is_new_name(&first.name, others) && names_distinct(others),
+    let mut rest = items;
+    while let Some((first, others)) = rest.split_first() {
+        if !is_new_name(first.name(), others) {
+            return false;
+        }
+        rest = others;
     }
+    true
 }
 
-fn is_new_name(name: &Text, fields: &[Field]) -> bool
-    ensures { IsTrue result ↔ AllByRecursion (λ field. name.now ≢ field_name field) fields.now }
+fn is_new_name<T: HasName>(name: &Text, items: &[T]) -> bool
+    ensures { IsTrue result ↔ AllByRecursion (λ item. name.now ≢ T.name_of item) items.now }
 {
-    for field in fields {
-        if name.equals(&field.name) {
+    for item in items {
+        if name.equals(item.name()) {
             return false;
         }
     }
@@ -72,7 +77,8 @@ fn is_empty_choice(desc: &Desc) -> bool
     ensures { IsTrue result ↔ IsEmptyChoice desc.now }
 {
     match desc {
-        Desc::Untagged { alternatives } => alternatives.len() == 0,
+        Desc::Untagged { alternatives } => alternatives.is_empty(),
+        Desc::Enumeration { names } => names.is_empty(),
         _ => false,
     }
 }

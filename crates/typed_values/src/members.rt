@@ -1,11 +1,13 @@
-ghost use Rattle.std.specs.Prelude.{◌≡◌, ◌≢◌, true, Some, option_map, IfOk, IfSome, IfNone};
+ghost use Rattle.std.specs.Prelude.{◌≡◌, ◌≢◌, true, Some, map, option_map, IfOk, IfSome, IfNone};
 ghost use Rattle.std.proofs.Props.{props};
 ghost use Rattle.std.specs.List.{All};
 ghost use Rattle.schema_values.specs.Member.{name_of};
 ghost use Rattle.typed_values.specs.Denotes as denotes;
+ghost use Rattle.typed_values.specs.Order.{sorted_by};
 ghost use Rattle.typed_values.specs.Members.{AreAscending, IsNamedAt, are_declared};
 
 use crate::desc::Field;
+use crate::order::insert_by_name;
 use schema_values::{Json, Member, Text, names_ascend};
 use std::alloc::{AllocError, Global};
 
@@ -150,4 +152,16 @@ fn lesser<'a>(name: &'a Text, other: &'a Text) -> &'a Text
     ensures { denotes.least_with name.now (Some other.now) ≡ Some result.now }
 {
     if name <= other { name } else { other }
+}
+
+/// The members in the order of their names.
+pub(crate) fn in_order(alloc: Global, members: &[Member]) -> Result<Vec<&Member>, AllocError>
+    ensures { IfOk result (λ ordered. map (λ member. member.now) ordered.items
+        ≡ sorted_by denotes.member_name members.now) }
+{
+    let mut ordered = Vec::with_capacity(alloc, members.len())?;
+    for member in members {
+        insert_by_name(&mut ordered, member)?;
+    }
+    Ok(ordered)
 }

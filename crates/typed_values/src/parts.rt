@@ -20,6 +20,7 @@ pub(crate) fn applies(error: TableError, table: &DescTable, desc: &Desc) -> bool
     match desc {
         Desc::Option(inner) => applies(error, table, inner.get()),
         Desc::List { item, .. } => applies(error, table, item.get()),
+        Desc::Map(value) => applies(error, table, value.get()),
         Desc::Struct { fields, .. } => applies_to_some_field(error, table, fields.as_slice()),
         Desc::Untagged { alternatives } => applies_to_some(error, table, alternatives.as_slice()),
         _ => false,

@@ -4,13 +4,16 @@ ghost use Rattle.typed_values.specs.declared.schemas.SchemaPlace.TheVariants.{Pl
 ghost use Rattle.typed_values.specs.Order.{sorted_by};
 ghost use Rattle.typed_values.specs.SchemaTable.{same_name};
 ghost use Rattle.typed_values.specs.Schemas as meant;
-ghost use Rattle.typed_values.specs.Schemas.{schema_value, schema_parts, definition_value, in_header};
+ghost use Rattle.typed_values.specs.Schemas.{schema_value, schema_sketch, schema_parts};
+ghost use Rattle.typed_values.specs.Schemas.{definition_value, in_header};
 
 use crate::desc::{Desc, Field, Presence};
 use crate::order::insert_by_name;
-use crate::schema_parts::{object_of, of_single, with_description, with_null};
+use crate::schema_names::enumeration_parts;
+use crate::schema_parts::{no_parts, object_of, of_single, with_description, with_null};
 use crate::schema_rows::{
-    choice_parts, int_parts, list_parts, ref_parts, struct_parts, text_parts,
+    char_parts, choice_parts, int_parts, list_parts, map_parts, never_parts, ref_parts,
+    struct_parts, text_parts,
 };
 use crate::table::{Definition, DescTable};
 use schema_values::{InstanceType, List, Property, Schema, SchemaObject, Text};
@@ -62,14 +65,20 @@ fn parts_of(alloc: Global, desc: &Desc) -> Result<SchemaObject, AllocError>
     ensures { IfOk result (λ parts. out-SchemaObject parts ≡ schema_parts desc.now) }
 {
     match desc {
+        Desc::Any => Ok(no_parts()),
+        Desc::Never => Ok(never_parts()),
+        Desc::Null => Ok(of_single(InstanceType::Null)),
         Desc::Bool => Ok(of_single(InstanceType::Boolean)),
+        Desc::Char => Ok(char_parts()),
         Desc::Int { kind, min, max } => int_parts(alloc, *kind, min, max),
         Desc::Text { min, max, format } => text_parts(alloc, *min, *max, format),
+        Desc::Enumeration { names } => enumeration_parts(alloc, names.as_slice()),
         Desc::Option(inner) => with_null(alloc, parts_of(alloc, inner.get())?),
         Desc::List { item, min, max } => {
             let item = object_of(alloc, parts_of(alloc, item.get())?)?;
             Ok(list_parts(item, *min, *max))
         }
+        Desc::Map(value) => Ok(map_parts(alloc, other_members(alloc, value.get())?)),
         Desc::Struct {
             fields,
             deny_unknown,
@@ -82,6 +91,18 @@ fn parts_of(alloc: Global, desc: &Desc) -> Result<SchemaObject, AllocError>
             Ok(choice_parts(schemas_of(alloc, alternatives.as_slice())?))
         }
         Desc::Ref(name) => ref_parts(alloc, name),
+    }
+}
+
+/// The schema of the values of a map: a truth value for every value and for none.
+#[cycle(schema)]
+fn other_members(alloc: Global, desc: &Desc) -> Result<Schema, AllocError>
+    ensures { IfOk result (λ schema. schema ≡ meant.other_members (schema_sketch desc.now)) }
+{
+    match desc {
+        Desc::Any => Ok(Schema::Bool(true)),
+        Desc::Never => Ok(Schema::Bool(false)),
+        _ => object_of(alloc, parts_of(alloc, desc)?),
     }
 }
 
@@ -100,7 +121,7 @@ fn schemas_of(alloc: Global, descs: &[Desc]) -> Result<List<Schema>, AllocError>
 #[cycle(schema)]
 fn properties_of(alloc: Global, fields: &[Field]) -> Result<List<Property>, AllocError>
     ensures { IfOk result (λ properties. properties ≡ sorted_by meant.property_name
-        (map meant.property_of (map meant.parts_of_field fields.now))) }
+        (map meant.property_of (map meant.sketch_of_field fields.now))) }
 {
     let mut properties = Vec::new(alloc);
     for field in fields {
@@ -112,7 +133,7 @@ fn properties_of(alloc: Global, fields: &[Field]) -> Result<List<Property>, Allo
 
 fn property_of(alloc: Global, field: &Field, parts: SchemaObject) -> Result<Property, AllocError>
     ensures { out-SchemaObject parts ≡ schema_parts field.now.desc
-        → IfOk result (λ property. property ≡ meant.property_of (meant.parts_of_field field.now)) }
+        → IfOk result (λ property. property ≡ meant.property_of (meant.sketch_of_field field.now)) }
 {
     let parts = with_description(alloc, &field.description, parts)?;
     Ok(Property {
@@ -124,7 +145,7 @@ fn property_of(alloc: Global, field: &Field, parts: SchemaObject) -> Result<Prop
 /// The names of the fields that must be there, in order.
 fn required_names(alloc: Global, fields: &[Field]) -> Result<List<Text>, AllocError>
     ensures { IfOk result (λ names. names ≡ sorted_by same_name
-        (meant.required_names (map meant.parts_of_field fields.now))) }
+        (meant.required_names (map meant.sketch_of_field fields.now))) }
 {
     let mut names = Vec::new(alloc);
     for field in fields {

@@ -1,7 +1,7 @@
 //! Tables, what they are told, and the descriptors that the tests share.
 use crate::{
-    AddError, Added, Definition, Desc, DescTable, Field, IntKind, Presence, TableError, check_desc,
-    check_table,
+    AddError, Added, Definition, Desc, DescTable, Field, IntKind, Named, Presence, TableError,
+    check_desc, check_table,
 };
 use schema_values::{Boxed, List, Text};
 use std::alloc::{AllocError, Global};
@@ -226,6 +226,33 @@ fn no_alternatives(alloc: Global) -> Desc {
     }
 }
 
+/// An enumeration of these names, none of which is described.
+fn enumeration(alloc: Global, listed: &[&str]) -> Result<Desc, AllocError> {
+    let mut names = List::new(alloc);
+    for name in listed {
+        names.push(Named {
+            name: Text::from_str(alloc, name)?,
+            description: None,
+        })?;
+    }
+    Ok(Desc::Enumeration { names })
+}
+
+fn map(alloc: Global, value: Result<Desc, AllocError>) -> Result<Desc, AllocError> {
+    Ok(Desc::Map(Boxed::new(alloc, value?)?))
+}
+
+/// A struct with a field of the name `n`, which may be left out.
+fn skipped(alloc: Global, desc: Desc) -> Result<Desc, AllocError> {
+    let mut fields = List::new(alloc);
+    push(alloc, &mut fields, "n", Presence::Skipped, desc)?;
+    Ok(structure(fields))
+}
+
+fn option_of_any_choice(alloc: Global) -> Result<Desc, AllocError> {
+    option(alloc, either(alloc, Desc::Bool, Desc::Any)?)
+}
+
 #[test]
 fn each_error_is_told(rt: HostRuntime) {
     let alloc = rt.alloc();
@@ -245,6 +272,36 @@ fn each_error_is_told(rt: HostRuntime) {
         "bad range"
     );
     assert_eq!(rt; told_of(alloc, "N", bad_presence(alloc)), "bad presence");
+}
+
+#[test]
+fn an_enumeration_has_distinct_names(rt: HostRuntime) {
+    let alloc = rt.alloc();
+    let of = |names: &[&str]| told_of(alloc, "N", enumeration(alloc, names));
+    assert_eq!(rt; of(&["a", "b", "a"]), "doubled name");
+    assert_eq!(rt; of(&["a", "b"]), "passes");
+    assert_eq!(rt; of(&[]), "empty enumeration");
+}
+
+#[test]
+fn any_and_null_take_null(rt: HostRuntime) {
+    let alloc = rt.alloc();
+    let of = |desc: Result<Desc, AllocError>| told_of(alloc, "N", desc);
+    assert_eq!(rt; of(option(alloc, Desc::Any)), "null of null");
+    assert_eq!(rt; of(option(alloc, Desc::Null)), "null of null");
+    assert_eq!(rt; of(option_of_any_choice(alloc)), "null of null");
+    assert_eq!(rt; of(option(alloc, Desc::Never)), "passes");
+    assert_eq!(rt; of(skipped(alloc, Desc::Any)), "bad presence");
+    assert_eq!(rt; of(skipped(alloc, Desc::Null)), "bad presence");
+    assert_eq!(rt; of(skipped(alloc, Desc::Never)), "passes");
+}
+
+#[test]
+fn a_map_leads_to_its_values(rt: HostRuntime) {
+    let alloc = rt.alloc();
+    let of = |name: &str| told_of(alloc, "N", map(alloc, reference(alloc, name)));
+    assert_eq!(rt; of("Absent"), "dangling");
+    assert_eq!(rt; of("N"), "passes");
 }
 
 /// What is told of an option over a reference to a reference to an option.

@@ -12,7 +12,9 @@ abbrev pub cost_after : (Desc → ℕ) → Option Desc → ℕ
 cost_after next None = 0
 cost_after next (Some y) = suc (suc (next y))
 
+-- an enumeration takes two too, since it may be a choice of lists of names
 abbrev pub cost_by : List Definition → (Desc → ℕ) → Desc-F Desc Field → ℕ
+cost_by table next (Desc-F.Enumeration ns) = 2
 cost_by table next (Desc-F.Option x) = next x
 cost_by table next (Desc-F.Untagged ds) = suc (most next ds)
 cost_by table next (Desc-F.Ref name) = cost_after next (definition table name)

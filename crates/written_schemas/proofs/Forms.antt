@@ -30,11 +30,17 @@ drawn_row d z e =
     ∙ by_form z
   where
     by_form : (z : Desc-F Desc Field) → drawn_step (map-Desc Desc Field Drawn DrawnField drawn folded_field z) ≡ drawn_step (drawn_level z)
+    by_form Desc-F.Any = refl
+    by_form Desc-F.Never = refl
+    by_form Desc-F.Null = refl
     by_form Desc-F.Bool = refl
+    by_form Desc-F.Char = refl
     by_form (Desc-F.Int kind min max) = refl
     by_form (Desc-F.Text min max format) = refl
+    by_form (Desc-F.Enumeration ns) = refl
     by_form (Desc-F.Option x) = refl
     by_form (Desc-F.List x min max) = refl
+    by_form (Desc-F.Map x) = refl
     by_form (Desc-F.Struct fs deny) = ap (λ (gs : List DrawnField). drawn_step (Desc-F.Struct gs deny)) (same_fields fs)
     by_form (Desc-F.Untagged ds) = refl
     by_form (Desc-F.Ref name) = refl

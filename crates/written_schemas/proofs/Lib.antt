@@ -1,4 +1,3 @@
-mod SortedLemmas
 mod SchemaForms
 mod SchemaMembers
 mod NotRefused
@@ -7,11 +6,14 @@ mod Written
 pub mod Notes
 pub mod Scalars
 pub mod Composites
+pub mod Enumerations
 pub mod Structs
+pub mod Maps
 pub mod Sorted
 pub mod Fields
 pub mod Costs
 pub mod Forms
+pub mod Truths
 pub mod AtOneValue
 pub mod Agreement
 pub mod Parts

@@ -99,10 +99,16 @@ module _ (table : List Definition) (whole : Desc) (doc : Json) (passes : TablePa
 
   bounded_by : (n : ℕ) → Bounded n → (left : List Member) (d : Desc) → IsNeeded table whole d → AreLeft left d → (z : Desc-F Desc Field) → out-Desc d ≡ z → cost_by table (cost table n) z ≤ top_cost d + summed (weight table) left
   unfolding Bounded
+  bounded_by n bounded left d need inv Desc-F.Any e = omega (arith, top_at d _ e)
+  bounded_by n bounded left d need inv Desc-F.Never e = omega (arith, top_at d _ e)
+  bounded_by n bounded left d need inv Desc-F.Null e = omega (arith, top_at d _ e)
   bounded_by n bounded left d need inv Desc-F.Bool e = omega (arith, top_at d _ e)
+  bounded_by n bounded left d need inv Desc-F.Char e = omega (arith, top_at d _ e)
   bounded_by n bounded left d need inv (Desc-F.Int kind min max) e = omega (arith, top_at d _ e)
   bounded_by n bounded left d need inv (Desc-F.Text min max format) e = omega (arith, top_at d _ e)
+  bounded_by n bounded left d need inv (Desc-F.Enumeration ns) e = omega (arith, top_at d _ e)
   bounded_by n bounded left d need inv (Desc-F.List x min max) e = omega (arith, top_at d _ e)
+  bounded_by n bounded left d need inv (Desc-F.Map x) e = omega (arith, top_at d _ e)
   bounded_by n bounded left d need inv (Desc-F.Struct fs deny) e = omega (arith, top_at d _ e)
   bounded_by n bounded left d need inv (Desc-F.Option x) e =
       omega (arith, top_at d _ e, bounded left x (option_needed table whole d x e need) (go_on left d x (through_option table x e) inv))

@@ -1,8 +1,10 @@
 -- How many JSON values the schema of a descriptor has, beside the steps that its top takes.
-use Rattle.std.proofs.Common.{◌≡◌, ℕ, suc, ◌+◌, ◌≤◌, Bool, true, false, List, [], ◌∷◌, ◌++◌, map, sum, Option, codes, refl, ◌∙◌, ap, arith, inl, inr}
+use Rattle.std.proofs.Common.{◌≡◌, ℕ, suc, ◌+◌, ◌≤◌, Bool, true, false, List, [], ◌∷◌, ◌++◌, map, sum, Option, Some, None, codes, cond, refl, ◌∙◌, ap, arith, inl, inr}
+use Rattle.std.specs.List.{list_any}
+use Rattle.std.specs.Option.{option_map_or}
 use Rattle.std.specs.Prelude.{Contains}
 use Rattle.std.proofs.lemmas.List.Sums.{sum_by-cons}
-use Rattle.schema_values.specs.declared.json_value.Json.{Json, out-Json, List as Items, Object, Text as Words}
+use Rattle.schema_values.specs.declared.json_value.Json.{Json, out-Json, Bool as Truth, List as Items, Object, Text as Words}
 use Rattle.schema_values.specs.declared.json_value.Json.TheOpen.{Json-F}
 use Rattle.schema_values.specs.declared.json_value.Json.TheVariants as json
 use Rattle.schema_values.specs.declared.json_value.Member.{Member}
@@ -14,15 +16,18 @@ use Rattle.typed_values.specs.declared.desc.Desc.{Desc, out-Desc}
 use Rattle.typed_values.specs.declared.desc.Desc.TheFolds.{fold-Desc, fold-Field, fold_out-Desc, map-Desc}
 use Rattle.typed_values.specs.declared.desc.Desc.TheOpen.{Desc-F}
 use Rattle.typed_values.specs.declared.desc.Field.{Field}
+use Rattle.typed_values.specs.declared.desc.Named.{Named}
+use Rattle.typed_values.specs.Definitions.{listed_name}
 use Rattle.typed_values.specs.Denotes.{field_nodes}
 use Rattle.typed_values.specs.Order.{sorted_by}
-use Rattle.typed_values.specs.SchemaTable.{Drawn, drawn, drawn_json, drawn_step, annotated, property_of, required_names, same_name, if_members, if_names, if_denied, schema_json}
+use Rattle.typed_values.specs.SchemaTable.{Drawn, drawn, drawn_json, drawn_step, annotated, property_of, required_names, same_name, if_members, if_names, if_denied, plain, enumerated, is_described, choices_of, other_members, schema_json}
 use Rattle.typed_values.proofs.Found.{contains_cases}
 use Rattle.written_schemas.proofs.Notes.{noted, notes}
 use Rattle.written_schemas.proofs.Composites.{counts}
 use Rattle.written_schemas.proofs.Sorted.{sum_sorted}
 use Rattle.written_schemas.proofs.Fields.{drawn_of, property}
 use Rattle.written_schemas.proofs.Forms.{drawn_row, drawn_level}
+use Rattle.written_schemas.proofs.Truths.{truth_is}
 
 unfoldable pub total : List Member → ℕ
 total ms = sum (map member_values ms)
@@ -71,6 +76,7 @@ bare_fits d n t s = omega (arith, values_object (annotated (notes n t s) (drawn 
 
 -- the steps that the top of a descriptor takes: it, and what stands under options and alternatives alone
 abbrev pub top_step : Desc-F ℕ ℕ → ℕ
+top_step (Desc-F.Enumeration ns) = 2
 top_step (Desc-F.Option n) = n
 top_step (Desc-F.Untagged ns) = suc (sum ns)
 top_step (Desc-F.Ref name) = 2
@@ -95,6 +101,15 @@ no_total : total [] ≡ 0
 unfolding total
 no_total = refl
 
+-- the schemas that admit all or nothing have at most two values
+told_bare : (x : Desc) (b : Bool) → (drawn x).truth ≡ Some b → bare x ≤ 2
+told_bare x b f = elim (truth_is x b f) [
+  | inl any ↦ let none : total [] ≡ 0 = no_total in omega (arith, bare_at x Desc-F.Any any.0, none)
+  | inr never ↦
+      let none : total [] ≡ 0 = no_total in
+      omega (arith, bare_at x Desc-F.Never never.0, total_cons (member (codes "not") (Object [])) [], values_object [], none)
+]
+
 module _ (d : Desc) where
   pub option_size : (x : Desc) → out-Desc d ≡ Desc-F.Option x → (bare d ≡ bare x) × (top_cost d ≡ top_cost x)
   option_size x e = (bare_at d (Desc-F.Option x) e, top_at d (Desc-F.Option x) e)
@@ -104,6 +119,27 @@ module _ (d : Desc) where
       let item = member (codes "items") (schema_json x) in
       let rest = counts min max in
       omega (arith, bare_at d (Desc-F.List x min max) e, first_counts (member (codes "type") (Words (codes "array"))) (item ∷ rest), total_cons item rest)
+
+  -- the schema of a map's values, or a truth value in its place
+  pub map_size : (x : Desc) → out-Desc d ≡ Desc-F.Map x → suc (bare x) ≤ bare d
+  map_size x e =
+      let others = member (codes "additionalProperties") (other_members (drawn x)) in
+      omega (arith, bare_at d (Desc-F.Map x) e, first_counts (member (codes "type") (Words (codes "object"))) (others ∷ []), total_cons others [], by_truth (drawn x).truth refl)
+    where
+      by_truth : (truth : Option Bool) → (drawn x).truth ≡ truth → bare x ≤ suc (values (option_map_or Truth truth (drawn_json (drawn x))))
+      by_truth None f = omega (arith, bare_fits x (drawn x).nullable (drawn x).title (drawn x).description)
+      by_truth (Some b) f = omega (arith, told_bare x b f, values_positive (Truth b))
+
+  pub enumeration_size : (ns : List Named) → out-Desc d ≡ Desc-F.Enumeration ns → 2 ≤ bare d
+  enumeration_size ns e = omega (arith, bare_at d (Desc-F.Enumeration ns) e, by_test (list_any is_described ns))
+    where
+      by_names : (names : List (List ℕ)) → 1 ≤ total (enumerated names).members
+      by_names [] = omega (arith, first_counts (member (codes "not") (Object [])) [])
+      by_names (name ∷ names) = omega (arith, first_counts (member (codes "type") (Words (codes "string"))) (member (codes "enum") (Items (map Words (name ∷ names))) ∷ []))
+
+      by_test : (b : Bool) → 1 ≤ total (cond b (plain (member (codes "oneOf") (Items (choices_of ns)) ∷ [])) (enumerated (map listed_name ns))).members
+      by_test true = omega (arith, first_counts (member (codes "oneOf") (Items (choices_of ns))) [])
+      by_test false = by_names (map listed_name ns)
 
   pub choice_size : (ds : List Desc) → out-Desc d ≡ Desc-F.Untagged ds → bare d ≡ suc (suc (sum (map values (map drawn_json (map drawn ds)))))
   choice_size ds e =

@@ -114,7 +114,9 @@ fn add_references(alloc: Global, names: &mut List<Text>, desc: &Desc) -> Result<
     ensures { OnOk result (names.new ≡ names.old ++ references desc.now) }
 {
     match desc {
-        Desc::Bool | Desc::Int { .. } | Desc::Text { .. } => Ok(()),
+        Desc::Any | Desc::Never | Desc::Null | Desc::Enumeration { .. } => Ok(()),
+        Desc::Bool | Desc::Char | Desc::Int { .. } | Desc::Text { .. } => Ok(()),
+        Desc::Map(value) => add_references(alloc, names, value.get()),
         Desc::Option(inner) => add_references(alloc, names, inner.get()),
         Desc::List { item, .. } => add_references(alloc, names, item.get()),
         Desc::Struct { fields, .. } => add_field_references(alloc, names, fields.as_slice()),

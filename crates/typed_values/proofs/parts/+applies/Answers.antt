@@ -26,6 +26,14 @@ applies-returns-in-List t c =
     let e = rw c.get-in-List.ensures at c.applies-in-List.ensures in
     (λ h. i.1 (e.0 h), λ h. e.1 (i.0 h))
 
+pub applies-returns-in-Map : goal.applies-returns-in-Map
+applies-returns-in-Map t c =
+    let P : Desc → Type 0 = Tells c.args.error c.args.table.now in
+    let never = untrue c.tells.ensures c.if-tells.false in
+    let i = parts_at P c.args.desc.now (Desc-F.Map c.in-Map.value) (ap out-Desc c.in-Map.is ∙ desc.outs-Map c.in-Map.value) never in
+    let e = rw c.get-in-Map.ensures at c.applies-in-Map.ensures in
+    (λ h. i.1 (e.0 h), λ h. e.1 (i.0 h))
+
 pub applies-returns-in-Struct : goal.applies-returns-in-Struct
 applies-returns-in-Struct t c =
     let P : Desc → Type 0 = Tells c.args.error c.args.table.now in
@@ -49,7 +57,7 @@ applies-returns-in_default t c =
     let P : Desc → Type 0 = Tells c.args.error c.args.table.now in
     let never = untrue c.tells.ensures c.if-tells.false in
     let d = c.in_default in
-    (λ h. absurd (cc h), λ h. absurd (none_within P c.args.desc.now never d.not-Option d.not-List d.not-Struct d.not-Untagged h))
+    (λ h. absurd (cc h), λ h. absurd (none_within P c.args.desc.now never d.not-Option d.not-List d.not-Map d.not-Struct d.not-Untagged h))
 
 pub applies_to_some_field-returns-then-applies : goal.applies_to_some_field-returns-then-applies
 applies_to_some_field-returns-then-applies t c =

@@ -1,0 +1,5 @@
+pub mod Types
+pub mod Additions
+pub mod Options
+pub mod Maps
+pub mod Structs
