@@ -65,9 +65,19 @@ split (d ∷ ds) zero e less is = ap (λ (x : Definition). x ∷ ds) (sym is)
 split (d ∷ ds) (suc i) e less is = ap (λ (xs : List Definition). d ∷ xs) (split ds i e (omega (arith, less)) is)
 
 -- the first that is refused is the one at the place that a loop has come to
-pub refused_at : (table ds : List Definition) (i : ℕ) (e : Definition) (error : AddError) → i < length ds → e ≡ get_or ds i e → IsRefused (with_all table (take i ds)) e error → AreRefused table ds error
-refused_at table ds i e (Clash name) less is (named, clash) = (e, named, (take i ds, drop (suc i) ds, split ds i e less is, clash))
-refused_at table ds i e OutOfMemory less is refused = tt
+pub refused_at : (table ds : List Definition) (i : ℕ) (e : Definition) (error : AddError) → i < length ds → e ≡ get_or ds i e → HoldsAll (with_all table (take i ds)) (take i ds) → IsRefused (with_all table (take i ds)) e error → AreRefused table ds error
+refused_at table ds i e (Clash name) less is held (named, clash) = (
+  e,
+  named,
+  record {
+    before = take i ds;
+    behind = drop (suc i) ds;
+    parts = split ds i e less is;
+    before_held = held;
+    clashes = clash;
+  },
+)
+refused_at table ds i e OutOfMemory less is held refused = tt
 
 module _ (table ds : List Definition) (i : ℕ) (e : Definition) (less : i < length ds) (is : e ≡ get_or ds i e) (old new : List Definition) (added : Added) (adds : Adds old new e added) where
   one_more : take (i + 1) ds ≡ take i ds ++ e ∷ []

@@ -11,3 +11,4 @@ pub mod Names
 pub mod References
 pub mod Structs
 pub mod Admitted
+pub mod Refusing

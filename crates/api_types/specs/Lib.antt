@@ -3,3 +3,4 @@ pub mod Additions
 pub mod Options
 pub mod Maps
 pub mod Structs
+pub mod TypeTables

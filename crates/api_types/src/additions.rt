@@ -7,8 +7,8 @@ ghost use Rattle.api_types.specs.Types.{HoldsAll};
 use std::alloc::Global;
 use typed_values::{AddError, Added, Definition, DescTable};
 
-/// Adds definitions to a table: all of them, or none where one clashes or memory is wanting. The table is
-/// copied, so that it stays as it was after an error.
+/// Adds definitions to a table: all of them, or none where one clashes or memory is wanting. The first clash
+/// is told. The table is copied, so that it stays as it was after an error.
 pub fn add_all(
     alloc: Global,
     table: &mut DescTable,

@@ -34,7 +34,8 @@ pub trait ApiType: Sized + Drop {
         ensures desc { IfOk result (λ desc. desc ≡ desc_of) }
         ensures reached { ReachesExactly definitions_of desc_of };
 
-    /// Adds the definitions that the descriptor reaches: all of them, or none where one clashes.
+    /// Adds the definitions that the descriptor reaches: all of them, or none where one clashes. The first
+    /// clash is told.
     fn add_definitions(alloc: Global, table: &mut DescTable) -> Result<(), AddError>
         ensures added { OnOk result (table.new ≡ with_all table.old definitions_of) }
         ensures held { OnOk result (HoldsAll table.new definitions_of) }

@@ -13,10 +13,12 @@ mod signed;
 mod tests;
 mod text;
 mod truth;
+mod type_table;
 mod unsigned;
 mod wire;
 
 pub use additions::add_all;
 pub use any_value::AnyValue;
 pub use api_type::ApiType;
+pub use type_table::{Flaw, TypeError, table_of};
 pub use wire::{json_value, value_json};

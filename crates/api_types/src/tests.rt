@@ -1,11 +1,11 @@
 ghost use Rattle.api_types.specs.Types.{IsTableOf};
 
-use crate::{AnyValue, ApiType, add_all, json_value, value_json};
+use crate::{AnyValue, ApiType, Flaw, TypeError, add_all, json_value, table_of, value_json};
 use schema_values::{Json, List, Text};
 use std::alloc::Global;
 use std::collections::BTreeMap;
 use std::test::Fail;
-use typed_values::{AddError, Definition, Desc, DescTable, check_desc, check_table};
+use typed_values::{AddError, Definition, Desc, DescTable, Pair, Tree};
 
 // The text of a value's JSON, and that of the value that the JSON reads as.
 fn there_and_back<T: ApiType>(alloc: Global, table: &DescTable, value: &T) -> Option<(Text, Text)>
@@ -19,12 +19,7 @@ fn there_and_back<T: ApiType>(alloc: Global, table: &DescTable, value: &T) -> Op
 
 // Whether a type has this name, and a value this JSON, which reads as a value of the same JSON.
 fn comes_back<T: ApiType>(alloc: Global, value: &T, name: &str, text: &str) -> Option<bool> {
-    let mut table = DescTable::new(alloc);
-    T::add_definitions(alloc, &mut table).ok()?;
-    let desc = T::descriptor(alloc).ok()?;
-    if check_table(&table).is_err() || check_desc(&table, &desc).is_err() {
-        return None;
-    }
+    let table = table_of::<T>(alloc).ok()?;
     let (there, back) = there_and_back(alloc, &table, value)?;
     let named = T::type_name(alloc).ok()?;
     Some(named.equals_str(name) && there.equals_str(text) && back.equals_str(text))
@@ -87,11 +82,23 @@ fn options_lists_and_maps(rt: HostRuntime) -> Result<(), Fail> {
         comes_back(alloc, &numbers, "Array_of_uint8", "[3,1]"),
         Some(true)
     );
+    let mut items = List::new(alloc);
+    items.push(Tree::Int(3))?;
+    items.push(Tree::Int(1))?;
+    assert!(rt; numbers.to_tree(alloc)?.equals(&Tree::List(items)));
     let mut map = BTreeMap::new(alloc);
     map.insert(Text::from_str(alloc, "b")?, true)?;
     map.insert(Text::from_str(alloc, "a")?, false)?;
     let text = "{\"a\":false,\"b\":true}";
     assert_eq!(rt; comes_back(alloc, &map, "Map_of_Boolean", text), Some(true));
+    let mut pairs = List::new(alloc);
+    for (key, truth) in [("a", false), ("b", true)] {
+        pairs.push(Pair {
+            key: Text::from_str(alloc, key)?,
+            value: Tree::Bool(truth),
+        })?;
+    }
+    assert!(rt; map.to_tree(alloc)?.equals(&Tree::Map(pairs)));
     Ok(())
 }
 
@@ -103,11 +110,25 @@ fn any_sound_value(rt: HostRuntime) -> Result<(), Fail> {
         Ok(value) => {
             let text = "18446744073709551615";
             assert_eq!(rt; comes_back(alloc, &value, "AnyValue", text), Some(true));
-            assert!(rt; matches!(value.into_json(), Json::Int(_)));
+            let tree = Tree::Any(Json::Int(most));
+            assert!(rt; value.to_tree(alloc)?.equals(&tree));
+            assert!(rt; value.json().equals(&Json::Int(most)));
+            assert!(rt; value.into_json().equals(&Json::Int(most)));
         }
         Err(_) => panic!(rt; "the greatest number is sound"),
     }
     assert!(rt; AnyValue::new(Json::Int(most + 1)).is_err());
+    Ok(())
+}
+
+#[test]
+fn an_option_of_an_option_has_no_table(rt: HostRuntime) -> Result<(), Fail> {
+    assert!(rt;
+        matches!(
+            table_of::<Option<Option<bool>>>(rt.alloc()),
+            Err(TypeError::Descriptor(Flaw::NullOfNull))
+        )
+    );
     Ok(())
 }
 
@@ -133,10 +154,11 @@ fn definitions_come_all_or_none(rt: HostRuntime) -> Result<(), Fail> {
     let second = [
         definition(alloc, "New", Desc::Null)?,
         definition(alloc, "Sign", Desc::Bool)?,
+        definition(alloc, "Flag", Desc::Null)?,
     ];
     match add_all(alloc, &mut table, &second) {
         Err(AddError::Clash(name)) => assert_eq!(rt; name.as_str(), "Sign"),
-        _ => panic!(rt; "two definitions have one name"),
+        _ => panic!(rt; "the first clash is that of Sign"),
     }
     assert_eq!(rt; table.len(), 2);
     Ok(())

@@ -1,46 +1,39 @@
-ghost use Rattle.std.specs.Prelude.{IfSome};
 ghost use Rattle.api_types.specs.Types.{IsTableOf};
 
 use crate::{Color, Label, Point};
-use api_types::{ApiType, json_value, value_json};
-use schema_values::{Json, Text};
+use api_types::{ApiType, json_value, table_of, value_json};
+use schema_values::{Boxed, Json, List, Text};
 use std::alloc::Global;
 use std::test::Fail;
-use typed_values::{DescTable, Tree, check_desc, check_table};
-
-// The table of a type's definitions, where it passes its checks.
-fn table_of<T: ApiType>(alloc: Global) -> Option<DescTable>
-    ensures { IfSome result (IsTableOf T.definitions_of T.desc_of) }
-{
-    let mut table = DescTable::new(alloc);
-    T::add_definitions(alloc, &mut table).ok()?;
-    let Ok(desc) = T::descriptor(alloc) else {
-        return None;
-    };
-    match (check_table(&table), check_desc(&table, &desc)) {
-        (Ok(()), Ok(())) => Some(table),
-        _ => None,
-    }
-}
+use typed_values::{DescTable, Tree};
 
 // The value that a text of JSON denotes.
 fn read<T: ApiType>(alloc: Global, text: &str) -> Option<T> {
-    let table = table_of::<T>(alloc)?;
+    let table = table_of::<T>(alloc).ok()?;
     let json = Json::read(alloc, text.as_bytes()).ok()?;
     json_value(alloc, &table, &json).ok()
 }
 
-// Whether a type has this name, and a value this JSON, which reads as a value of the same JSON.
-fn comes_back<T: ApiType>(alloc: Global, value: &T, name: &str, text: &str) -> Option<bool> {
-    let table = table_of::<T>(alloc)?;
-    let json = value_json(alloc, &table, value).ok()?;
+// Whether a value has this JSON, which reads as a value of the same JSON.
+fn is_written_as<T: ApiType>(
+    alloc: Global,
+    table: &DescTable,
+    value: &T,
+    text: &str,
+) -> Option<bool>
+    requires { IsTableOf T.definitions_of T.desc_of table.now }
+{
+    let json = value_json(alloc, table, value).ok()?;
     let other: T = read(alloc, text)?;
-    let again = value_json(alloc, &table, &other).ok()?;
-    Some(
-        T::type_name(alloc).ok()?.equals_str(name)
-            && json.compact(alloc).ok()?.equals_str(text)
-            && again.compact(alloc).ok()?.equals_str(text),
-    )
+    let again = value_json(alloc, table, &other).ok()?;
+    Some(json.compact(alloc).ok()?.equals_str(text) && again.compact(alloc).ok()?.equals_str(text))
+}
+
+// The same of a type that has this name.
+fn comes_back<T: ApiType>(alloc: Global, value: &T, name: &str, text: &str) -> Option<bool> {
+    let table = table_of::<T>(alloc).ok()?;
+    let written = is_written_as(alloc, &table, value, text)?;
+    Some(written && T::type_name(alloc).ok()?.equals_str(name))
 }
 
 #[test]
@@ -48,7 +41,8 @@ fn labels(rt: HostRuntime) -> Result<(), Fail> {
     let alloc = rt.alloc();
     match Label::new(Text::from_str(alloc, "a word")?) {
         Ok(label) => {
-            assert!(rt; matches!(label.to_tree(alloc)?, Tree::Text(_)));
+            let tree = Tree::Text(Text::from_str(alloc, "a word")?);
+            assert!(rt; label.to_tree(alloc)?.equals(&tree));
             let text = "\"a word\"";
             assert_eq!(rt; comes_back(alloc, &label, "Label", text), Some(true));
         }
@@ -72,10 +66,8 @@ fn colors(rt: HostRuntime) -> Result<(), Fail> {
         (Color::Green, 1, "\"green\""),
         (Color::Blue, 2, "\"blue\""),
     ] {
-        match color.to_tree(alloc)? {
-            Tree::Variant(other, _) => assert_eq!(rt; other, place),
-            _ => panic!(rt; "a color is a place"),
-        }
+        let tree = Tree::Variant(place, Boxed::new(alloc, Tree::Unit)?);
+        assert!(rt; color.to_tree(alloc)?.equals(&tree));
         assert_eq!(rt; comes_back(alloc, &color, "Color", text), Some(true));
     }
     assert!(rt; matches!(read(alloc, "\"green\""), Some(Color::Green)));
@@ -95,7 +87,12 @@ fn points(rt: HostRuntime) -> Result<(), Fail> {
         color,
         n: -7,
     };
-    assert!(rt; matches!(point.to_tree(alloc)?, Tree::Fields(_)));
+    let blue = Tree::Variant(2, Boxed::new(alloc, Tree::Unit)?);
+    let mut trees = List::new(alloc);
+    trees.push(Tree::Text(Text::from_str(alloc, "a")?))?;
+    trees.push(Tree::Some(Boxed::new(alloc, blue)?))?;
+    trees.push(Tree::Int(-7))?;
+    assert!(rt; point.to_tree(alloc)?.equals(&Tree::Fields(trees)));
     let text = "{\"label\":\"a\",\"color\":\"blue\",\"n\":-7}";
     assert_eq!(rt; comes_back(alloc, &point, "Point", text), Some(true));
     match read::<Point>(alloc, "{\"n\":1,\"label\":\"b\",\"more\":0}") {

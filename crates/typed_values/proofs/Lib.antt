@@ -2,6 +2,8 @@ pub mod Found
 pub mod Tops
 pub mod Soundness
 pub mod SortedLemmas
+pub mod Stable
+pub mod FirstNamed
 pub mod Ordered
 pub mod Listed
 pub mod Steps

@@ -13,7 +13,7 @@ module _ {X Y : Type 0} (old : X → List ℕ) (new : Y → List ℕ) (f : X →
   map_at_place Equal x first rest later = refl
   map_at_place Greater x first rest later = refl
 
-  pub map_inserted : (x : X) (xs : List X) → map f (inserted_by old x xs) ≡ inserted_by new (f x) (map f xs)
+  map_inserted : (x : X) (xs : List X) → map f (inserted_by old x xs) ≡ inserted_by new (f x) (map f xs)
   map_inserted x [] = refl
   map_inserted x (first ∷ rest) =
       map_at_place (slice_cmp nat_cmp (old x) (old first)) x first rest (inserted_by old x rest)
@@ -34,7 +34,7 @@ module _ {X Y : Type 0} (old : X → List ℕ) (new : Y → List ℕ) (f : X →
 module _ {X : Type 0} (P : X → Type 0) (name : X → List ℕ) where
   all_at_place : (o : Ordering) (x first : X) (rest later : List X) → P x → P first → AllByRecursion P rest → AllByRecursion P later → AllByRecursion P (at_place o x first rest later)
   all_at_place Less x first rest later px pf pr pl = (px, (pf, pr))
-  all_at_place Equal x first rest later px pf pr pl = (px, (pf, pr))
+  all_at_place Equal x first rest later px pf pr pl = (pf, pl)
   all_at_place Greater x first rest later px pf pr pl = (pf, pl)
 
   pub all_inserted : (x : X) (xs : List X) → P x → AllByRecursion P xs → AllByRecursion P (inserted_by name x xs)

@@ -7,7 +7,6 @@ pub mod Denotes
 pub mod Fits
 pub mod Answer
 pub mod Rows
-pub mod Members
 pub mod Parts
 pub mod Guarded
 pub mod Search

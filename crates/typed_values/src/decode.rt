@@ -7,7 +7,6 @@ ghost use Rattle.typed_values.specs.Checks.{TablePasses, DescPasses};
 ghost use Rattle.typed_values.specs.Denotes.{JsonDenotes, told, as_tree, items_told, entries_told};
 ghost use Rattle.typed_values.specs.Denotes.{first_told, if_absent, optional};
 ghost use Rattle.typed_values.specs.Fits.{Fits};
-ghost use Rattle.typed_values.specs.Members.{AreAscending};
 ghost use Rattle.typed_values.specs.Parts.{IsPart};
 ghost use Rattle.typed_values.specs.Rows.{told_item, told_entry, told_field, told_fields, told_struct};
 ghost use Rattle.typed_values.specs.Rows.{list_row, map_row, struct_row, AreFieldsOf, AreParts};
@@ -15,12 +14,13 @@ ghost use Rattle.typed_values.specs.Rows.{list_row, map_row, struct_row, AreFiel
 use crate::bounds::is_length_within;
 use crate::desc::{Desc, Field, Presence};
 use crate::fault::{DecodeError, FaultKind, Place, Stop};
-use crate::members::{Members, in_order};
+use crate::members::Members;
+use crate::order::in_order;
 use crate::scalars::{decode_bool, decode_char, decode_int, decode_name, decode_null, decode_text};
 use crate::scope::Scope;
 use crate::table::DescTable;
 use crate::tree::{Pair, Tree};
-use schema_values::{Boxed, Json, List, Member, names_ascend};
+use schema_values::{Boxed, Json, List, Member};
 use std::alloc::Global;
 
 /// Decodes a value under a descriptor: the tree that it denotes, or the fault that is told first.
@@ -163,40 +163,6 @@ impl Scope<'_> {
         ensures { Tells result (entries_told
             (λ json. told self.now.table.now self.now.whole.now json value.now) members.now) }
     {
-        if names_ascend(members) {
-            self.decode_ascending(alloc, value, members)
-        } else {
-            self.decode_sorted(alloc, value, members)
-        }
-    }
-
-    /// Decodes the value of each member, where they ascend by name, as those of a value that was read do.
-    #[cycle(decode)]
-    fn decode_ascending(
-        &self,
-        alloc: Global,
-        value: &Desc,
-        members: &[Member],
-    ) -> Result<Tree, Stop>
-        requires part { IsPart self.now.table.now self.now.whole.now value.now }
-        requires ascend { AreAscending members.now }
-        ensures { Tells result (entries_told
-            (λ json. told self.now.table.now self.now.whole.now json value.now) members.now) }
-    {
-        let mut pairs = List::new(alloc);
-        for member in members {
-            pairs.push(self.decode_pair(alloc, value, member)?)?;
-        }
-        Ok(Tree::Map(pairs))
-    }
-
-    /// Decodes the value of each member, once they are put in the order of names.
-    #[cycle(decode)]
-    fn decode_sorted(&self, alloc: Global, value: &Desc, members: &[Member]) -> Result<Tree, Stop>
-        requires { IsPart self.now.table.now self.now.whole.now value.now }
-        ensures { Tells result (entries_told
-            (λ json. told self.now.table.now self.now.whole.now json value.now) members.now) }
-    {
         let mut pairs = List::new(alloc);
         for member in in_order(alloc, members)?.iter() {
             pairs.push(self.decode_pair(alloc, value, member)?)?;
@@ -254,7 +220,7 @@ impl Scope<'_> {
         ensures { Tells result
             (told_struct self.now.table.now self.now.whole.now fields.now deny_unknown members.now) }
     {
-        let members = Members::new(members);
+        let members = Members::new(alloc, members)?;
         let tree = self.decode_fields(alloc, fields, &members)?;
         match members.denied_name(alloc, deny_unknown, fields)? {
             Some(name) => {

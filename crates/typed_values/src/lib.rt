@@ -7,6 +7,7 @@ mod decode;
 mod desc;
 mod encode;
 mod equal;
+mod equal_trees;
 mod fault;
 mod fault_text;
 mod fitting;

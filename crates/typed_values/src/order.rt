@@ -1,9 +1,12 @@
-ghost use Rattle.std.specs.Prelude.{◌≡◌, ◌≤◌, ◌∷◌, ◌++◌, length, take, drop, OnOk};
-ghost use Rattle.typed_values.specs.Order.{inserted_by};
+ghost use Rattle.std.specs.Prelude.{◌≡◌, map, option_map, IfOk, OnOk};
+ghost use Rattle.std.specs.Cmp.Lexicographic.{slice_cmp};
+ghost use Rattle.std.specs.List.Sorted.{IsSortedByKey};
+ghost use Rattle.std.specs.Ordering.{nat_cmp};
+ghost use Rattle.typed_values.specs.Order.{first_by, sorted_by};
 
 use crate::desc::{Field, Named};
 use schema_values::{Member, Property, Text};
-use std::alloc::AllocError;
+use std::alloc::{AllocError, Global};
 
 /// What has a name.
 pub(crate) trait HasName {
@@ -55,38 +58,57 @@ impl HasName for Named {
     }
 }
 
-impl HasName for &Member {
+impl HasName for Member {
     ghost use Rattle.schema_values.specs.Member as member;
 
-    ghost name_of = { λ item. member.name_of item.now };
+    ghost name_of = { member.name_of };
 
     fn name(&self) -> &Text {
         &self.name
     }
 }
 
-/// Inserts an item before the first whose name is not lesser.
-pub(crate) fn insert_by_name<T: HasName + Drop>(
-    items: &mut Vec<T>,
-    item: T,
-) -> Result<(), AllocError>
-    ensures { OnOk result (items.new.items ≡ inserted_by T.name_of item items.old.items) }
-{
-    let place = place_of(items, &item);
-    items.insert(place, item)?;
-    Ok(())
+impl<T: HasName> HasName for &T {
+    ghost name_of = { λ item. T.name_of item.now };
+
+    fn name(&self) -> &Text {
+        (**self).name()
+    }
 }
 
-/// The place of the first item whose name is not lesser than that of another, else the end.
-fn place_of<T: HasName>(items: &[T], item: &T) -> usize
-    ensures within { result ≤ length items.now }
-    ensures place { inserted_by T.name_of item.now items.now ≡ take result items.now ++ item.now ∷ drop result
-        items.now }
+/// Puts items in the order of their names. Those of one name keep their order.
+pub(crate) fn sort_by_name<T: HasName + Drop>(items: &mut Vec<T>) -> Result<(), AllocError>
+    ensures { OnOk result (items.new.items ≡ sorted_by T.name_of items.old.items) }
 {
-    for (place, other) in items.iter().enumerate() {
-        if item.name() <= other.name() {
-            return place;
-        }
+    items.sort_by(|first, second| first.name().cmp(second.name()))
+}
+
+/// The items in the order of their names, in one pass where they stand in it, as the members of a value that
+/// was read do.
+pub(crate) fn in_order<T: HasName>(alloc: Global, items: &[T]) -> Result<Vec<&T>, AllocError>
+    ensures { IfOk result (λ ordered. map (λ item. item.now) ordered.items ≡ sorted_by T.name_of items.now) }
+{
+    let mut ordered = Vec::with_capacity(alloc, items.len())?;
+    for item in items {
+        ordered.push(item)?;
     }
-    items.len()
+    sort_by_name(&mut ordered)?;
+    Ok(ordered)
+}
+
+/// The first item of a name, by halves among items in the order of their names.
+pub(crate) fn first_named<'a, T: HasName>(ordered: &[&'a T], name: &Text) -> Option<&'a T>
+    requires { IsSortedByKey T.name_of (slice_cmp nat_cmp) (map (λ item. item.now) ordered.now) }
+    ensures { option_map (λ item. item.now) result
+        ≡ first_by T.name_of (map (λ item. item.now) ordered.now) name.now }
+{
+    let place = ordered.partition_point(|item| item.name() < name);
+    let Some(item) = ordered.get(place) else {
+        return None;
+    };
+    if item.name().equals(name) {
+        Some(*item)
+    } else {
+        None
+    }
 }

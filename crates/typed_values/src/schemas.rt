@@ -8,7 +8,7 @@ ghost use Rattle.typed_values.specs.Schemas.{schema_value, schema_sketch, schema
 ghost use Rattle.typed_values.specs.Schemas.{definition_value, in_header};
 
 use crate::desc::{Desc, Field, Presence};
-use crate::order::insert_by_name;
+use crate::order::sort_by_name;
 use crate::schema_names::enumeration_parts;
 use crate::schema_parts::{no_parts, object_of, of_single, with_description, with_null};
 use crate::schema_rows::{
@@ -126,8 +126,9 @@ fn properties_of(alloc: Global, fields: &[Field]) -> Result<List<Property>, Allo
     let mut properties = Vec::new(alloc);
     for field in fields {
         let parts = parts_of(alloc, &field.desc)?;
-        insert_by_name(&mut properties, property_of(alloc, field, parts)?)?;
+        properties.push(property_of(alloc, field, parts)?)?;
     }
+    sort_by_name(&mut properties)?;
     Ok(List::from_vec(properties))
 }
 
@@ -150,8 +151,9 @@ fn required_names(alloc: Global, fields: &[Field]) -> Result<List<Text>, AllocEr
     let mut names = Vec::new(alloc);
     for field in fields {
         if field.presence == Presence::Required {
-            insert_by_name(&mut names, field.name.copy(alloc)?)?;
+            names.push(field.name.copy(alloc)?)?;
         }
     }
+    sort_by_name(&mut names)?;
     Ok(List::from_vec(names))
 }

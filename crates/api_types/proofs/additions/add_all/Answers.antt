@@ -1,6 +1,7 @@
-use Rattle.std.proofs.Common.{subst}
+use Rattle.std.proofs.Common.{subst, take}
 use Rattle.std.proofs.lemmas.Result.{err_from_is_err_and}
 use Rattle.typed_values.specs.Adding.{IsRefused}
+use Rattle.api_types.specs.Types.{HoldsAll}
 use Rattle.api_types.proofs.AddedInOrder.{added_next, held_next, refused_at}
 use Rattle.api_types.proofs.additions.add_all.Goals as goal
 
@@ -13,7 +14,7 @@ returns-in_err-add_copy-clause-refused c =
     let error = c.in_err-add_copy.field-0.0 in
     let p = err_from_is_err_and c.from_residual-in_err-add_copy.result c.from_residual-in_err-add_copy.ensures.1 in
     rw (p.1, p.2)
-    (refused_at table ds l.definition-index e error c.loop-definition-test.true c.definition-item.is (subst (λ es. IsRefused es e error) l.invariant.is c.in_err-add_copy.ensures.refused))
+    (refused_at table ds l.definition-index e error c.loop-definition-test.true c.definition-item.is (subst (λ es. HoldsAll es (take l.definition-index ds)) l.invariant.is l.invariant.held) (subst (λ es. IsRefused es e error) l.invariant.is c.in_err-add_copy.ensures.refused))
 
 pub loop-definition-preserved : goal.loop-definition-preserved
 loop-definition-preserved c =

@@ -1,12 +1,11 @@
-use Rattle.std.proofs.Common.{ℕ, suc, true, ◌≡◌, ◌<◌, ◌+◌, List, map, refl, sym, ◌∙◌, ap, arith, length, drop, get_or, Bor}
-use Rattle.std.proofs.lemmas.List.{length-map, get_or-map}
+use Rattle.std.proofs.Common.{ℕ, suc, true, ◌≡◌, ◌+◌, List, map, refl, sym, ◌∙◌, ap, arith, length, drop, Bor}
+use Rattle.std.proofs.lemmas.List.{length-map}
 use Rattle.std.proofs.lemmas.Result.{err_from_is_err_and}
 use Rattle.std.specs.declared.result.Result.{Result}
-use denote.Param.Weighed.{most, at_most}
+use denote.Param.Weighed.{most}
 use Rattle.schema_values.specs.declared.json_value.Json.{Json, out-Json, size-Json}
 use Rattle.schema_values.specs.declared.json_value.Json.TheVariants as json
 use Rattle.schema_values.specs.declared.json_value.Member.{Member, size-Member}
-use Rattle.schema_values.proofs.DistinctLemmas.{sorted_from_adjacent}
 use Rattle.typed_values.specs.declared.desc.Field.{Field}
 use Rattle.typed_values.specs.declared.fault.Place.TheVariants.{Item}
 use Rattle.typed_values.specs.declared.tree.Pair.{Pair}
@@ -21,16 +20,11 @@ use Rattle.typed_values.proofs.Inside.{part_of_option, part_of_list, part_of_map
 use Rattle.typed_values.proofs.Loops.{after, all_step, all_err, all_end, items_within}
 use Rattle.typed_values.proofs.JsonSizes.{size_list, item_smaller, member_greater, entry_at_most, value_smaller, members-lt-alone}
 use Rattle.typed_values.proofs.Measure.{option-lt, ref-lt, choice-lt-at, at-lt-choice, alone-lt-at, at-lt-alone, alone-le-alone}
-use Rattle.typed_values.proofs.Ordered.{sorted_stays}
+use Rattle.typed_values.proofs.Places.{taken_behind}
 use Rattle.typed_values.proofs.scope.Scope.+decode.Goals as goal
 
 abbrev lent : List (Bor Member) → List Member
 lent refs = map (λ member. member.now) refs
-
-taken : (refs : List (Bor Member)) (ms : List Member) → lent refs ≡ ms → (i : ℕ) (r : Bor Member) → i < length refs → r ≡ get_or refs i r → (i < length ms) × (r.now ≡ get_or ms i r.now)
-taken refs ms e i r h is =
-    let n : length ms ≡ length refs = ap length (sym e) ∙ length-map refs (λ member. member.now) in
-    (omega (arith, n), ap (λ (member : Bor Member). member.now) is ∙ sym (get_or-map (λ member. member.now) refs i r r.now h) ∙ ap (λ (some : List Member). get_or some i r.now) e)
 
 pub decode_at-decode_option-requires : goal.decode_at-decode_option-requires
 decode_at-decode_option-requires t c =
@@ -135,9 +129,6 @@ decode_map-decode_entries-requires t c =
 pub decode_map-returns-in-Object : goal.decode_map-returns-in-Object
 decode_map-returns-in-Object t c = rw (ap out-Json c.in-Object.is ∙ json.outs-Object c.in-Object.members, ← c.as_slice.ensures) c.decode_entries.ensures
 
-pub decode_entries-decode_ascending-requires : goal.decode_entries-decode_ascending-requires
-decode_entries-decode_ascending-requires t c = (omega (arith, c.decreases), (c.requires, c.names_ascend.ensures.0 c.if-names_ascend.true))
-
 pub decode_struct-decode_members-requires : goal.decode_struct-decode_members-requires
 decode_struct-decode_members-requires t c =
     let less = members-lt-alone c.args.self.now.table.now c.args.self.now.whole.now c.args.json.now c.in-Object.members c.in-Object.is in
@@ -148,61 +139,34 @@ decode_pair-decode_at-requires t c =
     let less = at-lt-alone c.args.self.now.table.now c.args.self.now.whole.now (size-Json c.args.member.now.value) (size-Member c.args.member.now) c.args.value.now (member_greater c.args.member.now) in
     (omega (arith, c.decreases, less), c.requires)
 
-pub decode_ascending-decode_pair-requires : goal.decode_ascending-decode_pair-requires
-decode_ascending-decode_pair-requires t c =
-    let ms = c.args.members.now in
-    let deep = at_most size-Member ms c.loop-member.member-index c.member-item.result (omega arith) in
-    let less = alone-le-alone c.args.self.now.table.now c.args.self.now.whole.now (size-Member c.member-item.result) (most size-Member ms) (rw c.member-item.is deep) in
-    (omega (arith, c.decreases, less), c.requires.part)
-
-pub decode_ascending-returns-in_err-decode_pair : goal.decode_ascending-returns-in_err-decode_pair
-decode_ascending-returns-in_err-decode_pair t c =
-    let ms = c.args.members.now in
-    let f : ℕ → Member → Result Pair Trouble = λ i m. told_entry c.args.self.now.table.now c.args.self.now.whole.now c.args.value.now m in
-    let p = err_from_is_err_and c.from_residual.result c.from_residual.ensures.1 in
-    rw (p.1, p.2, sorted_stays member_name ms (sorted_from_adjacent ms c.requires.ascend)) (all_err f (all_told f 0 ms) ms c.loop-member.member-index c.loop-member.pairs c.loop-member.invariant (as_tree Entries) (λ k. refl) c.member-item.result c.in_err-decode_pair.field-0.0 (omega arith) c.member-item.is c.in_err-decode_pair.ensures)
-
-pub decode_ascending-loop-member-preserved : goal.decode_ascending-loop-member-preserved
-decode_ascending-loop-member-preserved t c =
-    let ms = c.args.members.now in
-    let f : ℕ → Member → Result Pair Trouble = λ i m. told_entry c.args.self.now.table.now c.args.self.now.whole.now c.args.value.now m in
-    all_step f (all_told f 0 ms) ms c.loop-member.member-index c.loop-member.pairs c.loop-member.invariant c.member-item.result _ (omega arith) c.member-item.is c.in_ok-decode_pair.ensures
-    ∙ ap (λ (ps : List Pair). after ps (all_told f (c.loop-member.member-index + 1) (drop (c.loop-member.member-index + 1) ms))) (sym c.in_ok-push.ensures.ok)
-
-pub decode_ascending-returns : goal.decode_ascending-returns
-decode_ascending-returns t c =
-    let ms = c.args.members.now in
-    let f : ℕ → Member → Result Pair Trouble = λ i m. told_entry c.args.self.now.table.now c.args.self.now.whole.now c.args.value.now m in
-    rw (sorted_stays member_name ms (sorted_from_adjacent ms c.requires.ascend)) (ap (as_tree Entries) (all_end f (all_told f 0 ms) ms c.loop-member.member-index c.loop-member.pairs c.loop-member.invariant (omega arith)))
-
-pub decode_sorted-decode_pair-requires : goal.decode_sorted-decode_pair-requires
-decode_sorted-decode_pair-requires t c =
+pub decode_entries-decode_pair-requires : goal.decode_entries-decode_pair-requires
+decode_entries-decode_pair-requires t c =
     let ms = c.args.members.now in
     let same = ap lent c.deref-member-items.ensures.value ∙ c.in_ok-in_order.ensures in
-    let at = taken c.deref-member-items.result.now (sorted_by member_name ms) same c.loop-member.member-index c.member-item.result (omega arith) c.member-item.is in
+    let at = taken_behind (λ member. member.now) c.deref-member-items.result.now (sorted_by member_name ms) same c.loop-member.member-index c.member-item.result (omega arith) c.member-item.is in
     let less = alone-le-alone c.args.self.now.table.now c.args.self.now.whole.now (size-Member c.member-item.result.now) (most size-Member ms) (entry_at_most ms c.loop-member.member-index c.member-item.result.now at.0 at.1) in
     (omega (arith, c.decreases, less), c.requires)
 
-pub decode_sorted-returns-in_err-decode_pair : goal.decode_sorted-returns-in_err-decode_pair
-decode_sorted-returns-in_err-decode_pair t c =
+pub decode_entries-returns-in_err-decode_pair : goal.decode_entries-returns-in_err-decode_pair
+decode_entries-returns-in_err-decode_pair t c =
     let ms = sorted_by member_name c.args.members.now in
     let f : ℕ → Member → Result Pair Trouble = λ i m. told_entry c.args.self.now.table.now c.args.self.now.whole.now c.args.value.now m in
     let same = ap lent c.deref-member-items.ensures.value ∙ c.in_ok-in_order.ensures in
-    let at = taken c.deref-member-items.result.now ms same c.loop-member.member-index c.member-item.result (omega arith) c.member-item.is in
+    let at = taken_behind (λ member. member.now) c.deref-member-items.result.now ms same c.loop-member.member-index c.member-item.result (omega arith) c.member-item.is in
     let p = err_from_is_err_and c.from_residual-in_err-decode_pair.result c.from_residual-in_err-decode_pair.ensures.1 in
     rw (p.1, p.2) (all_err f (all_told f 0 ms) ms c.loop-member.member-index c.loop-member.pairs c.loop-member.invariant (as_tree Entries) (λ k. refl) c.member-item.result.now c.in_err-decode_pair.field-0.0 at.0 at.1 c.in_err-decode_pair.ensures)
 
-pub decode_sorted-loop-member-preserved : goal.decode_sorted-loop-member-preserved
-decode_sorted-loop-member-preserved t c =
+pub decode_entries-loop-member-preserved : goal.decode_entries-loop-member-preserved
+decode_entries-loop-member-preserved t c =
     let ms = sorted_by member_name c.args.members.now in
     let f : ℕ → Member → Result Pair Trouble = λ i m. told_entry c.args.self.now.table.now c.args.self.now.whole.now c.args.value.now m in
     let same = ap lent c.deref-member-items.ensures.value ∙ c.in_ok-in_order.ensures in
-    let at = taken c.deref-member-items.result.now ms same c.loop-member.member-index c.member-item.result (omega arith) c.member-item.is in
+    let at = taken_behind (λ member. member.now) c.deref-member-items.result.now ms same c.loop-member.member-index c.member-item.result (omega arith) c.member-item.is in
     all_step f (all_told f 0 ms) ms c.loop-member.member-index c.loop-member.pairs c.loop-member.invariant c.member-item.result.now _ at.0 at.1 c.in_ok-decode_pair.ensures
     ∙ ap (λ (ps : List Pair). after ps (all_told f (c.loop-member.member-index + 1) (drop (c.loop-member.member-index + 1) ms))) (sym c.in_ok-push.ensures.ok)
 
-pub decode_sorted-returns : goal.decode_sorted-returns
-decode_sorted-returns t c =
+pub decode_entries-returns : goal.decode_entries-returns
+decode_entries-returns t c =
     let ms = sorted_by member_name c.args.members.now in
     let f : ℕ → Member → Result Pair Trouble = λ i m. told_entry c.args.self.now.table.now c.args.self.now.whole.now c.args.value.now m in
     let same = ap lent c.deref-member-items.ensures.value ∙ c.in_ok-in_order.ensures in

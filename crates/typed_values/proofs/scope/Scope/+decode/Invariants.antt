@@ -28,13 +28,7 @@ abbrev pub decreases-decode_map : goal.decreases-decode_map
 decreases-decode_map l = suc (size_alone l.self.now.table.now l.self.now.whole.now (size-Json l.json.now))
 
 abbrev pub decreases-decode_entries : goal.decreases-decode_entries
-decreases-decode_entries l = suc (suc (size_alone l.self.now.table.now l.self.now.whole.now (most size-Member l.members.now)))
-
-abbrev pub decreases-decode_ascending : goal.decreases-decode_ascending
-decreases-decode_ascending l = suc (size_alone l.self.now.table.now l.self.now.whole.now (most size-Member l.members.now))
-
-abbrev pub decreases-decode_sorted : goal.decreases-decode_sorted
-decreases-decode_sorted l = suc (size_alone l.self.now.table.now l.self.now.whole.now (most size-Member l.members.now))
+decreases-decode_entries l = suc (size_alone l.self.now.table.now l.self.now.whole.now (most size-Member l.members.now))
 
 abbrev pub decreases-decode_pair : goal.decreases-decode_pair
 decreases-decode_pair l = size_alone l.self.now.table.now l.self.now.whole.now (size-Member l.member.now)
@@ -61,13 +55,8 @@ invariant-decode_items-loop-i l =
     all_told (told_item l.self.table.now l.self.whole.now l.item) 0 l.items
     ≡ after l.trees (all_told (told_item l.self.table.now l.self.whole.now l.item) l.i (drop l.i l.items))
 
-abbrev pub invariant-decode_ascending-loop-member : goal.invariant-decode_ascending-loop-member
-invariant-decode_ascending-loop-member l =
-    let told = told_entry l.self.table.now l.self.whole.now l.value in
-    all_told (λ i m. told m) 0 l.members ≡ after l.pairs (all_told (λ i m. told m) l.member-index (drop l.member-index l.members))
-
-abbrev pub invariant-decode_sorted-loop-member : goal.invariant-decode_sorted-loop-member
-invariant-decode_sorted-loop-member l =
+abbrev pub invariant-decode_entries-loop-member : goal.invariant-decode_entries-loop-member
+invariant-decode_entries-loop-member l =
     let told = told_entry l.self.table.now l.self.whole.now l.value in
     all_told (λ i m. told m) 0 (sorted_by member_name l.members) ≡ after l.pairs (all_told (λ i m. told m) l.member-index (drop l.member-index (sorted_by member_name l.members)))
 
