@@ -4,7 +4,6 @@ use Rattle.std.specs.List.{AllByRecursion}
 use Rattle.typed_values.specs.declared.desc.Desc.{Desc, out-Desc}
 use Rattle.typed_values.specs.declared.desc.Desc.TheOpen.{Desc-F}
 use Rattle.typed_values.specs.declared.desc.Desc.TheVariants as descs
-use Rattle.typed_values.specs.declared.desc.Field.{Field}
 use Rattle.typed_values.specs.declared.table.Definition.{Definition}
 use Rattle.typed_values.specs.declared.tree.Pair.{Pair}
 use Rattle.typed_values.specs.declared.tree.Tree.{Tree, out-Tree}
@@ -14,6 +13,7 @@ use Rattle.typed_values.specs.declared.tree.Tree.TheViews.{roll-out-Tree}
 use Rattle.typed_values.specs.Fits.{option_fits, items_fit, are_ascending, key_of, entries_fit, fits_under}
 use Rattle.typed_values.specs.Parts.{StandsIn, the_whole, in_option, in_list, in_map, of_whole}
 use Rattle.typed_values.specs.Reached.{Mentions}
+use Rattle.typed_values.specs.Levels.{DescLevel}
 use Rattle.typed_values.proofs.FitRows.{fits_option, fits_list, fits_map}
 use Rattle.typed_values.proofs.Within.{SomeChild, parts_at}
 use Rattle.api_types.specs.Types.{IsTableOf, FitsEach, FitsOne, ReachesExactly}
@@ -30,10 +30,10 @@ module _ (ds : List Definition) (whole inner : Desc) (stands : StandsIn whole in
   inner_one = part_one ds ds whole inner (λ e c. c) (λ table is. of_whole stands)
 
 -- a descriptor reaches what the only one that it is made of does
-inner_reaches : (ds : List Definition) (whole inner : Desc) (z : Desc-F Desc Field) → out-Desc whole ≡ z → ((name : List ℕ) → z ≡ Desc-F.Ref name → ⊥)
+inner_reaches : (ds : List Definition) (whole inner : Desc) (z : DescLevel) → out-Desc whole ≡ z → ((name : List ℕ) → z ≡ Desc-F.Ref name → ⊥)
     → ((name : List ℕ) → SomeChild (λ d. Mentions d name) z ↔ Mentions inner name) → ReachesExactly ds inner → ReachesExactly ds whole
 inner_reaches ds whole inner z e other same reaches table held name =
-    let at = λ (n : List ℕ). parts_at (λ d. out-Desc d ≡ Desc-F.Ref n) whole z e (λ q. other n (subst (λ (y : Desc-F Desc Field). y ≡ Desc-F.Ref n) e q)) in (
+    let at = λ (n : List ℕ). parts_at (λ d. out-Desc d ≡ Desc-F.Ref n) whole z e (λ q. other n (subst (λ (y : DescLevel). y ≡ Desc-F.Ref n) e q)) in (
       λ r. (reaches table held name).0 (reached_by (λ n m. (same n).0 ((at n).0 m)) name r),
       λ c. reached_by (λ n m. (at n).1 ((same n).1 m)) name ((reaches table held name).1 c),
     )

@@ -2,7 +2,7 @@
 use Rattle.std.specs.Prelude.{◌≡◌, ⊤, List, []}
 use Rattle.std.specs.Str.{chars}
 use Rattle.typed_values.specs.declared.check.TableError.{TableError}
-use Rattle.typed_values.specs.declared.check.TableError.TheVariants.{DoubledName, BadName, Dangling, Unguarded, EmptyEnumeration, NullOfNull, BadRange, BadPresence}
+use Rattle.typed_values.specs.declared.check.TableError.TheVariants.{DoubledName, BadName, Dangling, Unguarded, EmptyEnumeration, NullOfNull, TagClash, BadRange, BadPresence}
 use Rattle.typed_values.specs.declared.desc.Desc.{Desc}
 use Rattle.typed_values.specs.declared.table.AddError.{AddError}
 use Rattle.typed_values.specs.declared.table.AddError.TheVariants as additions
@@ -24,6 +24,7 @@ flaw_of Dangling = flaws.Dangling
 flaw_of (Unguarded name) = flaws.Unguarded (chars name.now)
 flaw_of EmptyEnumeration = flaws.EmptyEnumeration
 flaw_of NullOfNull = flaws.NullOfNull
+flaw_of TagClash = flaws.TagClash
 flaw_of BadRange = flaws.BadRange
 flaw_of BadPresence = flaws.BadPresence
 

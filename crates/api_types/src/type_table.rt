@@ -30,6 +30,7 @@ pub enum Flaw {
     Unguarded(Text),
     EmptyEnumeration,
     NullOfNull,
+    TagClash,
     BadRange,
     BadPresence,
 }
@@ -71,6 +72,7 @@ impl Flaw {
             TableError::Unguarded(name) => Ok(Flaw::Unguarded(Text::from_str(alloc, name)?)),
             TableError::EmptyEnumeration => Ok(Flaw::EmptyEnumeration),
             TableError::NullOfNull => Ok(Flaw::NullOfNull),
+            TableError::TagClash => Ok(Flaw::TagClash),
             TableError::BadRange => Ok(Flaw::BadRange),
             TableError::BadPresence => Ok(Flaw::BadPresence),
         }

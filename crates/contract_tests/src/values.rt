@@ -6,6 +6,7 @@ mod form_schemas;
 mod forms;
 mod rows;
 mod shown;
+mod variants;
 
 use crate::values::definitions::{definitions, mutual, named};
 use crate::values::form_rows::{FAULT_ROWS, TREE_ROWS};
@@ -108,6 +109,13 @@ fn values_of_each_form_are_written_again(rt: HostRuntime) -> Result<(), Fail> {
         ),
         ("Mixed", "[7,null]", "[7,null]"),
         ("Mixed", "{}", "{}"),
+        ("Shape", r#""dot""#, r#""dot""#),
+        ("Shape", r#"{"box":{"w":3}}"#, r#"{"box":{"w":3,"h":null}}"#),
+        (
+            "Event",
+            r#"{"x":1,"kind":"move"}"#,
+            r#"{"kind":"move","x":1}"#,
+        ),
     ];
     let alloc = rt.alloc();
     let table = forms(alloc)?;

@@ -16,11 +16,7 @@ mod request;
 mod room;
 mod rows;
 mod schema_parts;
-#[cfg(test)]
-mod tests;
 mod written;
-#[cfg(test)]
-mod written_tests;
 
 pub use admits::json_admits;
 pub use document::{Components, Info, OpenApi};

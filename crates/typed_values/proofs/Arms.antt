@@ -1,6 +1,6 @@
 -- What each arm of the decoder needs: its row, and that the descriptors that it goes on to are parts.
-use Rattle.std.proofs.Common.{◌≡◌, ℕ, zero, suc, ℤ, List, Option, Some, None, Bool, refl, sym, ◌∙◌, ap, subst, MatchOption}
-use Rattle.std.specs.declared.result.Result.TheVariants.{Ok}
+use Rattle.std.proofs.Common.{◌≡◌, ℕ, zero, suc, ℤ, List, Option, Some, None, Bool, false, refl, sym, ◌∙◌, ap, subst, MatchOption}
+use Rattle.std.specs.declared.result.Result.TheVariants.{Ok, Err}
 use Rattle.schema_values.specs.declared.json_value.Json.{Json, out-Json}
 use Rattle.schema_values.specs.declared.json_value.Json.TheOpen.{Json-F}
 use Rattle.schema_values.specs.declared.json_value.Member.{Member}
@@ -10,15 +10,22 @@ use Rattle.typed_values.specs.declared.desc.Desc.TheVariants as desc
 use Rattle.typed_values.specs.declared.desc.Field.{Field}
 use Rattle.typed_values.specs.declared.desc.IntKind.{IntKind}
 use Rattle.typed_values.specs.declared.desc.Named.{Named}
-use Rattle.typed_values.specs.declared.fault.FaultKind.TheVariants.{WrongKind}
+use Rattle.typed_values.specs.declared.desc.TaggedVariant.{TaggedVariant}
+use Rattle.typed_values.specs.declared.desc.Variant.{Variant}
+use Rattle.typed_values.specs.declared.fault.FaultKind.TheVariants.{WrongKind, NotListed}
+use Rattle.typed_values.specs.declared.fault.Place.TheVariants.{Name}
+use Rattle.typed_values.specs.declared.fault.Stop.{Stop}
+use Rattle.typed_values.specs.declared.fault.Stop.TheVariants as stop
 use Rattle.typed_values.specs.declared.tree.Tree.{Any as Whole}
 use Rattle.typed_values.specs.declared.table.Definition.{Definition}
-use Rattle.typed_values.specs.Definitions.{definition}
-use Rattle.typed_values.specs.Denotes.{Told, told, refused, room, nought, truth, character, number, words, one_of_names, optional, just, first_told, at_definition}
+use Rattle.typed_values.specs.Answer.{Tells}
+use Rattle.typed_values.specs.Definitions.{definition, tagged_name, variant_name}
+use Rattle.typed_values.specs.Denotes.{Told, told, below, refused, where_found, named_from, bare, without_payload, with_payload, chosen, at_tag, room, nought, truth, character, number, words, one_of_names, optional, just, external, tagged, first_told, at_definition}
 use Rattle.typed_values.specs.Sound.{Rests, RestsBy}
 use Rattle.typed_values.specs.Parts.{IsPart, of_table, StandsIn, the_whole}
 use Rattle.typed_values.specs.Rows.{list_row, map_row, struct_row}
 use Rattle.typed_values.proofs.Found.{entry_found}
+use Rattle.typed_values.proofs.Listed.{found_named}
 use Rattle.typed_values.proofs.Rows.{row_at}
 
 pub not_null : (x : Json-F Json Member) (told : Told) → (x ≡ Json-F.Null → ⊥) → optional x told ≡ just told
@@ -66,6 +73,12 @@ module _ (table : List Definition) (whole : Desc) (j : Json) (d : Desc) (h : Res
   pub row_struct : (fs : List Field) (deny : Bool) → d ≡ desc.Struct fs deny → told table whole j d ≡ struct_row table whole fs deny (out-Json j)
   row_struct fs deny e = row_at table whole j d (out-Json j) (Desc-F.Struct fs deny) h refl (ap out-Desc e ∙ desc.outs-Struct fs deny)
 
+  pub row_external : (vs : List Variant) → d ≡ desc.External vs → told table whole j d ≡ external (told table whole) vs (out-Json j)
+  row_external vs e = row_at table whole j d (out-Json j) (Desc-F.External vs) h refl (ap out-Desc e ∙ desc.outs-External vs)
+
+  pub row_tagged : (tag : List ℕ) (vs : List TaggedVariant) → d ≡ desc.Tagged tag vs → told table whole j d ≡ tagged (λ json. json) (λ fs. struct_row table whole fs false (out-Json j)) tag vs (out-Json j)
+  row_tagged tag vs e = row_at table whole j d (out-Json j) (Desc-F.Tagged tag vs) h refl (ap out-Desc e ∙ desc.outs-Tagged tag vs)
+
   pub row_untagged : (ds : List Desc) → d ≡ desc.Untagged ds → told table whole j d ≡ first_told 0 (told table whole j) ds
   row_untagged ds e = row_at table whole j d (out-Json j) (Desc-F.Untagged ds) h refl (ap out-Desc e ∙ desc.outs-Untagged ds)
 
@@ -85,3 +98,44 @@ no_dangling table zero d name h e f = h
 no_dangling table (suc n) d name h e f =
     let a : RestsBy table (Rests table n) (Desc-F.Ref name) = subst (RestsBy table (Rests table n)) (ap out-Desc e ∙ desc.outs-Ref name) h in
     subst (λ o. MatchOption o ⊥ (Rests table n)) (sym f) a
+
+-- ---- variants
+
+module _ (k : ℕ) (v : Variant) where
+  pub bare_told : v.payload ≡ None → without_payload k v ≡ bare k v
+  bare_told e = rw e refl
+
+  pub not_bare : (d : Desc) → v.payload ≡ Some d → without_payload k v ≡ refused NotListed
+  not_bare d e = rw e refl
+
+  module _ (told : Desc → Told) where
+    pub payload_told : (d : Desc) → v.payload ≡ Some d → with_payload told k v ≡ chosen k (below (Name v.name) (told d))
+    payload_told d e = rw e refl
+
+    pub no_payload : v.payload ≡ None → with_payload told k v ≡ refused NotListed
+    no_payload e = rw e refl
+
+-- the payload of the variant of a name
+pub payload_at : (told : Desc → Told) (vs : List Variant) (name : List ℕ) (k : ℕ) (v : Variant) (d : Desc) → named_from variant_name 0 vs name ≡ Some (k, v) → v.payload ≡ Some d
+    → where_found (refused NotListed) (with_payload told) (named_from variant_name 0 vs name) ≡ chosen k (below (Name name) (told d))
+payload_at told vs name k v d found e =
+    ap (where_found (refused NotListed) (with_payload told)) found
+    ∙ payload_told k v told d e
+    ∙ ap (λ (n : List ℕ). chosen k (below (Name n) (told d))) (found_named variant_name vs name (k, v) found)
+
+-- a fault that is told of a payload is told of the variant
+pub chosen_err : (k : ℕ) (told : Told) (end : Stop) → Tells (Err end) told → Tells (Err end) (chosen k told)
+chosen_err k told (stop.Misfit m) bad = ap (chosen k) bad
+chosen_err k told stop.OutOfMemory bad = tt
+
+module _ (tag : List ℕ) (told : ℕ → TaggedVariant → Told) (vs : List TaggedVariant) (j : Json) where
+  pub at_tag_text : (name : List ℕ) → out-Json j ≡ Json-F.Text name → at_tag tag told vs j ≡ where_found (below (Name tag) (refused NotListed)) told (named_from tagged_name 0 vs name)
+  at_tag_text name e = rw e refl
+
+  pub at_tag_other : (x : Json-F Json Member) → out-Json j ≡ x → ((name : List ℕ) → x ≡ Json-F.Text name → ⊥) → at_tag tag told vs j ≡ below (Name tag) (refused WrongKind)
+  at_tag_other Json-F.Null e other = rw e refl
+  at_tag_other (Json-F.Bool b) e other = rw e refl
+  at_tag_other (Json-F.Int n) e other = rw e refl
+  at_tag_other (Json-F.Text name) e other = absurd (other name refl)
+  at_tag_other (Json-F.List js) e other = rw e refl
+  at_tag_other (Json-F.Object ms) e other = rw e refl

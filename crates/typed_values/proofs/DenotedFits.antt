@@ -1,7 +1,7 @@
 -- A tree that a sound JSON value denotes under a descriptor is a value of the descriptor.
-use Rattle.std.proofs.Common.{◌≡◌, ℕ, zero, suc, Bool, true, false, List, [], ◌∷◌, map, Option, Some, None, bytes_eq, cond, refl, sym, ◌∙◌, ap, subst, MatchOption, arith, inl, inr}
+use Rattle.std.proofs.Common.{◌≡◌, ℕ, zero, suc, Bool, true, false, List, [], ◌∷◌, map, Option, Some, None, option_map, bytes_eq, cond, refl, sym, ◌∙◌, ap, subst, MatchOption, arith, inl, inr}
 use Rattle.std.specs.List.{AllByRecursion}
-use Rattle.std.specs.Prelude.{Contains}
+use Rattle.std.specs.Prelude.{Contains, IfSome}
 use Rattle.schema_values.specs.declared.json_value.Json.{Json, out-Json}
 use Rattle.schema_values.specs.declared.json_value.Json.TheFolds.{ind-Json, map-Json}
 use Rattle.schema_values.specs.declared.json_value.Json.TheOpen.{Json-F, Member-F}
@@ -17,26 +17,29 @@ use Rattle.typed_values.specs.declared.desc.Desc.TheOpen.{Desc-F}
 use Rattle.typed_values.specs.declared.desc.Desc.TheVariants as desc
 use Rattle.typed_values.specs.declared.desc.Desc.TheViews.{roll-out-Desc, roll-Desc}
 use Rattle.typed_values.specs.declared.desc.Field.{Field}
+use Rattle.typed_values.specs.declared.desc.TaggedVariant.{TaggedVariant}
 use Rattle.typed_values.specs.declared.desc.Presence.{Presence}
 use Rattle.typed_values.specs.declared.desc.Presence.TheVariants.{Required, Nullable, Skipped}
+use Rattle.typed_values.specs.declared.fault.FaultKind.TheVariants.{WrongKind, NotListed}
 use Rattle.typed_values.specs.declared.fault.Place.TheVariants.{Name, Item}
 use Rattle.typed_values.specs.declared.table.Definition.{Definition}
 use Rattle.typed_values.specs.declared.tree.Tree.{Tree, Unit as Nought, None as Nothing, Fields as Parts, out-Tree}
 use Rattle.typed_values.specs.declared.tree.Tree.TheOpen.{Tree-F}
 use Rattle.typed_values.specs.declared.tree.Tree.TheVariants as tree
-use Rattle.typed_values.specs.Checks.{IsOption, HasBadPresence, TablePasses, DescPasses}
-use Rattle.typed_values.specs.Definitions.{definition}
-use Rattle.typed_values.specs.Denotes.{Told, below, just, as_tree, if_absent, if_present, by_presence, value_named, unless_denied, denied_name, at_definition, room, told, JsonDenotes}
-use Rattle.typed_values.specs.Fits.{nought_fits, option_fits, field_desc, parts_fit, if_there, fits_by, fits_under, Fits}
+use Rattle.typed_values.specs.Checks.{IsOption, IsFieldOf, of_struct, of_variant, HasBadPresence, TablePasses, DescPasses}
+use Rattle.typed_values.specs.Definitions.{definition, tagged_fields, variant_name}
+use Rattle.typed_values.specs.Denotes.{Told, below, just, as_tree, if_absent, if_present, by_presence, value_named, unless_denied, denied_name, at_definition, refused, where_found, named_from, with_payload, are_all_named, room, told, JsonDenotes}
+use Rattle.typed_values.specs.Fits.{nought_fits, option_fits, field_desc, parts_fit, if_there, struct_of, fits_by, fits_under, Fits}
 use Rattle.typed_values.specs.Parts.{the_whole, IsPart, of_whole, of_table}
-use Rattle.typed_values.specs.Rows.{told_item, value_denotes, told_field, told_fields, row, AreFieldsOf}
+use Rattle.typed_values.specs.Rows.{told_item, value_denotes, told_field, told_fields, told_struct, row, AreFieldsOf}
 use Rattle.typed_values.specs.Sound.{RestsBy, Rests}
+use Rattle.typed_values.specs.Levels.{DescLevel}
 use Rattle.typed_values.proofs.Arms.{definition_is_part}
-use Rattle.typed_values.proofs.DenotedRows.{Gives, shown, below_gives, undenied, trees_of, whole_gives, nought_gives, truth_gives, character_gives, number_gives, words_give, name_gives, just_gives, optional_gives, items_give, entries_give, fields_give, choice_gives}
+use Rattle.typed_values.proofs.DenotedRows.{Gives, shown, holds_gives, below_gives, undenied, trees_of, whole_gives, nought_gives, truth_gives, character_gives, number_gives, words_give, name_gives, just_gives, optional_gives, items_give, entries_give, fields_give, choice_gives, bare_gives, payload_gives, tagged_gives}
 use Rattle.typed_values.proofs.FitRows.{skipped_desc}
-use Rattle.typed_values.proofs.FitSteps.{fits_row, nought_row, skipped_row}
+use Rattle.typed_values.proofs.FitSteps.{fits_row, nought_row, skipped_row, struct_row}
 use Rattle.typed_values.proofs.Found.{contains_first, contains_later, contains_cases}
-use Rattle.typed_values.proofs.Inside.{part_of_option, part_of_list, part_of_map, parts_of_untagged, fields_of_struct}
+use Rattle.typed_values.proofs.Inside.{part_of_option, part_of_list, part_of_map, parts_of_untagged, fields_of_struct, payloads_of_external, variants_of_tagged}
 use Rattle.typed_values.proofs.Rows.{row_at}
 use Rattle.typed_values.proofs.Soundness.{each_of, passes_is_sound}
 
@@ -71,11 +74,11 @@ presences_right : (table : List Definition) (whole : Desc) → TablePasses table
 presences_right table whole passes right d (of_whole s) = (right d s).presences
 presences_right table whole passes right d (of_table e inside s) = (passes.each e inside d s).presences
 
-option_by : (d : Desc) (y : Desc-F Desc Field) → out-Desc d ≡ y → ((IsOption d → ⊥) → ⊥) → IsOption d
+option_by : (d : Desc) (y : DescLevel) → out-Desc d ≡ y → ((IsOption d → ⊥) → ⊥) → IsOption d
 option_by d (Desc-F.Option x) e h = (x, e)
 option_by d _ e h = absurd (h (λ o. cc (e, o.1)))
 
-rolled : (d : Desc) (y : Desc-F Desc Field) → out-Desc d ≡ y → d ≡ roll-Desc y
+rolled : (d : Desc) (y : DescLevel) → out-Desc d ≡ y → d ≡ roll-Desc y
 rolled d y e = sym (roll-out-Desc d) ∙ ap roll-Desc e
 
 required_desc : (f : Field) → f.presence ≡ Required → field_desc f ≡ f.desc
@@ -101,8 +104,8 @@ module _ (table : List Definition) (whole : Desc) (passes : TablePasses table) (
   rests : (d : Desc) → IsPart table whole d → Rests table (room table whole) d
   rests = passes_is_sound table whole passes right
 
-  fits_at : (t : Tree) (d : Desc) → IsPart table whole d → (y : Desc-F Desc Field) → out-Desc d ≡ y → fits_under table whole t d ≡ fits_by table (fits_under table whole) (fits_under table whole t) y (out-Tree t)
-  fits_at t d part y e = fits_row table whole t d (rests d part) ∙ ap (λ (z : Desc-F Desc Field). fits_by table (fits_under table whole) (fits_under table whole t) z (out-Tree t)) e
+  fits_at : (t : Tree) (d : Desc) → IsPart table whole d → (y : DescLevel) → out-Desc d ≡ y → fits_under table whole t d ≡ fits_by table (fits_under table whole) (fits_under table whole t) y (out-Tree t)
+  fits_at t d part y e = fits_row table whole t d (rests d part) ∙ ap (λ (z : DescLevel). fits_by table (fits_under table whole) (fits_under table whole t) z (out-Tree t)) e
 
   nothing_fits : (d : Desc) → IsPart table whole d → IsOption d → fits_under table whole Nothing d ≡ true
   nothing_fits d part (x, e) = fits_at Nothing d part (Desc-F.Option x) e ∙ ap (option_fits (λ t. fits_under table whole t x)) tree.outs-None
@@ -144,8 +147,15 @@ module _ (table : List Definition) (whole : Desc) (passes : TablePasses table) (
       (λ f c i. field_gives f (parts f c) (option f c) (value_named ms f.name) (λ j found. found_member AgreesEverywhere ms agrees f.name j found f.desc (parts f c))) all in
       shown (parts_fit (fits_under table whole) fs) t (Parts ts) (Tree-F.Fields ts) is (tree.outs-Fields ts) fit
 
-  nullable_option : (d : Desc) → IsPart table whole d → (fs : List Field) (deny : Bool) → out-Desc d ≡ Desc-F.Struct fs deny → (f : Field) → Contains fs f → f.presence ≡ Nullable → IsOption f.desc
-  nullable_option d part fs deny e f c q = option_by f.desc (out-Desc f.desc) refl (λ none. presences_right table whole passes right d part (fs, deny, f, e, c, inl (q, none)))
+  nullable_option : (d : Desc) → IsPart table whole d → (f : Field) → IsFieldOf d f → f.presence ≡ Nullable → IsOption f.desc
+  nullable_option d part f field q = option_by f.desc (out-Desc f.desc) refl (λ none. presences_right table whole passes right d part (f, field, inl (q, none)))
+
+  -- the struct of a tagged variant, whose descriptor is one of no table
+  variant_gives : (d : Desc) → IsPart table whole d → (tag : List ℕ) (vs : List TaggedVariant) → out-Desc d ≡ Desc-F.Tagged tag vs → (ms : List Member) → ((m : Member) → Contains ms m → AgreesEverywhere m.value)
+      → (v : TaggedVariant) → Contains vs v → Gives (told_struct table whole (tagged_fields v) false ms) (λ t. fits_under table whole t (struct_of v))
+  variant_gives d part tag vs e ms agrees v c t q =
+      struct_row table whole t (tagged_fields v) false
+      ∙ struct_gives (tagged_fields v) false ms (variants_of_tagged part tag vs (rolled d _ e ∙ desc.rolls-Tagged tag vs) v c) (λ f k. nullable_option d part f (of_variant tag vs v e c k)) agrees t q
 
   found_gives : (j : Json) (n : ℕ) → ((d : Desc) → Rests table n d → IsPart table whole d → Agrees j d) → (o : Option Desc) → ((d : Desc) → o ≡ Some d → IsPart table whole d) → MatchOption o ⊥ (Rests table n)
       → Gives (at_definition (told table whole j) o) (λ t. if_there (fits_under table whole t) o)
@@ -154,7 +164,7 @@ module _ (table : List Definition) (whole : Desc) (passes : TablePasses table) (
 
   -- one row for each descriptor
   row_gives : (j : Json) (x : Json-F Json Member) → IsSound j → AgreesInside x → (n : ℕ) → ((d : Desc) → Rests table n d → IsPart table whole d → Agrees j d) → (d : Desc) → IsPart table whole d
-      → (y : Desc-F Desc Field) → out-Desc d ≡ y → RestsBy table (Rests table n) y → Gives (row table whole j x y) (λ t. fits_by table (fits_under table whole) (fits_under table whole t) y (out-Tree t))
+      → (y : DescLevel) → out-Desc d ≡ y → RestsBy table (Rests table n) y → Gives (row table whole j x y) (λ t. fits_by table (fits_under table whole) (fits_under table whole t) y (out-Tree t))
   row_gives j x sound inside n next d part Desc-F.Any e h t q = whole_gives j sound t q
   row_gives j x sound inside n next d part Desc-F.Never e h t q = absurd (cc q)
   row_gives j x sound inside n next d part Desc-F.Null e h t q = nought_gives x t q
@@ -174,8 +184,19 @@ module _ (table : List Definition) (whole : Desc) (passes : TablePasses table) (
       (each_member (λ m. Agrees m.value i) ms (λ m c. inside.0 m c i (part_of_map part i (rolled d _ e ∙ desc.rolls-Map i)))) t q
   row_gives j _ sound inside n next d part (Desc-F.Map i) e h t q = absurd (cc q)
   row_gives j (Json-F.Object ms) sound inside n next d part (Desc-F.Struct fs deny) e h t q =
-      struct_gives fs deny ms (fields_of_struct part fs deny (rolled d _ e ∙ desc.rolls-Struct fs deny)) (nullable_option d part fs deny e) inside.0 t q
+      struct_gives fs deny ms (fields_of_struct part fs deny (rolled d _ e ∙ desc.rolls-Struct fs deny)) (λ f c. nullable_option d part f (of_struct fs deny e c)) inside.0 t q
   row_gives j _ sound inside n next d part (Desc-F.Struct fs deny) e h t q = absurd (cc q)
+  row_gives j (Json-F.Text s) sound inside n next d part (Desc-F.External vs) e h t q = bare_gives (fits_under table whole) vs nought_is_null s t q
+  row_gives j (Json-F.Object (m ∷ ms)) sound inside n next d part (Desc-F.External vs) e h t q =
+      let parts = payloads_of_external part vs (rolled d _ e ∙ desc.rolls-External vs) in
+      let found = where_found (refused NotListed) (with_payload (told table whole m.value)) (named_from variant_name 0 vs m.name) in
+      payload_gives (fits_under table whole) vs (told table whole m.value)
+      (λ v c i is. inside.0 m (contains_first m ms) i (subst (λ (o : Option Desc). IfSome o (IsPart table whole)) is (parts v c))) m.name t
+      (holds_gives (are_all_named m.name ms) WrongKind found t q).1
+  row_gives j _ sound inside n next d part (Desc-F.External vs) e h t q = absurd (cc q)
+  row_gives j (Json-F.Object ms) sound inside n next d part (Desc-F.Tagged tag vs) e h t q =
+      tagged_gives (fits_under table whole) tag vs (λ fs. told_struct table whole fs false ms) (variant_gives d part tag vs e ms inside.0) (option_map (λ k. k) (value_named ms tag)) t q
+  row_gives j _ sound inside n next d part (Desc-F.Tagged tag vs) e h t q = absurd (cc q)
   row_gives j x sound inside n next d part (Desc-F.Untagged ds) e h t q =
       choice_gives (fits_under table whole) (told table whole j) ds (λ i c. next i (each_of (Rests table n) ds i h c) (parts_of_untagged part ds (rolled d _ e ∙ desc.rolls-Untagged ds) i c)) t q
   row_gives j x sound inside n next d part (Desc-F.Ref name) e h t q =

@@ -1,20 +1,22 @@
 -- Whatever tree is told passes the test of its descriptor, row by row.
-use Rattle.std.proofs.Common.{◌≡◌, ℕ, suc, ◌+◌, ◌<◌, ◌==◌, ℤ, Bool, true, false, ◌&&◌, List, [], ◌∷◌, length, map, Option, Some, None, refl, sym, ◌∙◌, ap, ap₂, subst, arith}
+use Rattle.std.proofs.Common.{◌≡◌, ℕ, suc, ◌+◌, ◌==◌, ℤ, Bool, true, false, ◌&&◌, List, [], ◌∷◌, length, map, Option, Some, None, refl, sym, ◌∙◌, ap, ap₂, subst, arith}
 use Rattle.std.specs.List.{AllByRecursion}
-use Rattle.std.specs.Prelude.{Contains}
+use Rattle.std.specs.Prelude.{Contains, slice_get}
 use Rattle.std.specs.declared.result.Result.{Result}
 use Rattle.std.specs.declared.result.Result.TheVariants.{Ok, Err}
-use Rattle.schema_values.specs.declared.json_value.Json.{Json}
+use Rattle.schema_values.specs.declared.json_value.Json.{Json, out-Json}
 use Rattle.schema_values.specs.declared.json_value.Json.TheOpen.{Json-F}
 use Rattle.schema_values.specs.declared.json_value.Member.{Member}
 use Rattle.schema_values.specs.Sound.{IsSound, AreDistinct}
 use Rattle.schema_values.proofs.SoundTests.{sound-decides}
-use Rattle.typed_values.specs.declared.desc.Desc.{Desc}
+use Rattle.typed_values.specs.declared.desc.Desc.{Desc, Null as NullDesc}
 use Rattle.typed_values.specs.declared.desc.Field.{Field}
 use Rattle.typed_values.specs.declared.desc.IntKind.{IntKind}
 use Rattle.typed_values.specs.declared.desc.Named.{Named}
+use Rattle.typed_values.specs.declared.desc.TaggedVariant.{TaggedVariant}
+use Rattle.typed_values.specs.declared.desc.Variant.{Variant}
 use Rattle.typed_values.specs.declared.fault.FaultKind.{FaultKind}
-use Rattle.typed_values.specs.declared.fault.FaultKind.TheVariants.{OutOfRange, BadLength}
+use Rattle.typed_values.specs.declared.fault.FaultKind.TheVariants.{OutOfRange, BadLength, NotListed}
 use Rattle.typed_values.specs.declared.fault.Place.{Place}
 use Rattle.typed_values.specs.declared.fault.Place.TheVariants.{Name}
 use Rattle.typed_values.specs.declared.tree.Pair.{Pair}
@@ -22,14 +24,16 @@ use Rattle.typed_values.specs.declared.tree.Tree.{Tree, Unit as Nought, Bool as 
 use Rattle.typed_values.specs.declared.tree.Tree.TheOpen.{Tree-F}
 use Rattle.typed_values.specs.declared.tree.Tree.TheVariants as tree
 use Rattle.typed_values.specs.Bounds.{is_number_of, is_length_within}
-use Rattle.typed_values.specs.Denotes.{Told, below, just, pair, as_pair, and_then, all_told, as_tree, if_holds, nought, truth, character, number, words, place_from, listed, one_of_names, optional, items_told, member_name, entries_told, unless_denied, or_else, first_told}
+use Rattle.typed_values.specs.Definitions.{listed_name, tagged_fields, tagged_name, variant_name}
+use Rattle.typed_values.specs.Denotes.{Told, below, just, pair, as_pair, and_then, all_told, as_tree, if_holds, refused, nought, truth, character, number, words, named_from, where_found, bare, one_of_names, chosen, without_payload, with_payload, at_tag, by_tag, optional, items_told, member_name, entries_told, unless_denied, or_else, first_told}
 use Rattle.typed_values.specs.Faults.{Trouble}
-use Rattle.typed_values.specs.Fits.{whole_fits, nought_fits, truth_fits, character_fits, number_fits, words_fit, name_fits, option_fits, each_fits, items_fit, are_ascending, key_of, entries_fit, field_desc, fields_fit, alternative_at, if_there, choice_fits}
+use Rattle.typed_values.specs.Fits.{whole_fits, nought_fits, truth_fits, character_fits, number_fits, words_fit, name_fits, option_fits, each_fits, items_fit, are_ascending, key_of, entries_fit, field_desc, fields_fit, alternative_at, if_there, choice_fits, payload_or_null, payload_of, struct_of}
 use Rattle.typed_values.specs.Levels.{TreeOf}
 use Rattle.typed_values.specs.Order.{sorted_by}
-use Rattle.typed_values.proofs.FitRows.{place_row}
+use Rattle.typed_values.proofs.Arms.{bare_told, not_bare, payload_told, no_payload, at_tag_text, at_tag_other}
+use Rattle.typed_values.proofs.FitRows.{given_row, place_row}
 use Rattle.typed_values.proofs.Found.{contains_first, contains_later}
-use Rattle.typed_values.proofs.Listed.{place_below}
+use Rattle.typed_values.proofs.Listed.{place_below, found_there, found_inside}
 use Rattle.typed_values.proofs.Ordered.{sorted_ascends, ascending_told}
 use Rattle.typed_values.proofs.SortedLemmas.{all_sorted}
 
@@ -46,7 +50,7 @@ shown passes t s x e o h = ap passes (ap out-Tree (sym e) ∙ o) ∙ h
 
 -- ---- what stands inside a tree that is told
 
-holds_gives : (b : Bool) (kind : FaultKind) (o : Told) (t : Tree) → if_holds b kind o ≡ Ok t → (b ≡ true) × (o ≡ Ok t)
+pub holds_gives : (b : Bool) (kind : FaultKind) (o : Told) (t : Tree) → if_holds b kind o ≡ Ok t → (b ≡ true) × (o ≡ Ok t)
 holds_gives true kind o t e = (refl, e)
 holds_gives false kind o t e = absurd (cc e)
 
@@ -71,6 +75,10 @@ first_and_rest (Err k) r ts e = absurd (cc e)
 pair_of : (key : List ℕ) (o : Told) (p : Pair) → as_pair key (below (Name key) o) ≡ Ok p → (s : Tree) × (o ≡ Ok s) × (pair key s ≡ p)
 pair_of key (Ok s) p e = (s, refl, cc e)
 pair_of key (Err k) p e = absurd (cc e)
+
+-- no tree is told where a fault is
+refused_gives : (kind : FaultKind) (passes : Tree → Bool) → Gives (refused kind) passes
+refused_gives kind passes t e = absurd (cc e)
 
 -- ---- row by row
 
@@ -103,12 +111,16 @@ words_give min max (Json-F.Text s) t e =
     shown (words_fit min max) t (Words s) (Tree-F.Text s) (cc is) (tree.outs-Text s) within
 words_give min max _ t e = absurd (cc e)
 
-listed_gives : (is_nought : Tree → Bool) (ns : List Named) → is_nought Nought ≡ true → (o : Option ℕ) → ((k : ℕ) → o ≡ Some k → k < length ns) → Gives (listed o) (λ t. name_fits is_nought ns (out-Tree t))
-listed_gives is_nought ns passes None less t e = absurd (cc e)
-listed_gives is_nought ns passes (Some k) less t e = let is : t ≡ Choice k Nought = cc e in place_row is_nought ns t k Nought is (less k refl) ∙ passes
+-- what is told of a thing that is found passes
+found_gives : {X : Type 0} (unlisted : Told) (told : ℕ → X → Told) (passes : Tree → Bool) (o : Option (ℕ × X)) → Gives unlisted passes → ((found : ℕ × X) → o ≡ Some found → Gives (told found.0 found.1) passes)
+    → Gives (where_found unlisted told o) passes
+found_gives unlisted told passes None none some = none
+found_gives unlisted told passes (Some found) none some = some found refl
 
 pub name_gives : (is_nought : Tree → Bool) (ns : List Named) → is_nought Nought ≡ true → (x : Json-F Json Member) → Gives (one_of_names ns x) (λ t. name_fits is_nought ns (out-Tree t))
-name_gives is_nought ns passes (Json-F.Text s) t e = listed_gives is_nought ns passes (place_from 0 ns s) (place_below ns s) t e
+name_gives is_nought ns passes (Json-F.Text s) t e =
+    found_gives (refused NotListed) bare (λ t. name_fits is_nought ns (out-Tree t)) (named_from listed_name 0 ns s) (refused_gives NotListed _)
+    (λ found is u q. let same : u ≡ Choice found.0 Nought = cc q in place_row is_nought ns u found.0 Nought same (place_below listed_name ns s found is) ∙ passes) t e
 name_gives is_nought ns passes _ t e = absurd (cc e)
 
 pub just_gives : (passes : Tree → Bool) (o : Told) → Gives o passes → Gives (just o) (λ t. option_fits passes (out-Tree t))
@@ -205,3 +217,72 @@ choice_gives fits f ds gives t e =
     let is : Choice h.place h.inner ≡ t = ap (λ (k : ℕ). Choice k h.inner) (sym start) ∙ h.is in
     shown (choice_fits fits ds) t (Choice h.place h.inner) (Tree-F.Variant h.place h.inner) is (tree.outs-Variant h.place h.inner)
     (ap (if_there (fits h.inner)) h.there ∙ gives h.alternative h.inside h.inner h.denotes)
+
+-- the tree of an alternative at its place
+place_gives : {A : Type 0} (fits : Tree → Desc → Bool) (desc_of : A → Desc) (vs : List A) (t : Tree) (k : ℕ) (x : Tree) (a : A) → t ≡ Choice k x → slice_get vs k ≡ Some a → fits x (desc_of a) ≡ true
+    → choice_fits fits (map desc_of vs) (out-Tree t) ≡ true
+place_gives fits desc_of vs t k x a is there passes = given_row fits desc_of vs t k x (Some a) is there ∙ passes
+
+chosen_by : (i : ℕ) (o : Told) (t : Tree) → chosen i o ≡ Ok t → (s : Tree) × (o ≡ Ok s) × (Choice i s ≡ t)
+chosen_by i (Ok s) t e = (s, refl, cc e)
+chosen_by i (Err k) t e = absurd (cc e)
+
+module _ (fits : Tree → Desc → Bool) (vs : List Variant) where
+  abbrev TakenBy : Tree → Bool
+  TakenBy t = choice_fits fits (map payload_of vs) (out-Tree t)
+
+  bare_by : (k : ℕ) (v : Variant) → slice_get vs k ≡ Some v → fits Nought NullDesc ≡ true → (o : Option Desc) → v.payload ≡ o → Gives (without_payload k v) TakenBy
+  bare_by k v there passes None e t q =
+      let told : without_payload k v ≡ Ok (Choice k Nought) = bare_told k v e in
+      let is : t ≡ Choice k Nought = cc in
+      place_gives fits payload_of vs t k Nought v is there (ap (λ (o : Option Desc). fits Nought (payload_or_null o)) e ∙ passes)
+  bare_by k v there passes (Some d) e t q = refused_gives NotListed TakenBy t (sym (not_bare k v d e) ∙ q)
+
+  payload_by : (told : Desc → Told) (k : ℕ) (v : Variant) → slice_get vs k ≡ Some v → (o : Option Desc) → v.payload ≡ o → ((d : Desc) → v.payload ≡ Some d → Gives (told d) (λ s. fits s d)) → Gives (with_payload told k v) TakenBy
+  payload_by told k v there None e gives t q = refused_gives NotListed TakenBy t (sym (no_payload k v told e) ∙ q)
+  payload_by told k v there (Some d) e gives t q =
+      let (s, inner, is) = chosen_by k (below (Name v.name) (told d)) t (sym (payload_told k v told d e) ∙ q) in
+      place_gives fits payload_of vs t k s v (sym is) there (ap (λ (o : Option Desc). fits s (payload_or_null o)) e ∙ gives d e s (below_gives (Name v.name) (told d) s inner))
+
+  -- the name of a variant alone
+  pub bare_gives : fits Nought NullDesc ≡ true → (name : List ℕ) → Gives (where_found (refused NotListed) without_payload (named_from variant_name 0 vs name)) TakenBy
+  bare_gives passes name =
+      found_gives (refused NotListed) without_payload TakenBy (named_from variant_name 0 vs name) (refused_gives NotListed TakenBy)
+      (λ found is. bare_by found.0 found.1 (found_there variant_name vs name found is) passes found.1.payload refl)
+
+  -- a payload under the name of its variant
+  pub payload_gives : (told : Desc → Told) → ((v : Variant) → Contains vs v → (d : Desc) → v.payload ≡ Some d → Gives (told d) (λ s. fits s d)) → (name : List ℕ)
+      → Gives (where_found (refused NotListed) (with_payload told) (named_from variant_name 0 vs name)) TakenBy
+  payload_gives told gives name =
+      found_gives (refused NotListed) (with_payload told) TakenBy (named_from variant_name 0 vs name) (refused_gives NotListed TakenBy)
+      (λ found is. payload_by told found.0 found.1 (found_there variant_name vs name found is) found.1.payload refl (gives found.1 (found_inside variant_name vs name found is)))
+
+module _ (fits : Tree → Desc → Bool) (tag : List ℕ) (vs : List TaggedVariant) (struct : List Field → Told) (gives : (v : TaggedVariant) → Contains vs v → Gives (struct (tagged_fields v)) (λ s. fits s (struct_of v))) where
+  abbrev Chosen : Tree → Bool
+  Chosen t = choice_fits fits (map struct_of vs) (out-Tree t)
+
+  -- what is told at the place of a variant
+  abbrev at_variant : ℕ → TaggedVariant → Told
+  at_variant i v = chosen i (struct (tagged_fields v))
+
+  variant_by : (k : ℕ) (v : TaggedVariant) → slice_get vs k ≡ Some v → Contains vs v → Gives (at_variant k v) Chosen
+  variant_by k v there inside t q =
+      let (s, inner, is) = chosen_by k (struct (tagged_fields v)) t q in
+      place_gives fits struct_of vs t k s v (sym is) there (gives v inside s inner)
+
+  listed_gives : (name : List ℕ) → Gives (where_found (below (Name tag) (refused NotListed)) at_variant (named_from tagged_name 0 vs name)) Chosen
+  listed_gives name =
+      found_gives (below (Name tag) (refused NotListed)) at_variant Chosen (named_from tagged_name 0 vs name) (λ t e. absurd (cc e))
+      (λ found is. variant_by found.0 found.1 (found_there tagged_name vs name found is) (found_inside tagged_name vs name found is))
+
+  no_text_gives : (j : Json) (x : Json-F Json Member) → out-Json j ≡ x → ((name : List ℕ) → x ≡ Json-F.Text name → ⊥) → Gives (at_tag tag at_variant vs j) Chosen
+  no_text_gives j x e other t q = let told = at_tag_other tag at_variant vs j x e other in absurd (cc (told, q))
+
+  tag_by : (j : Json) (x : Json-F Json Member) → out-Json j ≡ x → Gives (at_tag tag at_variant vs j) Chosen
+  tag_by j (Json-F.Text name) e t q = listed_gives name t (sym (at_tag_text tag at_variant vs j name e) ∙ q)
+  tag_by j x e t q = no_text_gives j x e (λ name is. cc is) t q
+
+  -- the fields of the variant that a tag names
+  pub tagged_gives : (o : Option Json) → Gives (by_tag tag (at_tag tag at_variant vs) o) Chosen
+  tagged_gives None t e = absurd (cc e)
+  tagged_gives (Some j) t e = tag_by j (out-Json j) refl t e

@@ -2,19 +2,21 @@
 use Rattle.std.proofs.Common.{rules, ◌≡◌, ℕ, zero, suc, ◌+◌, Bool, List, [], ◌∷◌, map, Option, Some, None, refl, sym, ◌∙◌, ap, MatchOption}
 use Rattle.schema_values.specs.declared.json_value.Json.{Json, List as Items, Object}
 use Rattle.schema_values.specs.Member.{member}
-use Rattle.typed_values.specs.declared.desc.Desc.{Desc, Option as OptionOf, out-Desc}
+use Rattle.typed_values.specs.declared.desc.Desc.{Desc, Option as OptionOf, Struct as StructOf, out-Desc}
 use Rattle.typed_values.specs.declared.desc.Desc.TheOpen.{Desc-F}
-use Rattle.typed_values.specs.declared.desc.Desc.TheVariants.{outs-Option}
+use Rattle.typed_values.specs.declared.desc.Desc.TheVariants.{outs-Option, outs-Struct}
 use Rattle.typed_values.specs.declared.desc.Field.{Field}
 use Rattle.typed_values.specs.declared.desc.Named.{Named}
+use Rattle.typed_values.specs.declared.desc.TaggedVariant.{TaggedVariant}
+use Rattle.typed_values.specs.declared.desc.Variant.{Variant}
 use Rattle.typed_values.specs.declared.tree.Tree.{Tree, out-Tree}
 use Rattle.typed_values.specs.declared.tree.Tree.TheOpen.{Tree-F}
 use Rattle.typed_values.specs.declared.table.Definition.{Definition}
 use Rattle.typed_values.specs.Definitions.{definition}
 use Rattle.typed_values.specs.Denotes.{room, nodes, nodes_of_table}
-use Rattle.typed_values.specs.Encoding.{Writing, is_left_out, unless, members_written, written_if_there, scalar_written, whole_written, listed_written, option_written, items_written, pair_written, entries_written, parts_written, choice_written, written_by, is_none_written, written_at, is_none_level, writing_step, writing, written_under}
+use Rattle.typed_values.specs.Encoding.{Writing, is_left_out, unless, members_written, written_if_there, scalar_written, whole_written, listed_written, option_written, items_written, pair_written, entries_written, parts_written, choice_written, external_written, tagged_written, written_by, is_none_written, written_at, is_none_level, writing_step, writing, written_under}
 use Rattle.typed_values.specs.Fits.{field_desc}
-use Rattle.typed_values.specs.Levels.{TreeOf}
+use Rattle.typed_values.specs.Levels.{DescLevel, TreeOf}
 use Rattle.typed_values.specs.Sound.{RestsBy, Rests}
 use Rattle.typed_values.proofs.Rows.{two_maps}
 use Rattle.typed_values.proofs.TreeLevels.{pair_with, level_with, folded_level}
@@ -59,7 +61,13 @@ module _ {X Y : Type 0} (g : X → Y) where
   choice_written-map : (written : Y → Desc → Json) (ds : List Desc) (x : TreeOf X) → choice_written written ds (level_with g x) ≡ choice_written (λ x d. written (g x) d) ds x
   choice_written-map written ds x = search rules
 
-  written_by-map : (table : List Definition) (is_none : Y → Bool) (none : X → Bool) (written : Y → Desc → Json) (next : Desc → Json) → ((x : X) → is_none (g x) ≡ none x) → (y : Desc-F Desc Field) (x : TreeOf X) → written_by table is_none written next y (level_with g x) ≡ written_by table none (λ x d. written (g x) d) next y x
+  external_written-map : (written : Y → Desc → Json) (vs : List Variant) (x : TreeOf X) → external_written written vs (level_with g x) ≡ external_written (λ x d. written (g x) d) vs x
+  external_written-map written vs x = search rules
+
+  tagged_written-map : (written : Y → Desc → Json) (tag : List ℕ) (vs : List TaggedVariant) (x : TreeOf X) → tagged_written written tag vs (level_with g x) ≡ tagged_written (λ x d. written (g x) d) tag vs x
+  tagged_written-map written tag vs x = search rules
+
+  written_by-map : (table : List Definition) (is_none : Y → Bool) (none : X → Bool) (written : Y → Desc → Json) (next : Desc → Json) → ((x : X) → is_none (g x) ≡ none x) → (y : DescLevel) (x : TreeOf X) → written_by table is_none written next y (level_with g x) ≡ written_by table none (λ x d. written (g x) d) next y x
   written_by-map table is_none none written next same Desc-F.Any x = whole_written-map x
   written_by-map table is_none none written next same Desc-F.Never x = refl
   written_by-map table is_none none written next same Desc-F.Null x = refl
@@ -72,6 +80,8 @@ module _ {X Y : Type 0} (g : X → Y) where
   written_by-map table is_none none written next same (Desc-F.List d min max) x = items_written-map (λ y. written y d) x
   written_by-map table is_none none written next same (Desc-F.Map d) x = entries_written-map (λ y. written y d) x
   written_by-map table is_none none written next same (Desc-F.Struct fs deny) x = parts_written-map is_none none written same fs x
+  written_by-map table is_none none written next same (Desc-F.External vs) x = external_written-map written vs x
+  written_by-map table is_none none written next same (Desc-F.Tagged tag vs) x = tagged_written-map written tag vs x
   written_by-map table is_none none written next same (Desc-F.Untagged ds) x = choice_written-map written ds x
   written_by-map table is_none none written next same (Desc-F.Ref name) x = refl
 
@@ -80,7 +90,7 @@ written_if_there_same Next f g same None h = absurd h
 written_if_there_same Next f g same (Some d) h = same d h
 
 -- what follows a step matters only where that step is one
-written_by_same : (table : List Definition) (written : Writing → Desc → Json) (t : TreeOf Writing) (Next : Desc → Type 0) (f g : Desc → Json) → ((d : Desc) → Next d → f d ≡ g d) → (y : Desc-F Desc Field) → RestsBy table Next y → written_by table is_none_written written f y t ≡ written_by table is_none_written written g y t
+written_by_same : (table : List Definition) (written : Writing → Desc → Json) (t : TreeOf Writing) (Next : Desc → Type 0) (f g : Desc → Json) → ((d : Desc) → Next d → f d ≡ g d) → (y : DescLevel) → RestsBy table Next y → written_by table is_none_written written f y t ≡ written_by table is_none_written written g y t
 written_by_same table written t Next f g same Desc-F.Any h = refl
 written_by_same table written t Next f g same Desc-F.Never h = refl
 written_by_same table written t Next f g same Desc-F.Null h = refl
@@ -93,6 +103,8 @@ written_by_same table written t Next f g same (Desc-F.Option d) h = refl
 written_by_same table written t Next f g same (Desc-F.List d min max) h = refl
 written_by_same table written t Next f g same (Desc-F.Map d) h = refl
 written_by_same table written t Next f g same (Desc-F.Struct fs deny) h = refl
+written_by_same table written t Next f g same (Desc-F.External vs) h = refl
+written_by_same table written t Next f g same (Desc-F.Tagged tag vs) h = refl
 written_by_same table written t Next f g same (Desc-F.Untagged ds) h = refl
 written_by_same table written t Next f g same (Desc-F.Ref name) h = written_if_there_same Next f g same (definition table name) h
 
@@ -149,5 +161,13 @@ module _ (table : List Definition) (whole : Desc) (t : Tree) where
   unfolding written_at written_under room
   skipped_written d =
       written_level table whole t (OptionOf d)
-      ∙ ap (λ (y : Desc-F Desc Field). written_by table is_none_written (with_room (room table whole)) (written_at table (room table whole) (tree_written table whole t) (nodes_of_table table + nodes whole)) y (tree_written table whole t)) (outs-Option d)
+      ∙ ap (λ (y : DescLevel). written_by table is_none_written (with_room (room table whole)) (written_at table (room table whole) (tree_written table whole t) (nodes_of_table table + nodes whole)) y (tree_written table whole t)) (outs-Option d)
       ∙ option_written-map (writing table (room table whole)) (λ x. x.json (room table whole) d) (out-Tree t)
+
+  -- the tree of a tagged variant, whose struct is one of no table
+  pub struct_written : (fs : List Field) (deny : Bool) → written_under table whole t (StructOf fs deny) ≡ parts_written is_none_tree (written_under table whole) fs (out-Tree t)
+  unfolding written_at written_under room
+  struct_written fs deny =
+      written_level table whole t (StructOf fs deny)
+      ∙ ap (λ (y : DescLevel). written_by table is_none_written (with_room (room table whole)) (written_at table (room table whole) (tree_written table whole t) (nodes_of_table table + nodes whole)) y (tree_written table whole t)) (outs-Struct fs deny)
+      ∙ parts_written-map (writing table (room table whole)) is_none_written is_none_tree (with_room (room table whole)) (none_written table whole) fs (out-Tree t)

@@ -1,9 +1,9 @@
 -- On a sound table the steps are never spent: each row of what fits holds with no steps in it.
 use Rattle.std.proofs.Common.{rules, ◌≡◌, ℕ, zero, suc, ◌+◌, Bool, ◌&&◌, List, [], ◌∷◌, map, Option, Some, None, refl, sym, ◌∙◌, ap, ap₂, MatchOption}
 use Rattle.std.proofs.lemmas.List.{length-map}
-use Rattle.typed_values.specs.declared.desc.Desc.{Desc, Null as NullDesc, Option as OptionOf, out-Desc}
+use Rattle.typed_values.specs.declared.desc.Desc.{Desc, Null as NullDesc, Option as OptionOf, Struct as StructOf, out-Desc}
 use Rattle.typed_values.specs.declared.desc.Desc.TheOpen.{Desc-F}
-use Rattle.typed_values.specs.declared.desc.Desc.TheVariants.{outs-Null, outs-Option}
+use Rattle.typed_values.specs.declared.desc.Desc.TheVariants.{outs-Null, outs-Option, outs-Struct}
 use Rattle.typed_values.specs.declared.desc.Field.{Field}
 use Rattle.typed_values.specs.declared.desc.IntKind.{IntKind}
 use Rattle.typed_values.specs.declared.desc.Named.{Named}
@@ -13,8 +13,8 @@ use Rattle.typed_values.specs.declared.table.Definition.{Definition}
 use Rattle.typed_values.specs.Bounds.{is_length_within}
 use Rattle.typed_values.specs.Definitions.{definition}
 use Rattle.typed_values.specs.Denotes.{room, nodes, nodes_of_table}
-use Rattle.typed_values.specs.Fits.{Fitting, whole_fits, nought_fits, truth_fits, number_fits, words_fit, character_fits, name_fits, option_fits, each_fits, items_fit, are_ascending, key_of, entries_fit, field_desc, fields_fit, parts_fit, if_there, choice_fits, fits_by, fits_at, fits_within, fits_under}
-use Rattle.typed_values.specs.Levels.{TreeOf, PairOf}
+use Rattle.typed_values.specs.Fits.{Fitting, whole_fits, nought_fits, truth_fits, number_fits, words_fit, character_fits, name_fits, option_fits, each_fits, items_fit, are_ascending, key_of, entries_fit, field_desc, fields_fit, parts_fit, if_there, choice_fits, payload_of, struct_of, fits_by, fits_at, fits_within, fits_under}
+use Rattle.typed_values.specs.Levels.{DescLevel, TreeOf, PairOf}
 use Rattle.typed_values.specs.Sound.{RestsBy, Rests}
 use Rattle.typed_values.proofs.TreeLevels.{pair_with, level_with, folded_level}
 
@@ -78,7 +78,7 @@ module _ {X Y : Type 0} (g : X → Y) where
   choice_fits-map : (fits : Y → Desc → Bool) (ds : List Desc) (x : TreeOf X) → choice_fits fits ds (level_with g x) ≡ choice_fits (λ x d. fits (g x) d) ds x
   choice_fits-map fits ds x = search rules
 
-  fits_by-map : (table : List Definition) (fits : Y → Desc → Bool) (next : Desc → Bool) (y : Desc-F Desc Field) (x : TreeOf X) → fits_by table fits next y (level_with g x) ≡ fits_by table (λ x d. fits (g x) d) next y x
+  fits_by-map : (table : List Definition) (fits : Y → Desc → Bool) (next : Desc → Bool) (y : DescLevel) (x : TreeOf X) → fits_by table fits next y (level_with g x) ≡ fits_by table (λ x d. fits (g x) d) next y x
   fits_by-map table fits next Desc-F.Any x = whole_fits-map x
   fits_by-map table fits next Desc-F.Never x = refl
   fits_by-map table fits next Desc-F.Null x = nought_fits-map x
@@ -91,6 +91,8 @@ module _ {X Y : Type 0} (g : X → Y) where
   fits_by-map table fits next (Desc-F.List d min max) x = items_fit-map (λ y. fits y d) min max x
   fits_by-map table fits next (Desc-F.Map d) x = entries_fit-map (λ y. fits y d) x
   fits_by-map table fits next (Desc-F.Struct fs deny) x = parts_fit-map fits fs x
+  fits_by-map table fits next (Desc-F.External vs) x = choice_fits-map fits (map payload_of vs) x
+  fits_by-map table fits next (Desc-F.Tagged tag vs) x = choice_fits-map fits (map struct_of vs) x
   fits_by-map table fits next (Desc-F.Untagged ds) x = choice_fits-map fits ds x
   fits_by-map table fits next (Desc-F.Ref name) x = refl
 
@@ -99,7 +101,7 @@ if_there_same Next f g same None h = absurd h
 if_there_same Next f g same (Some d) h = same d h
 
 -- what follows a step matters only where that step is one
-fits_by_same : (table : List Definition) (fits : Fitting → Desc → Bool) (t : TreeOf Fitting) (Next : Desc → Type 0) (f g : Desc → Bool) → ((d : Desc) → Next d → f d ≡ g d) → (y : Desc-F Desc Field) → RestsBy table Next y → fits_by table fits f y t ≡ fits_by table fits g y t
+fits_by_same : (table : List Definition) (fits : Fitting → Desc → Bool) (t : TreeOf Fitting) (Next : Desc → Type 0) (f g : Desc → Bool) → ((d : Desc) → Next d → f d ≡ g d) → (y : DescLevel) → RestsBy table Next y → fits_by table fits f y t ≡ fits_by table fits g y t
 fits_by_same table fits t Next f g same Desc-F.Any h = refl
 fits_by_same table fits t Next f g same Desc-F.Never h = refl
 fits_by_same table fits t Next f g same Desc-F.Null h = refl
@@ -112,6 +114,8 @@ fits_by_same table fits t Next f g same (Desc-F.Option d) h = refl
 fits_by_same table fits t Next f g same (Desc-F.List d min max) h = refl
 fits_by_same table fits t Next f g same (Desc-F.Map d) h = refl
 fits_by_same table fits t Next f g same (Desc-F.Struct fs deny) h = refl
+fits_by_same table fits t Next f g same (Desc-F.External vs) h = refl
+fits_by_same table fits t Next f g same (Desc-F.Tagged tag vs) h = refl
 fits_by_same table fits t Next f g same (Desc-F.Untagged ds) h = refl
 fits_by_same table fits t Next f g same (Desc-F.Ref name) h = if_there_same Next f g same (definition table name) h
 
@@ -156,7 +160,7 @@ module _ (table : List Definition) (whole : Desc) (t : Tree) where
   unfolding fits_at fits_under room
   nought_row =
       fits_level NullDesc
-      ∙ ap (λ (y : Desc-F Desc Field). fits_by table (λ x e. x (room table whole) e) (fits_at table (room table whole) tree_level (nodes_of_table table + nodes whole)) y tree_level) outs-Null
+      ∙ ap (λ (y : DescLevel). fits_by table (λ x e. x (room table whole) e) (fits_at table (room table whole) tree_level (nodes_of_table table + nodes whole)) y tree_level) outs-Null
       ∙ nought_fits-map (fits_within table (room table whole)) (out-Tree t)
 
   -- the tree of a field that may be skipped, whose descriptor is an option of no table
@@ -164,5 +168,13 @@ module _ (table : List Definition) (whole : Desc) (t : Tree) where
   unfolding fits_at fits_under room
   skipped_row d =
       fits_level (OptionOf d)
-      ∙ ap (λ (y : Desc-F Desc Field). fits_by table (λ x e. x (room table whole) e) (fits_at table (room table whole) tree_level (nodes_of_table table + nodes whole)) y tree_level) (outs-Option d)
+      ∙ ap (λ (y : DescLevel). fits_by table (λ x e. x (room table whole) e) (fits_at table (room table whole) tree_level (nodes_of_table table + nodes whole)) y tree_level) (outs-Option d)
       ∙ option_fits-map (fits_within table (room table whole)) (λ x. x (room table whole) d) (out-Tree t)
+
+  -- the tree of a tagged variant, whose struct is one of no table
+  pub struct_row : (fs : List Field) (deny : Bool) → fits_under table whole t (StructOf fs deny) ≡ parts_fit (fits_under table whole) fs (out-Tree t)
+  unfolding fits_at fits_under room
+  struct_row fs deny =
+      fits_level (StructOf fs deny)
+      ∙ ap (λ (y : DescLevel). fits_by table (λ x e. x (room table whole) e) (fits_at table (room table whole) tree_level (nodes_of_table table + nodes whole)) y tree_level) (outs-Struct fs deny)
+      ∙ parts_fit-map (fits_within table (room table whole)) (λ x e. x (room table whole) e) fs (out-Tree t)

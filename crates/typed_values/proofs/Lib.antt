@@ -26,6 +26,7 @@ pub mod NullTaken
 pub mod TreeParts
 pub mod ToldTrees
 pub mod ScalarsBack
+pub mod VariantsBack
 pub mod Denoted
 pub mod WrittenMembers
 pub mod WrittenBack

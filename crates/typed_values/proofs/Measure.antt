@@ -9,12 +9,13 @@ use Rattle.typed_values.specs.declared.table.Definition.{Definition}
 use Rattle.typed_values.specs.Definitions.{definition}
 use Rattle.typed_values.specs.Denotes.{room}
 use Rattle.typed_values.specs.Sound.{EachRests, RestsBy, Rests}
+use Rattle.typed_values.specs.Levels.{DescLevel}
 
 abbrev pub steps_after : (Desc → ℕ) → Option Desc → ℕ
 steps_after next None = 0
 steps_after next (Some d) = suc (next d)
 
-abbrev pub steps_by : List Definition → (Desc → ℕ) → Desc-F Desc Field → ℕ
+abbrev pub steps_by : List Definition → (Desc → ℕ) → DescLevel → ℕ
 steps_by table next (Desc-F.Option d) = suc (next d)
 steps_by table next (Desc-F.Ref name) = steps_after next (definition table name)
 steps_by table next (Desc-F.Untagged ds) = suc (most next ds)
@@ -34,7 +35,7 @@ module _ (n : ℕ) (next : Desc → ℕ) (h : (d : Desc) → next d ≤ n) where
   most_at_most [] = omega arith
   most_at_most (d ∷ ds) = omega (arith, h d, most_at_most ds)
 
-  steps_by_at_most : (table : List Definition) (x : Desc-F Desc Field) → steps_by table next x ≤ suc n
+  steps_by_at_most : (table : List Definition) (x : DescLevel) → steps_by table next x ≤ suc n
   steps_by_at_most table Desc-F.Any = omega arith
   steps_by_at_most table Desc-F.Never = omega arith
   steps_by_at_most table Desc-F.Null = omega arith
@@ -47,6 +48,8 @@ module _ (n : ℕ) (next : Desc → ℕ) (h : (d : Desc) → next d ≤ n) where
   steps_by_at_most table (Desc-F.List d min max) = omega arith
   steps_by_at_most table (Desc-F.Map d) = omega arith
   steps_by_at_most table (Desc-F.Struct fs deny) = omega arith
+  steps_by_at_most table (Desc-F.External vs) = omega arith
+  steps_by_at_most table (Desc-F.Tagged tag vs) = omega arith
   steps_by_at_most table (Desc-F.Untagged ds) = omega (arith, most_at_most ds)
   steps_by_at_most table (Desc-F.Ref name) = steps_after_at_most (definition table name)
 
@@ -64,7 +67,7 @@ module _ (Next : Desc → Type 0) (f g : Desc → ℕ) (same : (d : Desc) → Ne
   most_same [] h = refl
   most_same (d ∷ ds) h = omega (arith, same d h.0, most_same ds h.1)
 
-  steps_by_same : (table : List Definition) (x : Desc-F Desc Field) → RestsBy table Next x → steps_by table f x ≡ steps_by table g x
+  steps_by_same : (table : List Definition) (x : DescLevel) → RestsBy table Next x → steps_by table f x ≡ steps_by table g x
   steps_by_same table Desc-F.Any h = refl
   steps_by_same table Desc-F.Never h = refl
   steps_by_same table Desc-F.Null h = refl
@@ -77,6 +80,8 @@ module _ (Next : Desc → Type 0) (f g : Desc → ℕ) (same : (d : Desc) → Ne
   steps_by_same table (Desc-F.List d min max) h = refl
   steps_by_same table (Desc-F.Map d) h = refl
   steps_by_same table (Desc-F.Struct fs deny) h = refl
+  steps_by_same table (Desc-F.External vs) h = refl
+  steps_by_same table (Desc-F.Tagged tag vs) h = refl
   steps_by_same table (Desc-F.Untagged ds) h = ap suc (most_same ds h)
   steps_by_same table (Desc-F.Ref name) h = steps_after_same (definition table name) h
 

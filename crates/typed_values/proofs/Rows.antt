@@ -1,26 +1,31 @@
 -- The rows with no steps.
 use Rattle.std.proofs.Common.{rules, ◌+◌, ◌≡◌, ℕ, ℤ, List, [], ◌∷◌, length, map, Option, Some, None, Bool, true, false, option_map, bytes_eq, refl, sym, ◌∙◌, ap, cond}
 use Rattle.std.proofs.lemmas.List.{length-map}
+use Rattle.std.proofs.lemmas.List.Folds.{list_all-map}
 use Rattle.std.specs.declared.result.Result.{Result}
 use Rattle.schema_values.specs.declared.json_value.Json.{Json, out-Json}
 use Rattle.schema_values.specs.declared.json_value.Json.TheOpen.{Json-F}
 use Rattle.schema_values.specs.declared.json_value.Member.{Member}
-use Rattle.schema_values.specs.Beside.{Beside, beside_with, member_with, level_with}
+use Rattle.schema_values.specs.Beside.{Beside, value_beside, beside_with, member_with, level_with}
 use Rattle.typed_values.specs.declared.desc.Desc.{Desc, out-Desc}
 use Rattle.typed_values.specs.declared.desc.Desc.TheOpen.{Desc-F}
 use Rattle.typed_values.specs.declared.desc.Field.{Field}
 use Rattle.typed_values.specs.declared.desc.IntKind.{IntKind}
 use Rattle.typed_values.specs.declared.desc.Named.{Named}
+use Rattle.typed_values.specs.declared.desc.TaggedVariant.{TaggedVariant}
+use Rattle.typed_values.specs.declared.desc.Variant.{Variant}
 use Rattle.typed_values.specs.declared.tree.Tree.{Tree, List as Items, Map as Entries, Fields as Parts}
-use Rattle.typed_values.specs.declared.fault.FaultKind.TheVariants.{BadLength}
+use Rattle.typed_values.specs.declared.fault.FaultKind.TheVariants.{BadLength, WrongKind, NotListed}
 use Rattle.typed_values.specs.declared.fault.Place.TheVariants.{Item, Name}
 use Rattle.typed_values.specs.declared.table.Definition.{Definition}
 use Rattle.typed_values.specs.Bounds.{is_length_within}
 use Rattle.typed_values.specs.Faults.{Trouble}
-use Rattle.typed_values.specs.Denotes.{Told, below, Meaning, NamedMeaning, Level, value_named, nought, truth, character, number, words, one_of_names, optional, items, entries, fields, all_told, field_told, by_presence, value_told, and_then, as_tree, as_pair, if_holds, unless_denied, denied_name, member_name, told_by, told_within, room, told}
+use Rattle.typed_values.specs.Definitions.{tagged_fields, variant_name}
+use Rattle.typed_values.specs.Denotes.{Told, below, Meaning, NamedMeaning, Level, value_named, nought, truth, character, number, words, one_of_names, optional, items, entries, fields, all_told, field_told, by_presence, value_told, and_then, as_tree, as_pair, if_holds, unless_denied, denied_name, member_name, refused, where_found, named_from, with_payload, external, at_tag, by_tag, chosen, tagged, told_by, told_within, room, told}
 use Rattle.typed_values.specs.Order.{sorted_by}
 use Rattle.typed_values.specs.Sound.{Rests}
 use Rattle.typed_values.specs.Rows.{told_item, told_entry, value_denotes, told_field, told_fields, list_row, map_row, struct_row, row}
+use Rattle.typed_values.specs.Levels.{DescLevel}
 use Rattle.typed_values.proofs.SortedLemmas.{map_sorted}
 use Rattle.typed_values.proofs.Steps.{told_row}
 
@@ -130,7 +135,36 @@ module _ (table : List Definition) (whole : Desc) where
       ap (λ (name : Option (List ℕ)). unless_denied name (as_tree Parts (all_told (λ i f. field_told (room table whole) (map member_of ms) f) 0 fs))) (same_denied deny fs ms)
       ∙ ap (λ (ts : Result (List Tree) Trouble). unless_denied (denied_name deny fs ms) (as_tree Parts ts)) (same_fields fs ms)
 
-  same_row : (j : Json) (x : Json-F Json Member) (y : Desc-F Desc Field) → told_by table (room table whole) j (level_of x) (told table whole j) y ≡ row table whole j x y
+  same_external : (vs : List Variant) (x : Json-F Json Member) → external (λ y d. y.made (room table whole) d) vs (level_of x) ≡ external (told table whole) vs x
+  unfolding told
+  same_external vs Json-F.Null = refl
+  same_external vs (Json-F.Bool b) = refl
+  same_external vs (Json-F.Int i) = refl
+  same_external vs (Json-F.Text s) = refl
+  same_external vs (Json-F.List js) = refl
+  same_external vs (Json-F.Object []) = refl
+  same_external vs (Json-F.Object (m ∷ ms)) =
+      ap (λ (b : Bool). if_holds b WrongKind (where_found (refused NotListed) (with_payload (told table whole m.value)) (named_from variant_name 0 vs m.name)))
+      (list_all-map (λ n. bytes_eq (member_name n) m.name) member_of ms)
+
+  same_tag : (o : Option Json) → option_map value_beside (option_map (beside_with meant) o) ≡ option_map (λ j. j) o
+  same_tag None = refl
+  same_tag (Some j) = refl
+
+  same_tagged : (tag : List ℕ) (vs : List TaggedVariant) (x : Json-F Json Member)
+      → tagged value_beside (λ fs. fields (room table whole) fs false (level_of x)) tag vs (level_of x) ≡ tagged (λ j. j) (λ fs. struct_row table whole fs false x) tag vs x
+  same_tagged tag vs Json-F.Null = refl
+  same_tagged tag vs (Json-F.Bool b) = refl
+  same_tagged tag vs (Json-F.Int i) = refl
+  same_tagged tag vs (Json-F.Text s) = refl
+  same_tagged tag vs (Json-F.List js) = refl
+  same_tagged tag vs (Json-F.Object ms) =
+      ap (λ (o : Option Json). by_tag tag (at_tag tag (λ i v. chosen i (fields (room table whole) (tagged_fields v) false (level_of (Json-F.Object ms)))) vs) o)
+      (ap (option_map value_beside) (same_found meant ms tag) ∙ same_tag (value_named ms tag))
+      ∙ ap (λ (struct : List Field → Told). by_tag tag (at_tag tag (λ i v. chosen i (struct (tagged_fields v))) vs) (option_map (λ j. j) (value_named ms tag)))
+      (λ i fs. same_struct fs false (Json-F.Object ms) i)
+
+  same_row : (j : Json) (x : Json-F Json Member) (y : DescLevel) → told_by table (room table whole) j (level_of x) (told table whole j) y ≡ row table whole j x y
   same_row j x Desc-F.Any = refl
   same_row j x Desc-F.Never = refl
   same_row j x Desc-F.Null = same_nought meant x
@@ -143,6 +177,8 @@ module _ (table : List Definition) (whole : Desc) where
   same_row j x (Desc-F.List d min max) = same_list d min max x
   same_row j x (Desc-F.Map d) = same_map d x
   same_row j x (Desc-F.Struct fs deny) = same_struct fs deny x
+  same_row j x (Desc-F.External vs) = same_external vs x
+  same_row j x (Desc-F.Tagged tag vs) = same_tagged tag vs x
   same_row j x (Desc-F.Untagged ds) = refl
   same_row j x (Desc-F.Ref name) = refl
 
@@ -150,5 +186,5 @@ module _ (table : List Definition) (whole : Desc) where
   told_is : (j : Json) (d : Desc) → Rests table (room table whole) d → told table whole j d ≡ row table whole j (out-Json j) (out-Desc d)
   told_is j d h = told_row table whole j d h ∙ same_row j (out-Json j) (out-Desc d)
 
-  pub row_at : (j : Json) (d : Desc) (x : Json-F Json Member) (y : Desc-F Desc Field) → Rests table (room table whole) d → out-Json j ≡ x → out-Desc d ≡ y → told table whole j d ≡ row table whole j x y
+  pub row_at : (j : Json) (d : Desc) (x : Json-F Json Member) (y : DescLevel) → Rests table (room table whole) d → out-Json j ≡ x → out-Desc d ≡ y → told table whole j d ≡ row table whole j x y
   row_at j d x y h e f = told_is j d h ∙ ap (λ (z : Json-F Json Member). row table whole j z (out-Desc d)) e ∙ ap (row table whole j x) f

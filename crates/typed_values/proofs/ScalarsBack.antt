@@ -3,7 +3,7 @@ use Rattle.std.proofs.Common.{◌≡◌, ◌≢◌, ℕ, zero, suc, ◌+◌, ◌
 use Rattle.std.proofs.lemmas.Bool.{and_parts}
 use Rattle.std.proofs.lemmas.Int.{ints}
 use Rattle.std.specs.List.{AllByRecursion}
-use Rattle.std.specs.Prelude.{nat_lt}
+use Rattle.std.specs.Prelude.{nat_lt, slice_get}
 use Rattle.schema_values.proofs.SoundTests.{sound-decides}
 use Rattle.schema_values.specs.declared.json_value.Json.{Json, Null, Text as WordsJson, out-Json}
 use Rattle.schema_values.specs.declared.json_value.Json.TheVariants as json
@@ -12,13 +12,13 @@ use Rattle.std.specs.declared.result.Result.TheVariants.{Ok}
 use Rattle.typed_values.specs.declared.desc.Named.{Named}
 use Rattle.typed_values.specs.declared.desc.IntKind.{IntKind}
 use Rattle.typed_values.specs.declared.desc.IntKind.TheVariants.{I8, I16, I32, I64, U8, U16, U32, U64}
-use Rattle.typed_values.specs.declared.fault.FaultKind.TheVariants.{OutOfRange, BadLength}
+use Rattle.typed_values.specs.declared.fault.FaultKind.TheVariants.{OutOfRange, BadLength, NotListed}
 use Rattle.typed_values.specs.declared.tree.Tree.{Tree, Unit as Nought, Bool as Truth, Int as Number, Text as Words, Variant as Choice, Any as Whole}
 use Rattle.typed_values.specs.declared.tree.Tree.TheOpen.{Tree-F}
 use Rattle.typed_values.specs.declared.tree.Tree.TheVariants as tree
 use Rattle.typed_values.specs.declared.tree.Tree.TheViews.{roll-Tree}
 use Rattle.typed_values.specs.Bounds.{least_of, greatest_of, is_number_of}
-use Rattle.typed_values.specs.Denotes.{Told, if_holds, nought, truth, character, number, words, place_from, listed, one_of_names}
+use Rattle.typed_values.specs.Denotes.{Told, if_holds, nought, truth, character, number, words, refused, named_from, where_found, bare, one_of_names}
 use Rattle.typed_values.specs.Definitions.{listed_name}
 use Rattle.typed_values.specs.Encoding.{scalar_written, whole_written, name_written, listed_written}
 use Rattle.typed_values.specs.Fits.{whole_fits, nought_fits, truth_fits, number_fits, words_fit, character_fits, name_fits}
@@ -57,21 +57,31 @@ pub nought_is : (x : TreeOf Tree) (t : Tree) → roll-Tree x ≡ t → nought_fi
 nought_is Tree-F.Unit t is fit = sym is ∙ tree.rolls-Unit
 nought_is _ t is fit = absurd (cc fit)
 
--- a name stands at a place, where it is found first, counted from a number
-record IsListedAt (ns : List Named) (i k : ℕ) (name : List ℕ) : Type 0 where
-  written : name_written ns i ≡ WordsJson name
-  found : place_from k ns name ≡ Some (k + i)
-  apart : (other : List ℕ) → AllByRecursion (λ n. other ≢ n) (map listed_name ns) → other ≢ name
+-- among things of distinct names that at a place is the first of its name
+module _ {X : Type 0} (name_of : X → List ℕ) where
+  name_apart : (name : List ℕ) (xs : List X) (i : ℕ) (x : X) → AllByRecursion (λ other. name ≢ other) (map name_of xs) → slice_get xs i ≡ Some x → name ≢ name_of x
+  name_apart name [] i x new there = absurd (cc there)
+  name_apart name (y ∷ ys) zero x new there = let same : y ≡ x = cc there in subst (λ (z : X). name ≢ name_of z) same new.0
+  name_apart name (y ∷ ys) (suc i) x new there = name_apart name ys i x new.1 there
 
-listed_at : (ns : List Named) (i k : ℕ) → AreDistinct (map listed_name ns) → i < length ns → (name : List ℕ) × IsListedAt ns i k name
-listed_at [] i k distinct less = absurd (omega (arith, less))
-listed_at (n ∷ ns) zero k distinct less =
-    let here : k ≡ k + 0 = omega arith in
-    (n.name, record { written = refl; found = rw (same_name n.name) (ap Some here); apart = λ other new. new.0 })
-listed_at (n ∷ ns) (suc i) k distinct less =
-    let (name, at) = listed_at ns i (k + 1) distinct.1 (omega (arith, less)) in
-    let there : k + 1 + i ≡ k + suc i = omega arith in
-    (name, record { written = at.written; found = rw (other_name n.name name (at.apart n.name distinct.0)) (at.found ∙ ap Some there); apart = λ other new. at.apart other new.1 })
+  named_at : (xs : List X) (i k : ℕ) (x : X) → AreDistinct (map name_of xs) → slice_get xs i ≡ Some x → named_from name_of k xs (name_of x) ≡ Some (k + i, x)
+  named_at [] i k x distinct there = absurd (cc there)
+  named_at (y ∷ ys) zero k x distinct there =
+      let same : y ≡ x = cc there in
+      let here : k ≡ k + 0 = omega arith in
+      subst (λ (z : X). named_from name_of k (z ∷ ys) (name_of x) ≡ Some (k + 0, x)) (sym same) (rw (same_name (name_of x)) (ap (λ (n : ℕ). Some (n, x)) here))
+  named_at (y ∷ ys) (suc i) k x distinct there =
+      let further : k + 1 + i ≡ k + suc i = omega arith in
+      rw (other_name (name_of y) (name_of x) (name_apart (name_of y) ys i x distinct.0 there)) (named_at ys i (k + 1) x distinct.1 there ∙ ap (λ (n : ℕ). Some (n, x)) further)
+
+  pub named_first : (xs : List X) (i : ℕ) (x : X) → AreDistinct (map name_of xs) → slice_get xs i ≡ Some x → named_from name_of 0 xs (name_of x) ≡ Some (i, x)
+  named_first xs i x distinct there = named_at xs i 0 x distinct there ∙ ap (λ (n : ℕ). Some (n, x)) (omega arith)
+
+-- a name stands at a place, and is written there
+listed_at : (ns : List Named) (i : ℕ) → i < length ns → (n : Named) × (slice_get ns i ≡ Some n) × (name_written ns i ≡ WordsJson n.name)
+listed_at [] i less = absurd (omega (arith, less))
+listed_at (n ∷ ns) zero less = (n, refl, refl)
+listed_at (n ∷ ns) (suc i) less = listed_at ns i (omega (arith, less))
 
 module _ (Exact : Type 0) where
   -- a value is sound, and what it is told is a tree, and a given one where a fact holds
@@ -127,8 +137,8 @@ module _ (Exact : Type 0) where
       → ReadsBack (listed_written ns x) (one_of_names ns (out-Json (listed_written ns x))) t
   name_back ns distinct is_nought nought_only (Tree-F.Variant i s) t is fit =
       let (less, beside) = and_parts (nat_lt i (length ns)) (is_nought s) fit in
-      let (name, at) = listed_at ns i 0 distinct (below_true i (length ns) (sym less)) in
-      let found : place_from 0 ns name ≡ Some i = at.found ∙ ap Some (omega arith) in
+      let (n, there, written) = listed_at ns i (below_true i (length ns) (sym less)) in
       let same : Choice i Nought ≡ t = ap (Choice i) (sym (nought_only s beside)) ∙ sym (tree.rolls-Variant i s) ∙ is in
-      subst (λ (j : Json). ReadsBack j (one_of_names ns (out-Json j)) t) (sym at.written) (tt, (Choice i Nought, ap (one_of_names ns) (json.outs-Text name) ∙ ap listed found, λ h. same))
+      let found : where_found (refused NotListed) bare (named_from listed_name 0 ns n.name) ≡ Ok (Choice i Nought) = ap (where_found (refused NotListed) bare) (named_first listed_name ns i n distinct there) in
+      subst (λ (j : Json). ReadsBack j (one_of_names ns (out-Json j)) t) (sym written) (tt, (Choice i Nought, ap (one_of_names ns) (json.outs-Text n.name) ∙ found, λ h. same))
   name_back ns distinct is_nought nought_only _ t is fit = absurd (cc fit)

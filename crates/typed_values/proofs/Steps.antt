@@ -10,6 +10,7 @@ use Rattle.typed_values.specs.declared.table.Definition.{Definition}
 use Rattle.typed_values.specs.Definitions.{definition}
 use Rattle.typed_values.specs.Denotes.{Told, Meaning, Level, told_by, first_told, or_else, told_at, told_within, room, told, optional, at_definition}
 use Rattle.typed_values.specs.Sound.{EachRests, RestsBy, Rests}
+use Rattle.typed_values.specs.Levels.{DescLevel}
 
 -- one level of a JSON value, where each smaller value stands beside what it denotes
 abbrev pub level : List Definition → Desc → Json → Level
@@ -25,7 +26,7 @@ first_told_same Next f g same i (d ∷ ds) h =
     ap (λ (o : Told). or_else i o (first_told (i + 1) f ds)) (same d h.0) ∙ ap (or_else i (g d)) (first_told_same Next f g same (i + 1) ds h.1)
 
 -- what follows a step matters only where that step is one
-told_by_same : (table : List Definition) (r : ℕ) (j : Json) (v : Level) (Next : Desc → Type 0) (f g : Desc → Told) → ((d : Desc) → Next d → f d ≡ g d) → (x : Desc-F Desc Field) → RestsBy table Next x → told_by table r j v f x ≡ told_by table r j v g x
+told_by_same : (table : List Definition) (r : ℕ) (j : Json) (v : Level) (Next : Desc → Type 0) (f g : Desc → Told) → ((d : Desc) → Next d → f d ≡ g d) → (x : DescLevel) → RestsBy table Next x → told_by table r j v f x ≡ told_by table r j v g x
 told_by_same table r j v Next f g same Desc-F.Any h = refl
 told_by_same table r j v Next f g same Desc-F.Never h = refl
 told_by_same table r j v Next f g same Desc-F.Null h = refl
@@ -38,6 +39,8 @@ told_by_same table r j v Next f g same (Desc-F.Option d) h = ap (λ (o : Told). 
 told_by_same table r j v Next f g same (Desc-F.List d min max) h = refl
 told_by_same table r j v Next f g same (Desc-F.Map d) h = refl
 told_by_same table r j v Next f g same (Desc-F.Struct fs deny) h = refl
+told_by_same table r j v Next f g same (Desc-F.External vs) h = refl
+told_by_same table r j v Next f g same (Desc-F.Tagged tag vs) h = refl
 told_by_same table r j v Next f g same (Desc-F.Untagged ds) h = first_told_same Next f g same 0 ds h
 told_by_same table r j v Next f g same (Desc-F.Ref name) h = at_definition_same Next f g same (definition table name) h
 

@@ -49,3 +49,21 @@ module _ (P : Tree → Type 0) where
 
     pub by_parts : (t : Tree) → P t
     by_parts = ind-Tree P (λ p. P p.value) (λ x y is. subst (λ (z : TreeOf Tree). P (roll-Tree z)) is (of_level y)) (λ x y is. subst (λ (z : Pair-F Tree Pair). P z.value) is y.value.1)
+
+-- what follows from it for each tree follows for the parts
+module _ {P Q : Tree → Type 0} (weaker : (t : Tree) → P t → Q t) where
+  each_weaker : (ts : List Tree) → AllByRecursion P ts → AllByRecursion Q ts
+  each_weaker [] h = tt
+  each_weaker (t ∷ ts) h = (weaker t h.0, each_weaker ts h.1)
+
+  values_weaker : (ps : List Pair) → AllByRecursion (λ p. P p.value) ps → AllByRecursion (λ p. Q p.value) ps
+  values_weaker [] h = tt
+  values_weaker (p ∷ ps) h = (weaker p.value h.0, values_weaker ps h.1)
+
+  pub parts_weaker : (x : TreeOf Tree) → OfParts P x → OfParts Q x
+  parts_weaker (Tree-F.Some t) h = weaker t h
+  parts_weaker (Tree-F.List ts) h = each_weaker ts h
+  parts_weaker (Tree-F.Map ps) h = values_weaker ps h
+  parts_weaker (Tree-F.Fields ts) h = each_weaker ts h
+  parts_weaker (Tree-F.Variant i t) h = weaker t h
+  parts_weaker _ h = tt

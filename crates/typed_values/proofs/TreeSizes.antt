@@ -2,8 +2,8 @@
 use Rattle.std.proofs.Common.{◌≡◌, ℕ, suc, ◌<◌, ◌≤◌, List, ◌∙◌, length, get_or, arith}
 use denote.Param.Weighed.{most, at_most}
 use Rattle.typed_values.specs.declared.tree.Pair.{Pair, size-Pair, size_is-Pair}
-use Rattle.typed_values.specs.declared.tree.Tree.{Tree, Some, List as Items, Map as Entries, Variant as Choice, size-Tree}
-use Rattle.typed_values.specs.declared.tree.Tree.TheViews.{sized-Some, sized-List, sized-Map, sized-Variant}
+use Rattle.typed_values.specs.declared.tree.Tree.{Tree, Some, List as Items, Map as Entries, Fields as Parts, Variant as Choice, size-Tree}
+use Rattle.typed_values.specs.declared.tree.Tree.TheViews.{sized-Some, sized-List, sized-Map, sized-Fields, sized-Variant}
 
 pub size_some : (t : Tree) → size-Tree (Some t) ≡ suc (size-Tree t)
 size_some t = sized-Some t ∙ omega arith
@@ -13,6 +13,9 @@ size_items ts = sized-List ts ∙ omega arith
 
 pub size_entries : (ps : List Pair) → size-Tree (Entries ps) ≡ suc (most size-Pair ps)
 size_entries ps = sized-Map ps ∙ omega arith
+
+pub size_parts : (ts : List Tree) → size-Tree (Parts ts) ≡ suc (most size-Tree ts)
+size_parts ts = sized-Fields ts ∙ omega arith
 
 size_pair : (p : Pair) → size-Pair p ≡ suc (size-Tree p.value)
 size_pair p = size_is-Pair p ∙ omega arith

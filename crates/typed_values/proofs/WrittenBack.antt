@@ -4,9 +4,9 @@ use Rattle.std.proofs.lemmas.Bool.{and_parts}
 use Rattle.std.proofs.lemmas.List.{length-map}
 use Rattle.std.proofs.Math.Bool.{or-true}
 use Rattle.std.specs.List.{AllByRecursion}
-use Rattle.std.specs.Prelude.{Contains}
+use Rattle.std.specs.Prelude.{Contains, slice_get}
 use Rattle.std.specs.declared.result.Result.TheVariants.{Ok}
-use Rattle.schema_values.specs.declared.json_value.Json.{Json, Null, out-Json, List as ItemsJson, Object}
+use Rattle.schema_values.specs.declared.json_value.Json.{Json, Null, Text as WordsJson, out-Json, List as ItemsJson, Object}
 use Rattle.schema_values.specs.declared.json_value.Json.TheOpen.{Json-F}
 use Rattle.schema_values.specs.declared.json_value.Json.TheVariants as json
 use Rattle.schema_values.specs.declared.json_value.Member.{Member}
@@ -20,21 +20,23 @@ use Rattle.typed_values.specs.declared.desc.Desc.TheOpen.{Desc-F}
 use Rattle.typed_values.specs.declared.desc.Field.{Field}
 use Rattle.typed_values.specs.declared.desc.Presence.{Presence}
 use Rattle.typed_values.specs.declared.desc.Presence.TheVariants.{Required, Nullable, Skipped}
+use Rattle.typed_values.specs.declared.desc.TaggedVariant.{TaggedVariant}
+use Rattle.typed_values.specs.declared.desc.Variant.{Variant}
 use Rattle.typed_values.specs.declared.fault.FaultKind.TheVariants.{BadLength}
 use Rattle.typed_values.specs.declared.table.Definition.{Definition}
 use Rattle.typed_values.specs.declared.fault.Place.TheVariants.{Name}
 use Rattle.typed_values.specs.declared.tree.Pair.{Pair}
-use Rattle.typed_values.specs.declared.tree.Tree.{Tree, Unit as Nought, None as Nothing, List as Items, Map as Entries, Fields as Parts, out-Tree}
+use Rattle.typed_values.specs.declared.tree.Tree.{Tree, Unit as Nought, None as Nothing, List as Items, Map as Entries, Fields as Parts, Variant as Choice, out-Tree}
 use Rattle.typed_values.specs.declared.tree.Tree.TheOpen.{Tree-F}
 use Rattle.typed_values.specs.declared.tree.Tree.TheVariants as tree
 use Rattle.typed_values.specs.declared.tree.Tree.TheViews.{roll-Tree, roll-out-Tree}
 use Rattle.typed_values.specs.Bounds.{is_length_within}
-use Rattle.typed_values.specs.Checks.{TablePasses, DescPasses}
-use Rattle.typed_values.specs.Definitions.{definition, field_name}
-use Rattle.typed_values.specs.Denotes.{Told, told, room, below, just, all_told, as_tree, as_pair, member_name, if_holds, optional, by_presence, unless_denied, denied_name, at_definition, first_told}
-use Rattle.typed_values.specs.Encoding.{unless, members_written, written_if_there, option_written, items_written, pair_written, entries_written, parts_written, choice_written, written_by, is_none_level, written_under, json_of_tree}
-use Rattle.typed_values.specs.Fits.{option_fits, each_fits, items_fit, are_ascending, key_of, entries_fit, field_desc, fields_fit, parts_fit, alternative_at, if_there, choice_fits, fits_by, fits_under, Fits}
-use Rattle.typed_values.specs.Levels.{TreeOf}
+use Rattle.typed_values.specs.Checks.{names_of_fields, TablePasses, DescPasses}
+use Rattle.typed_values.specs.Definitions.{definition, field_name, tagged_name, tagged_fields}
+use Rattle.typed_values.specs.Denotes.{Told, told, room, below, just, all_told, as_tree, as_pair, member_name, if_holds, optional, by_presence, unless_denied, denied_name, chosen, external, tagged, at_definition, first_told}
+use Rattle.typed_values.specs.Encoding.{unless, members_written, written_if_there, option_written, items_written, pair_written, entries_written, parts_written, choice_written, at_place, variant_written, external_written, with_tag, tagged_written, written_by, is_none_level, written_under, json_of_tree}
+use Rattle.typed_values.specs.Fits.{option_fits, each_fits, items_fit, are_ascending, key_of, entries_fit, field_desc, fields_fit, parts_fit, alternative_at, if_there, choice_fits, payload_or_null, payload_of, struct_of, fits_by, fits_under, Fits}
+use Rattle.typed_values.specs.Levels.{DescLevel, TreeOf}
 use Rattle.typed_values.specs.Parts.{the_whole}
 use Rattle.typed_values.specs.Rows.{told_item, told_entry, value_denotes, told_field, told_fields, list_row, map_row, struct_row, row}
 use Rattle.typed_values.specs.Sound.{RestsBy, Rests}
@@ -42,20 +44,22 @@ use Rattle.typed_values.specs.Reached.{IsUntagged, ReachesNoUntagged}
 use Rattle.typed_values.proofs.Arms.{not_null}
 use Rattle.typed_values.proofs.AscendingKeys.{keys_sorted}
 use Rattle.typed_values.proofs.Denoted.{denied_is}
-use Rattle.typed_values.proofs.EncodeSteps.{is_none_tree, written_row, skipped_written}
+use Rattle.typed_values.proofs.EncodeRows.{tag_before}
+use Rattle.typed_values.proofs.EncodeSteps.{is_none_tree, written_row, skipped_written, struct_written}
 use Rattle.typed_values.proofs.FitRows.{skipped_desc}
-use Rattle.typed_values.proofs.FitSteps.{fits_row, nought_row, skipped_row}
+use Rattle.typed_values.proofs.FitSteps.{fits_row, nought_row, skipped_row, struct_row as struct_fits_row}
 use Rattle.typed_values.proofs.Found.{contains_first, contains_later}
-use Rattle.typed_values.proofs.Needed.{IsNeeded, of_whole, of_reached, needed_part, option_needed, list_needed, map_needed, field_needed, alternative_needed, definition_needed}
+use Rattle.typed_values.proofs.Needed.{IsNeeded, of_whole, of_reached, needed_part, option_needed, list_needed, map_needed, field_needed, payload_needed, variant_needed, alternative_needed, definition_needed}
 use Rattle.typed_values.proofs.Ordered.{Ascends, sorted_stays}
 use Rattle.typed_values.proofs.Rows.{two_maps, row_at}
 use Rattle.typed_values.proofs.Soundness.{is_right, passes_is_sound}
-use Rattle.typed_values.proofs.Fields.{names_apart, fields_distinct}
+use Rattle.typed_values.proofs.Fields.{names_apart, fields_distinct, distinct_at}
 use Rattle.typed_values.proofs.NullTaken.{null_taken}
 use Rattle.typed_values.proofs.ScalarsBack.{ReadsBack, nought_is, whole_back, nought_back, truth_back, character_back, number_back, words_back, name_back}
 use Rattle.typed_values.proofs.ToldTrees.{Gives, gives_below, gives_just, gives_pair, gives_then, gives_tree, first_tells}
-use Rattle.typed_values.proofs.TreeParts.{OfParts, by_parts}
-use Rattle.typed_values.proofs.WrittenMembers.{Beside, is_left, unless_left, distinct_written, written_declared, IsFound, all_found}
+use Rattle.typed_values.proofs.TreeParts.{OfParts, by_parts, parts_weaker}
+use Rattle.typed_values.proofs.VariantsBack.{at_place_inside, given_at, gives_chosen, PayloadBack, variant_back, tag_told}
+use Rattle.typed_values.proofs.WrittenMembers.{Beside, IsNew, is_left, new_name, unless_left, new_written, distinct_written, written_declared, IsFound, found_behind, all_found}
 
 no_name : (name : Option (List ℕ)) (told : Told) → is_none name ≡ true → unless_denied name told ≡ told
 no_name None told e = refl
@@ -84,6 +88,13 @@ module _ (table : List Definition) (whole : Desc) (passes : TablePasses table) (
   -- so is what stands in it: a field that may be skipped leads two levels down
   abbrev BackInside : Tree → Type 0
   BackInside t = Back t × OfParts Back (out-Tree t)
+
+  -- and what stands in that: the fields of a tagged variant stand one level below it
+  abbrev BackBelow : Tree → Type 0
+  BackBelow t = Back t × OfParts BackInside (out-Tree t)
+
+  inside_of : (t : Tree) → BackBelow t → BackInside t
+  inside_of t h = (h.0, parts_weaker {P = BackInside} {Q = Back} (λ s k. k.0) (out-Tree t) h.1)
 
   rests : (d : Desc) → IsNeeded table whole d → Rests table (room table whole) d
   rests d need = passes_is_sound table whole passes right d (needed_part table whole d need)
@@ -244,6 +255,71 @@ module _ (table : List Definition) (whole : Desc) (passes : TablePasses table) (
       )
   parts_back fs deny distinct need _ t is parts fit = absurd (cc fit)
 
+  module _ (d : Desc) (vs : List Variant) (need : IsNeeded table whole d) (e : out-Desc d ≡ Desc-F.External vs) where
+    payload_back : (s : Tree) → BackInside s → (v : Variant) → Contains vs v → (o : Option Desc) → v.payload ≡ o → fits_under table whole s (payload_or_null o) ≡ true → PayloadBack Exact (told table whole) (written s) s o
+    payload_back s known v inside None q fit = nought_only s fit
+    payload_back s known v inside (Some a) q fit = known.0 a (payload_needed table whole d vs v a e inside q need) fit
+
+    abbrev ExternalBack : Tree → Json → Type 0
+    ExternalBack u j = ReadsBack Exact j (external (told table whole) vs (out-Json j)) u
+
+    external_back : (x : TreeOf Tree) (t : Tree) → roll-Tree x ≡ t → OfParts BackInside x → choice_fits (fits_under table whole) (map payload_of vs) x ≡ true → ExternalBack t (external_written written vs x)
+    external_back (Tree-F.Variant i s) t is parts fit =
+        let distinct = (names_apart table d (Desc-F.External vs) e (is_right table whole d passes right (needed_part table whole d need))).0 in
+        let (v, there, fits) = given_at (fits_under table whole s) payload_of vs i fit in
+        let back = variant_back Exact (told table whole) (written s) s vs distinct i v there v.payload refl (payload_back s parts v (at_place_inside vs i v there) v.payload refl fits) in
+        subst (λ (o : Option Variant). ExternalBack t (at_place (variant_written (written s)) o)) (sym there)
+        (subst (λ (u : Tree). ExternalBack u (variant_written (written s) v)) (sym (tree.rolls-Variant i s) ∙ is) back)
+    external_back _ t is parts fit = absurd (cc fit)
+
+  module _ (tag : List ℕ) (vs : List TaggedVariant) where
+    abbrev tagged_row : Json-F Json Member → Told
+    tagged_row y = tagged (λ j. j) (λ fs. struct_row table whole fs false y) tag vs y
+
+    abbrev TaggedBack : Tree → Json → Type 0
+    TaggedBack u j = ReadsBack Exact j (tagged_row (out-Json j)) u
+
+    -- each field is looked up behind the tag
+    module _ (names : AreDistinct (map tagged_name vs)) (i : ℕ) (v : TaggedVariant) (there : slice_get vs i ≡ Some v) where
+      abbrev first : Member
+      first = member tag (WordsJson (tagged_name v))
+
+      behind_tag : AreDistinct (map field_name (tagged_fields v)) → IsNew tag (map field_name (tagged_fields v)) → ((f : Field) → Contains (tagged_fields v) f → IsNeeded table whole f.desc)
+          → (x : TreeOf Tree) (s : Tree) → roll-Tree x ≡ s → OfParts BackInside x → parts_fit (fits_under table whole) (tagged_fields v) x ≡ true → TaggedBack (Choice i s) (with_tag tag (tagged_name v) (parts_written is_none_tree written (tagged_fields v) x))
+      behind_tag distinct new need (Tree-F.Fields xs) s is parts fit =
+          let fs : List Field = tagged_fields v in
+          let ms : List Member = members_written is_none_tree written fs xs in
+          let back = fields_back fs xs need parts fit in
+          let found = found_behind written false first ms fs xs new (all_found written FieldBack fs xs distinct back) in
+          let all_parts : tagged_row (out-Json (Object (first ∷ ms))) ≡ chosen i (as_tree Parts (told_fields table whole (first ∷ ms) fs)) =
+          ap tagged_row (json.outs-Object (first ∷ ms)) ∙ tag_told tag vs names i v there (λ gs. struct_row table whole gs false (Json-F.Object (first ∷ ms))) ms in
+          subst (TaggedBack (Choice i s)) (sym (tag_before tag (tagged_name v) ms)) (
+            (IsSound-Object (first ∷ ms)).1 ((tt, members_sound fs xs back), (new_written written tag fs xs new, distinct_written written fs xs distinct)),
+            subst (λ (o : Told). Gives Exact o (Choice i s)) (sym all_parts)
+                (gives_chosen Exact i (as_tree Parts (told_fields table whole (first ∷ ms) fs)) s
+                (subst (Gives Exact (as_tree Parts (told_fields table whole (first ∷ ms) fs))) (sym (tree.rolls-Fields xs) ∙ is)
+                (gives_tree Exact Parts (told_fields table whole (first ∷ ms) fs) xs (fields_told_back (first ∷ ms) fs xs back found 0)))),
+          )
+      behind_tag distinct new need _ s is parts fit = absurd (cc fit)
+
+    abbrev tagged_json : Tree → TaggedVariant → Json
+    tagged_json s v = with_tag tag (tagged_name v) (written s (struct_of v))
+
+    tagged_back : (d : Desc) → IsNeeded table whole d → out-Desc d ≡ Desc-F.Tagged tag vs → (x : TreeOf Tree) (t : Tree) → roll-Tree x ≡ t → OfParts BackBelow x → choice_fits (fits_under table whole) (map struct_of vs) x ≡ true
+        → TaggedBack t (tagged_written written tag vs x)
+    tagged_back d need e (Tree-F.Variant i s) t is parts fit =
+        let here = is_right table whole d passes right (needed_part table whole d need) in
+        let (names, each) = names_apart table d (Desc-F.Tagged tag vs) e here in
+        let (v, there, fits) = given_at (fits_under table whole s) struct_of vs i fit in
+        let inside = at_place_inside vs i v there in
+        let new = new_name tag (tagged_fields v) (λ f c q. here.tags (tag, vs, v, f, e, inside, c, q)) in
+        let fields_fit_so : parts_fit (fits_under table whole) (tagged_fields v) (out-Tree s) ≡ true = sym (struct_fits_row table whole s (tagged_fields v) false) ∙ fits in
+        let written_so : written s (struct_of v) ≡ parts_written is_none_tree written (tagged_fields v) (out-Tree s) = struct_written table whole s (tagged_fields v) false in
+        let back = behind_tag names i v there (distinct_at names_of_fields vs v each inside) new (λ f c. variant_needed table whole d tag vs v f e inside c need) (out-Tree s) s (roll-out-Tree s) parts.1 fields_fit_so in
+        subst (λ (o : Option TaggedVariant). TaggedBack t (at_place (tagged_json s) o)) (sym there)
+        (subst (λ (u : Tree). TaggedBack u (tagged_json s v)) (sym (tree.rolls-Variant i s) ∙ is) (subst (λ (j : Json). TaggedBack (Choice i s) (with_tag tag (tagged_name v) j)) (sym written_so) back))
+    tagged_back d need e _ t is parts fit = absurd (cc fit)
+
   choice_at : (d : Desc) (ds : List Desc) → IsNeeded table whole d → out-Desc d ≡ Desc-F.Untagged ds → (i : ℕ) (s t : Tree) → BackInside s → (o : Option Desc) → alternative_at ds i ≡ o → if_there (fits_under table whole s) o ≡ true
       → ReadsBack Exact (written_if_there (written s) o) (first_told 0 (told table whole (written_if_there (written s) o)) ds) t
   choice_at d ds need e i s t known None there fit = absurd (cc fit)
@@ -257,7 +333,10 @@ module _ (table : List Definition) (whole : Desc) (passes : TablePasses table) (
   choice_back d ds need e (Tree-F.Variant i s) t parts fit = choice_at d ds need e i s t parts (alternative_at ds i) refl fit
   choice_back d ds need e _ t parts fit = absurd (cc fit)
 
-  module _ (t : Tree) (parts : OfParts BackInside (out-Tree t)) where
+  module _ (t : Tree) (below_parts : OfParts BackBelow (out-Tree t)) where
+    abbrev parts : OfParts BackInside (out-Tree t)
+    parts = parts_weaker inside_of (out-Tree t) below_parts
+
     abbrev BackWithin : ℕ → Type 0
     BackWithin n = (d : Desc) → Rests table n d → IsNeeded table whole d → fits_under table whole t d ≡ true → ReadsBack Exact (written t d) (told table whole (written t d) d) t
 
@@ -266,18 +345,18 @@ module _ (table : List Definition) (whole : Desc) (passes : TablePasses table) (
     reference_back n next d name need e None f rests fit = absurd rests
     reference_back n next d name need e (Some y) f rests fit = next y rests (definition_needed table whole d name y e f need) fit
 
-    abbrev row_written : Desc-F Desc Field → Json
+    abbrev row_written : DescLevel → Json
     row_written y = written_by table is_none_tree written (written t) y (out-Tree t)
 
     -- one row for each descriptor
-    row_back : (n : ℕ) → BackWithin n → (d : Desc) → IsNeeded table whole d → (y : Desc-F Desc Field) → out-Desc d ≡ y → RestsBy table (Rests table n) y
+    row_back : (n : ℕ) → BackWithin n → (d : Desc) → IsNeeded table whole d → (y : DescLevel) → out-Desc d ≡ y → RestsBy table (Rests table n) y
         → fits_by table (fits_under table whole) (fits_under table whole t) y (out-Tree t) ≡ true → ReadsBack Exact (row_written y) (row table whole (row_written y) (out-Json (row_written y)) y) t
     row_back n next d need Desc-F.Any e rest fit = whole_back Exact (out-Tree t) t (roll-out-Tree t) fit
     row_back n next d need Desc-F.Never e rest fit = absurd (cc fit)
     row_back n next d need Desc-F.Null e rest fit = nought_back Exact (out-Tree t) t (roll-out-Tree t) fit
     row_back n next d need Desc-F.Char e rest fit = character_back Exact (out-Tree t) t (roll-out-Tree t) fit
     row_back n next d need (Desc-F.Enumeration ns) e rest fit =
-        let distinct = names_apart table d (Desc-F.Enumeration ns) e (is_right table whole d passes right (needed_part table whole d need)) in
+        let distinct = (names_apart table d (Desc-F.Enumeration ns) e (is_right table whole d passes right (needed_part table whole d need))).0 in
         name_back Exact ns distinct (λ s. fits_under table whole s NullDesc) nought_only (out-Tree t) t (roll-out-Tree t) fit
     row_back n next d need (Desc-F.Map i) e rest fit = entries_back i (map_needed table whole d i e need) (out-Tree t) t (roll-out-Tree t) parts fit
     row_back n next d need Desc-F.Bool e rest fit = truth_back Exact (out-Tree t) t (roll-out-Tree t) fit
@@ -288,6 +367,8 @@ module _ (table : List Definition) (whole : Desc) (passes : TablePasses table) (
     row_back n next d need (Desc-F.Struct fs deny) e rest fit =
         let distinct = fields_distinct table d fs deny e (is_right table whole d passes right (needed_part table whole d need)) in
         parts_back fs deny distinct (λ f c. field_needed table whole d fs deny f e c need) (out-Tree t) t (roll-out-Tree t) parts fit
+    row_back n next d need (Desc-F.External vs) e rest fit = external_back d vs need e (out-Tree t) t (roll-out-Tree t) parts fit
+    row_back n next d need (Desc-F.Tagged tag vs) e rest fit = tagged_back tag vs d need e (out-Tree t) t (roll-out-Tree t) below_parts fit
     row_back n next d need (Desc-F.Untagged ds) e rest fit = choice_back d ds need e (out-Tree t) t parts fit
     row_back n next d need (Desc-F.Ref name) e rest fit = reference_back n next d name need e (definition table name) refl rest fit
 
@@ -299,24 +380,8 @@ module _ (table : List Definition) (whole : Desc) (passes : TablePasses table) (
         subst (λ (o : Told). ReadsBack Exact (written t d) o t) (sym (row_at table whole (written t d) d (out-Json (written t d)) (out-Desc d) (rests d need) refl refl))
         (subst (λ (j : Json). ReadsBack Exact j (row table whole j (out-Json j) (out-Desc d)) t) (sym (written_row table whole t d (rests d need))) (row_back n (back_within n) d need (out-Desc d) refl rest row_fits))
 
-  each_inside : (ts : List Tree) → AllByRecursion BackInside ts → AllByRecursion Back ts
-  each_inside [] h = tt
-  each_inside (t ∷ ts) h = (h.0.0, each_inside ts h.1)
-
-  each_value_inside : (ps : List Pair) → AllByRecursion (λ p. BackInside p.value) ps → AllByRecursion (λ p. Back p.value) ps
-  each_value_inside [] h = tt
-  each_value_inside (p ∷ ps) h = (h.0.0, each_value_inside ps h.1)
-
-  inside_of : (x : TreeOf Tree) → OfParts BackInside x → OfParts Back x
-  inside_of (Tree-F.Some t) h = h.0
-  inside_of (Tree-F.List ts) h = each_inside ts h
-  inside_of (Tree-F.Map ps) h = each_value_inside ps h
-  inside_of (Tree-F.Fields ts) h = each_inside ts h
-  inside_of (Tree-F.Variant i t) h = h.0
-  inside_of _ h = tt
-
-  known : (t : Tree) → BackInside t
-  known = by_parts BackInside (λ t parts. (λ d need. back_within t parts (room table whole) d (rests d need) need, inside_of (out-Tree t) parts))
+  known : (t : Tree) → BackBelow t
+  known = by_parts BackBelow (λ t parts. (λ d need. back_within t parts (room table whole) d (rests d need) need, parts_weaker inside_of (out-Tree t) parts))
 
   pub read_back : (t : Tree) → Fits table whole t → ReadsBack Exact (json_of_tree table whole t) (told table whole (json_of_tree table whole t) whole) t
   read_back t fit = (known t).0 whole (of_whole the_whole) fit

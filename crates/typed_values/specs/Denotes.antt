@@ -1,4 +1,6 @@
 -- Which tree a JSON value denotes under a descriptor, and which fault is told first where it denotes none.
+use Rattle.std.specs.List.{list_all}
+use Rattle.std.specs.Option.{option_map}
 use Rattle.std.specs.Prelude.{◌≡◌, ◌==◌, ℕ, zero, suc, ◌+◌, ℤ, Bool, true, false, not, List, [], ◌∷◌, length, map, filter, Option, Some, None, if◌then◌else◌, bytes_eq, sum}
 use Rattle.std.specs.declared.result.Result.{Result}
 use Rattle.std.specs.declared.result.Result.TheVariants.{Ok, Err}
@@ -6,15 +8,18 @@ use Rattle.std.specs.declared.cmp.Ordering.{Ordering}
 use Rattle.std.specs.declared.cmp.Ordering.TheVariants.{Less, Equal, Greater}
 use Rattle.std.specs.Ordering.{nat_cmp}
 use Rattle.std.specs.Cmp.Lexicographic.{slice_cmp}
-use Rattle.schema_values.specs.declared.json_value.Json.{Json}
+use Rattle.schema_values.specs.declared.json_value.Json.{Json, out-Json}
+use Rattle.schema_values.specs.declared.json_value.Member.{Member}
 use Rattle.schema_values.specs.declared.json_value.Json.TheOpen.{Json-F, Member-F}
-use Rattle.schema_values.specs.Beside.{Beside, LevelBeside, MemberBeside, made_of}
+use Rattle.schema_values.specs.Beside.{Beside, LevelBeside, MemberBeside, made_of, value_beside}
 use Rattle.typed_values.specs.declared.desc.Desc.{Desc, out-Desc}
-use Rattle.typed_values.specs.declared.desc.Desc.TheOpen.{Desc-F, Field-F}
+use Rattle.typed_values.specs.declared.desc.Desc.TheOpen.{Desc-F, Field-F, TaggedVariant-F, Variant-F}
 use Rattle.typed_values.specs.declared.desc.Desc.TheFolds.{fold-Desc}
 use Rattle.typed_values.specs.declared.desc.Field.{Field}
 use Rattle.typed_values.specs.declared.desc.Named.{Named}
 use Rattle.typed_values.specs.declared.desc.IntKind.{IntKind}
+use Rattle.typed_values.specs.declared.desc.TaggedVariant.{TaggedVariant}
+use Rattle.typed_values.specs.declared.desc.Variant.{Variant}
 use Rattle.typed_values.specs.declared.desc.Presence.{Presence}
 use Rattle.typed_values.specs.declared.desc.Presence.TheVariants.{Required, Nullable, Skipped}
 use Rattle.typed_values.specs.declared.tree.Tree.{Tree, Unit as Nought, Bool as Truth, Int as Number, Text as Words, None as Nothing, Some as Just, List as Items, Map as Entries, Fields as Parts, Variant as Choice, Any as Whole}
@@ -24,10 +29,11 @@ use Rattle.typed_values.specs.declared.fault.FaultKind.TheVariants.{Missing, Unk
 use Rattle.typed_values.specs.declared.fault.Place.{Place}
 use Rattle.typed_values.specs.declared.fault.Place.TheVariants.{Name, Item}
 use Rattle.typed_values.specs.declared.table.Definition.{Definition}
-use Rattle.typed_values.specs.Definitions.{definition}
+use Rattle.typed_values.specs.Definitions.{definition, listed_name, tagged_fields, tagged_name, variant_name}
 use Rattle.typed_values.specs.Bounds.{is_number_of, is_length_within}
 use Rattle.typed_values.specs.Faults.{Trouble, at_root}
 use Rattle.typed_values.specs.Order.{sorted_by}
+use Rattle.typed_values.specs.Levels.{DescLevel}
 
 -- a tree, or the fault that is told
 abbrev pub Told : Type 0
@@ -123,19 +129,23 @@ abbrev pub character : {X Y : Type 0} → Json-F X Y → Told
 character (Json-F.Text text) = if_holds (length text == 1) BadLength (Ok (Words text))
 character _ = refused WrongKind
 
--- the first place of a name, counted from a place
-abbrev pub place_from : ℕ → List Named → List ℕ → Option ℕ
-place_from i [] name = None
-place_from i (n ∷ ns) name = if bytes_eq n.name name then Some i else place_from (i + 1) ns name
+-- the first thing of a name, and its place, counted from a place
+abbrev pub named_from : {X : Type 0} → (X → List ℕ) → ℕ → List X → List ℕ → Option (ℕ × X)
+named_from name_of i [] name = None
+named_from name_of i (x ∷ xs) name = if bytes_eq (name_of x) name then Some (i, x) else named_from name_of (i + 1) xs name
 
--- the name at a place, or a fault where a text is none of the names
-abbrev pub listed : Option ℕ → Told
-listed None = refused NotListed
-listed (Some i) = Ok (Choice i Nought)
+-- what the thing found gives at its place, or what is told where a text is none of the names
+abbrev pub where_found : {X : Type 0} → Told → (ℕ → X → Told) → Option (ℕ × X) → Told
+where_found unlisted told None = unlisted
+where_found unlisted told (Some found) = told found.0 found.1
+
+-- a place alone
+abbrev pub bare : {X : Type 0} → ℕ → X → Told
+bare i x = Ok (Choice i Nought)
 
 -- a text that is one of the names
 abbrev pub one_of_names : {X Y : Type 0} → List Named → Json-F X Y → Told
-one_of_names ns (Json-F.Text text) = listed (place_from 0 ns text)
+one_of_names ns (Json-F.Text text) = where_found (refused NotListed) bare (named_from listed_name 0 ns text)
 one_of_names ns _ = refused WrongKind
 
 -- null, or what the value denotes under the inner descriptor
@@ -228,6 +238,54 @@ abbrev pub fields : ℕ → List Field → Bool → Level → Told
 fields room fs deny (Json-F.Object ms) = unless_denied (denied_name deny fs ms) (as_tree Parts (all_told (λ i f. field_told room ms f) 0 fs))
 fields room fs deny _ = refused WrongKind
 
+-- a tree at a place
+abbrev pub chosen : ℕ → Told → Told
+chosen i (Ok tree) = Ok (Choice i tree)
+chosen i (Err trouble) = Err trouble
+
+-- a variant by its name alone, which it must not have a payload for
+abbrev pub without_payload : ℕ → Variant → Told
+without_payload i v = by_payload v.payload where
+  by_payload : Option Desc → Told
+  by_payload None = bare i v
+  by_payload (Some d) = refused NotListed
+
+-- a variant with the value of its payload, below its name
+abbrev pub with_payload : (Desc → Told) → ℕ → Variant → Told
+with_payload told i v = by_payload v.payload where
+  by_payload : Option Desc → Told
+  by_payload None = refused NotListed
+  by_payload (Some d) = chosen i (below (Name v.name) (told d))
+
+-- all members have a name
+abbrev pub are_all_named : {X : Type 0} → List ℕ → List (Member-F X (Unit {0})) → Bool
+are_all_named name ms = list_all (λ m. bytes_eq (member_name m) name) ms
+
+-- The name of a variant without payload, or an object of one name, which is that of a variant with payload.
+abbrev pub external : {X : Type 0} → (X → Desc → Told) → List Variant → Json-F X (Member-F X (Unit {0})) → Told
+external told vs (Json-F.Text text) = where_found (refused NotListed) without_payload (named_from variant_name 0 vs text)
+external told vs (Json-F.Object (m ∷ ms)) =
+    if_holds (are_all_named m.name ms) WrongKind (where_found (refused NotListed) (with_payload (told m.value)) (named_from variant_name 0 vs m.name))
+external told vs _ = refused WrongKind
+
+-- the variant that a tag names, or a fault below the tag's name
+abbrev pub at_tag : List ℕ → (ℕ → TaggedVariant → Told) → List TaggedVariant → Json → Told
+at_tag tag told vs json = by_kind (out-Json json) where
+  by_kind : Json-F Json Member → Told
+  by_kind (Json-F.Text text) = where_found (below (Name tag) (refused NotListed)) told (named_from tagged_name 0 vs text)
+  by_kind _ = below (Name tag) (refused WrongKind)
+
+-- the variant that the member of the tag names, or a fault where there is no such member
+abbrev pub by_tag : List ℕ → (Json → Told) → Option Json → Told
+by_tag tag told None = refused (Missing tag)
+by_tag tag told (Some json) = told json
+
+-- an object whose tag names a variant, and the fields of that variant; `struct` is what its struct gives
+abbrev pub tagged : {X : Type 0} → (X → Json) → (List Field → Told) → List ℕ → List TaggedVariant → Json-F X (Member-F X (Unit {0})) → Told
+tagged value_of struct tag vs (Json-F.Object ms) =
+    by_tag tag (at_tag tag (λ i v. chosen i (struct (tagged_fields v))) vs) (option_map value_of (value_named ms tag))
+tagged value_of struct tag vs _ = refused WrongKind
+
 -- what is told under the definition of a name; a name without one denotes nothing
 abbrev pub at_definition : (Desc → Told) → Option Desc → Told
 at_definition told None = refused WrongKind
@@ -244,7 +302,7 @@ first_told i told [] = refused NoAlternative
 first_told i told (d ∷ ds) = or_else i (told d) (first_told (i + 1) told ds)
 
 -- One row for each descriptor. `json` is the value itself, and `next` what it denotes with one step less.
-abbrev pub told_by : List Definition → ℕ → Json → Level → (Desc → Told) → Desc-F Desc Field → Told
+abbrev pub told_by : List Definition → ℕ → Json → Level → (Desc → Told) → DescLevel → Told
 told_by table room json j next Desc-F.Any = Ok (Whole json)
 told_by table room json j next Desc-F.Never = refused WrongKind
 told_by table room json j next Desc-F.Null = nought j
@@ -257,6 +315,8 @@ told_by table room json j next (Desc-F.Option d) = optional j (next d)
 told_by table room json j next (Desc-F.List d min max) = items room d min max j
 told_by table room json j next (Desc-F.Map d) = entries room d j
 told_by table room json j next (Desc-F.Struct fs deny) = fields room fs deny j
+told_by table room json j next (Desc-F.External vs) = external (λ x d. x.made room d) vs j
+told_by table room json j next (Desc-F.Tagged tag vs) = tagged value_beside (λ fs. fields room fs false j) tag vs j
 told_by table room json j next (Desc-F.Untagged ds) = first_told 0 next ds
 told_by table room json j next (Desc-F.Ref name) = at_definition next (definition table name)
 
@@ -270,21 +330,31 @@ unfoldable pub told_within : List Definition → ℕ → Json → Meaning
 told_within table room = made_of (told_at table room)
 
 -- the number of descriptors at one level, where each smaller one stands as its number
-abbrev pub nodes_step : Desc-F ℕ ℕ → ℕ
+abbrev pub nodes_step : Desc-F ℕ ℕ ℕ ℕ → ℕ
 nodes_step (Desc-F.Option n) = suc n
 nodes_step (Desc-F.List n min max) = suc n
 nodes_step (Desc-F.Map n) = suc n
 nodes_step (Desc-F.Struct ns deny) = suc (sum ns)
+nodes_step (Desc-F.External ns) = suc (sum ns)
+nodes_step (Desc-F.Tagged tag ns) = suc (sum ns)
 nodes_step (Desc-F.Untagged ns) = suc (sum ns)
 nodes_step _ = 1
 
 -- a field has the descriptors of its type
-abbrev pub field_nodes : Field-F ℕ ℕ → ℕ
+abbrev pub field_nodes : Field-F ℕ ℕ ℕ ℕ → ℕ
 field_nodes f = f.desc
+
+-- a tagged variant has the descriptors of its fields
+abbrev pub tagged_nodes : TaggedVariant-F ℕ ℕ ℕ ℕ → ℕ
+tagged_nodes v = sum v.fields
+
+-- a variant has the descriptors of its payload
+abbrev pub variant_nodes : Variant-F ℕ ℕ ℕ ℕ → ℕ
+variant_nodes v = elim v.payload [ None ↦ 0 | Some n ↦ n ]
 
 -- the number of descriptors in a descriptor, with itself
 abbrev pub nodes : Desc → ℕ
-nodes = fold-Desc ℕ ℕ nodes_step field_nodes
+nodes = fold-Desc ℕ ℕ ℕ ℕ nodes_step field_nodes tagged_nodes variant_nodes
 
 -- the number of descriptors in all definitions
 abbrev pub nodes_of_table : List Definition → ℕ

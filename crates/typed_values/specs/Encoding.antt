@@ -1,22 +1,25 @@
 -- The JSON value that a tree is written as. Fields stand in the order in which they are declared, and the pairs of a map in theirs.
-use Rattle.std.specs.Prelude.{ℕ, zero, suc, Bool, true, false, List, [], ◌∷◌, map, Option, Some, None}
-use Rattle.schema_values.specs.declared.json_value.Json.{Json, Null, Bool as Truth, Int as Number, Text as Words, List as Items, Object}
+use Rattle.std.specs.Prelude.{slice_get, ℕ, zero, suc, Bool, true, false, List, [], ◌∷◌, map, Option, Some, None}
+use Rattle.schema_values.specs.declared.json_value.Json.TheOpen.{Json-F}
+use Rattle.schema_values.specs.declared.json_value.Json.{Json, out-Json, Null, Bool as Truth, Int as Number, Text as Words, List as Items, Object}
 use Rattle.schema_values.specs.declared.json_value.Member.{Member}
 use Rattle.schema_values.specs.Member.{member}
 use Rattle.typed_values.specs.declared.desc.Desc.{Desc, out-Desc}
 use Rattle.typed_values.specs.declared.desc.Desc.TheOpen.{Desc-F}
 use Rattle.typed_values.specs.declared.desc.Field.{Field}
 use Rattle.typed_values.specs.declared.desc.Named.{Named}
+use Rattle.typed_values.specs.declared.desc.TaggedVariant.{TaggedVariant}
+use Rattle.typed_values.specs.declared.desc.Variant.{Variant}
 use Rattle.typed_values.specs.declared.desc.Presence.{Presence}
 use Rattle.typed_values.specs.declared.desc.Presence.TheVariants.{Required, Nullable, Skipped}
 use Rattle.typed_values.specs.declared.tree.Tree.{Tree}
 use Rattle.typed_values.specs.declared.tree.Tree.TheOpen.{Tree-F}
 use Rattle.typed_values.specs.declared.tree.Tree.TheFolds.{fold-Tree}
 use Rattle.typed_values.specs.declared.table.Definition.{Definition}
-use Rattle.typed_values.specs.Definitions.{definition}
+use Rattle.typed_values.specs.Definitions.{definition, tagged_name}
 use Rattle.typed_values.specs.Denotes.{room}
-use Rattle.typed_values.specs.Fits.{field_desc, alternative_at}
-use Rattle.typed_values.specs.Levels.{TreeOf, PairOf, same_pair}
+use Rattle.typed_values.specs.Fits.{field_desc, alternative_at, struct_of}
+use Rattle.typed_values.specs.Levels.{DescLevel, TreeOf, PairOf, same_pair}
 
 -- a tree as it is written: whether it is `None`, and its JSON with so many steps left under a descriptor
 pub record Writing : Type 0 where
@@ -98,8 +101,37 @@ abbrev pub choice_written : {X : Type 0} → (X → Desc → Json) → List Desc
 choice_written written ds (Tree-F.Variant i x) = written_if_there (written x) (alternative_at ds i)
 choice_written written ds _ = Null
 
+-- a variant: its name, or an object with what its payload is written as under its name
+abbrev pub variant_written : (Desc → Json) → Variant → Json
+variant_written written v = by_payload v.payload where
+  by_payload : Option Desc → Json
+  by_payload None = Words v.name
+  by_payload (Some d) = Object (member v.name (written d) ∷ [])
+
+-- the variant at a place, null where there is none
+abbrev pub at_place : {X : Type 0} → (X → Json) → Option X → Json
+at_place written None = Null
+at_place written (Some x) = written x
+
+-- a variant with its payload
+abbrev pub external_written : {X : Type 0} → (X → Desc → Json) → List Variant → TreeOf X → Json
+external_written written vs (Tree-F.Variant i x) = at_place (variant_written (written x)) (slice_get vs i)
+external_written written vs _ = Null
+
+-- the tag before the members of an object
+abbrev pub with_tag : List ℕ → List ℕ → Json → Json
+with_tag tag name json = by_kind (out-Json json) where
+  by_kind : Json-F Json Member → Json
+  by_kind (Json-F.Object ms) = Object (member tag (Words name) ∷ ms)
+  by_kind _ = Null
+
+-- the fields of a variant behind its tag
+abbrev pub tagged_written : {X : Type 0} → (X → Desc → Json) → List ℕ → List TaggedVariant → TreeOf X → Json
+tagged_written written tag vs (Tree-F.Variant i x) = at_place (λ v. with_tag tag (tagged_name v) (written x (struct_of v))) (slice_get vs i)
+tagged_written written tag vs _ = Null
+
 -- One row for each descriptor. `next` is how the same tree is written with one step less.
-abbrev pub written_by : {X : Type 0} → List Definition → (X → Bool) → (X → Desc → Json) → (Desc → Json) → Desc-F Desc Field → TreeOf X → Json
+abbrev pub written_by : {X : Type 0} → List Definition → (X → Bool) → (X → Desc → Json) → (Desc → Json) → DescLevel → TreeOf X → Json
 written_by table is_none written next Desc-F.Any tree = whole_written tree
 written_by table is_none written next Desc-F.Never tree = Null
 written_by table is_none written next Desc-F.Null tree = Null
@@ -112,6 +144,8 @@ written_by table is_none written next (Desc-F.Option d) tree = option_written (�
 written_by table is_none written next (Desc-F.List d min max) tree = items_written (λ x. written x d) tree
 written_by table is_none written next (Desc-F.Map d) tree = entries_written (λ x. written x d) tree
 written_by table is_none written next (Desc-F.Struct fs deny) tree = parts_written is_none written fs tree
+written_by table is_none written next (Desc-F.External vs) tree = external_written written vs tree
+written_by table is_none written next (Desc-F.Tagged tag vs) tree = tagged_written written tag vs tree
 written_by table is_none written next (Desc-F.Untagged ds) tree = choice_written written ds tree
 written_by table is_none written next (Desc-F.Ref name) tree = written_if_there next (definition table name)
 

@@ -5,21 +5,23 @@ use Rattle.std.specs.Ordering.{nat_cmp}
 use Rattle.std.specs.declared.cmp.Ordering.{Ordering}
 use Rattle.std.specs.declared.cmp.Ordering.TheVariants.{Less}
 use Rattle.schema_values.specs.SoundTest.{is_sound}
-use Rattle.typed_values.specs.declared.desc.Desc.{Desc, Null as NullDesc, Option as OptionOf, out-Desc}
+use Rattle.typed_values.specs.declared.desc.Desc.{Desc, Null as NullDesc, Option as OptionOf, Struct as StructOf, out-Desc}
 use Rattle.typed_values.specs.declared.desc.Desc.TheOpen.{Desc-F}
 use Rattle.typed_values.specs.declared.desc.Field.{Field}
 use Rattle.typed_values.specs.declared.desc.Named.{Named}
 use Rattle.typed_values.specs.declared.desc.IntKind.{IntKind}
+use Rattle.typed_values.specs.declared.desc.TaggedVariant.{TaggedVariant}
+use Rattle.typed_values.specs.declared.desc.Variant.{Variant}
 use Rattle.typed_values.specs.declared.desc.Presence.{Presence}
 use Rattle.typed_values.specs.declared.desc.Presence.TheVariants.{Required, Nullable, Skipped}
 use Rattle.typed_values.specs.declared.tree.Tree.{Tree}
 use Rattle.typed_values.specs.declared.tree.Tree.TheOpen.{Tree-F}
 use Rattle.typed_values.specs.declared.tree.Tree.TheFolds.{fold-Tree}
 use Rattle.typed_values.specs.declared.table.Definition.{Definition}
-use Rattle.typed_values.specs.Definitions.{definition}
+use Rattle.typed_values.specs.Definitions.{definition, tagged_fields}
 use Rattle.typed_values.specs.Bounds.{is_number_of, is_length_within}
 use Rattle.typed_values.specs.Denotes.{room}
-use Rattle.typed_values.specs.Levels.{TreeOf, PairOf, same_pair}
+use Rattle.typed_values.specs.Levels.{DescLevel, TreeOf, PairOf, same_pair}
 
 -- whether a tree fits, with so many steps left, a descriptor
 abbrev pub Fitting : Type 0
@@ -132,8 +134,21 @@ abbrev pub choice_fits : {X : Type 0} → (X → Desc → Bool) → List Desc �
 choice_fits fits ds (Tree-F.Variant i x) = if_there (fits x) (alternative_at ds i)
 choice_fits fits ds _ = false
 
+-- the descriptor of a payload: without one the tree is that of null
+abbrev pub payload_or_null : Option Desc → Desc
+payload_or_null None = NullDesc
+payload_or_null (Some d) = d
+
+-- the descriptor of a variant's payload
+abbrev pub payload_of : Variant → Desc
+payload_of v = payload_or_null v.payload
+
+-- the struct of a tagged variant's fields
+abbrev pub struct_of : TaggedVariant → Desc
+struct_of v = StructOf (tagged_fields v) false
+
 -- One row for each descriptor. `next` is whether the same tree fits with one step less.
-abbrev pub fits_by : {X : Type 0} → List Definition → (X → Desc → Bool) → (Desc → Bool) → Desc-F Desc Field → TreeOf X → Bool
+abbrev pub fits_by : {X : Type 0} → List Definition → (X → Desc → Bool) → (Desc → Bool) → DescLevel → TreeOf X → Bool
 fits_by table fits next Desc-F.Any tree = whole_fits tree
 fits_by table fits next Desc-F.Never tree = false
 fits_by table fits next Desc-F.Null tree = nought_fits tree
@@ -146,6 +161,8 @@ fits_by table fits next (Desc-F.Option d) tree = option_fits (λ x. fits x d) tr
 fits_by table fits next (Desc-F.List d min max) tree = items_fit (λ x. fits x d) min max tree
 fits_by table fits next (Desc-F.Map d) tree = entries_fit (λ x. fits x d) tree
 fits_by table fits next (Desc-F.Struct fs deny) tree = parts_fit fits fs tree
+fits_by table fits next (Desc-F.External vs) tree = choice_fits fits (map payload_of vs) tree
+fits_by table fits next (Desc-F.Tagged tag vs) tree = choice_fits fits (map struct_of vs) tree
 fits_by table fits next (Desc-F.Untagged ds) tree = choice_fits fits ds tree
 fits_by table fits next (Desc-F.Ref name) tree = if_there next (definition table name)
 

@@ -6,9 +6,8 @@ use Rattle.schema_values.specs.declared.json_value.Json.{Json, Null, Bool as Tru
 use Rattle.schema_values.specs.declared.json_value.Member.{Member}
 use Rattle.schema_values.specs.Member.{name_of, member}
 use Rattle.typed_values.specs.declared.desc.Desc.{Desc, out-Desc}
-use Rattle.typed_values.specs.declared.desc.Desc.TheOpen.{Desc-F, Field-F}
+use Rattle.typed_values.specs.declared.desc.Desc.TheOpen.{Desc-F, Field-F, TaggedVariant-F, Variant-F}
 use Rattle.typed_values.specs.declared.desc.Desc.TheFolds.{fold-Desc}
-use Rattle.typed_values.specs.declared.desc.Field.{Field}
 use Rattle.typed_values.specs.declared.desc.IntKind.{IntKind}
 use Rattle.typed_values.specs.declared.desc.IntKind.TheVariants.{I8, I16, I32, I64, U8, U16, U32, U64}
 use Rattle.typed_values.specs.declared.desc.Named.{Named}
@@ -16,6 +15,7 @@ use Rattle.typed_values.specs.declared.desc.Presence.{Presence}
 use Rattle.typed_values.specs.declared.desc.Presence.TheVariants.{Required, Nullable, Skipped}
 use Rattle.typed_values.specs.Definitions.{listed_name}
 use Rattle.typed_values.specs.Order.{sorted_by}
+use Rattle.typed_values.specs.Levels.{DescLevel, FieldOf, TaggedOf, VariantOf}
 
 -- a schema on the way: its annotations, and the members of its kind, which of a reference are `$ref` alone; and
 -- the truth value that it is where it says what other members are
@@ -119,7 +119,15 @@ least_shown U64 None = Some (pos 0)
 
 -- a field with the schema of its type
 abbrev pub DrawnField : Type 0
-DrawnField = Field-F Drawn (Unit {0})
+DrawnField = FieldOf Drawn
+
+-- a tagged variant with the schemas of its fields
+abbrev pub DrawnTagged : Type 0
+DrawnTagged = TaggedOf DrawnField
+
+-- a variant with the schema of its payload
+abbrev pub DrawnVariant : Type 0
+DrawnVariant = VariantOf Drawn
 
 -- a schema with a description, where there is one
 abbrev pub described : Option (List ℕ) → Drawn → Drawn
@@ -182,8 +190,41 @@ one_character = plain (of_type (codes "string") (if_count (Some 1) (codes "minLe
 abbrev pub other_members : Drawn → Json
 other_members s = option_map_or Truth s.truth (drawn_json s)
 
+-- a struct of such fields, its properties and its required names in order
+abbrev pub struct_drawn : List DrawnField → Bool → Drawn
+struct_drawn fs deny = plain (of_type (codes "object") (if_members (sorted_by name_of (map property_of fs)) (codes "properties")
+    (if_names (sorted_by same_name (required_names fs)) (codes "required") (if_denied deny))))
+
+-- the variants without payload, as the names of an enumeration
+abbrev pub bare_names : {X : Type 0} → List (VariantOf X) → List Named
+bare_names [] = []
+bare_names {X} (v ∷ vs) = unless_payload v.payload (bare_names vs) where
+  unless_payload : Option X → List Named → List Named
+  unless_payload None names = record { name = v.name; description = v.description } ∷ names
+  unless_payload (Some s) names = names
+
+-- a field that must be there
+abbrev pub required_field : List ℕ → Drawn → DrawnField
+required_field name s = record { name = name; desc = s; presence = Required; description = None }
+
+-- the variants with payload: each an object of the one property, and of no other
+abbrev pub payload_choices : List DrawnVariant → List Json
+payload_choices [] = []
+payload_choices (v ∷ vs) = with_payload v.payload (payload_choices vs) where
+  with_payload : Option Drawn → List Json → List Json
+  with_payload None choices = choices
+  with_payload (Some s) choices = drawn_json (described v.description (struct_drawn (required_field v.name s ∷ []) true)) ∷ choices
+
+-- the choices of an external enumeration: those of its names without payload, and then each payload
+abbrev pub external_choices : List DrawnVariant → List Json
+external_choices vs = choices_of (bare_names vs) ++ payload_choices vs
+
+-- a tagged variant: an object of the tag, which has the variant's name alone, and of its fields
+abbrev pub tagged_choice : List ℕ → DrawnTagged → Json
+tagged_choice tag v = drawn_json (described v.description (struct_drawn (required_field tag (enumerated (v.name ∷ [])) ∷ v.fields) false))
+
 -- one row for each descriptor
-abbrev pub drawn_step : Desc-F Drawn DrawnField → Drawn
+abbrev pub drawn_step : Desc-F Drawn DrawnField DrawnTagged DrawnVariant → Drawn
 drawn_step Desc-F.Any = all_or_none true
 drawn_step Desc-F.Never = all_or_none false
 drawn_step Desc-F.Null = null_alone
@@ -198,19 +239,27 @@ drawn_step (Desc-F.Option s) = record s { nullable = true; truth = None }
 drawn_step (Desc-F.List s min max) =
     plain (of_type (codes "array") (member (codes "items") (drawn_json s) ∷ if_count min (codes "minItems") (if_count max (codes "maxItems") [])))
 drawn_step (Desc-F.Map s) = plain (of_type (codes "object") (member (codes "additionalProperties") (other_members s) ∷ []))
-drawn_step (Desc-F.Struct fs deny) =
-    plain (of_type (codes "object") (if_members (sorted_by name_of (map property_of fs)) (codes "properties")
-    (if_names (sorted_by same_name (required_names fs)) (codes "required") (if_denied deny))))
+drawn_step (Desc-F.Struct fs deny) = struct_drawn fs deny
+drawn_step (Desc-F.External vs) = plain (member (codes "oneOf") (Items (external_choices vs)) ∷ [])
+drawn_step (Desc-F.Tagged tag vs) = plain (member (codes "oneOf") (Items (map (tagged_choice tag) vs)) ∷ [])
 drawn_step (Desc-F.Untagged ss) = plain (member (codes "anyOf") (Items (map drawn_json ss)) ∷ [])
 drawn_step (Desc-F.Ref name) = reference name
 
 -- a field of one level, with the schema of its type
-abbrev pub drawn_field : Field-F Drawn DrawnField → DrawnField
+abbrev pub drawn_field : Field-F Drawn DrawnField DrawnTagged DrawnVariant → DrawnField
 drawn_field f = record { name = f.name; desc = f.desc; presence = f.presence; description = f.description }
+
+-- a tagged variant of one level
+abbrev pub drawn_tagged : TaggedVariant-F Drawn DrawnField DrawnTagged DrawnVariant → DrawnTagged
+drawn_tagged v = record { name = v.name; description = v.description; fields = v.fields }
+
+-- a variant of one level
+abbrev pub drawn_variant : Variant-F Drawn DrawnField DrawnTagged DrawnVariant → DrawnVariant
+drawn_variant v = record { name = v.name; description = v.description; payload = v.payload }
 
 -- the schema of a descriptor, with its annotations apart
 abbrev pub drawn : Desc → Drawn
-drawn = fold-Desc Drawn DrawnField drawn_step drawn_field
+drawn = fold-Desc Drawn DrawnField DrawnTagged DrawnVariant drawn_step drawn_field drawn_tagged drawn_variant
 
 -- the schema of a descriptor
 abbrev pub schema_json : Desc → Json
@@ -219,7 +268,7 @@ schema_json d = drawn_json (drawn d)
 -- the schema of a type with its name, which a reference does not show
 abbrev pub titled : List ℕ → Desc → Drawn
 titled name d = by_form (out-Desc d) where
-  by_form : Desc-F Desc Field → Drawn
+  by_form : DescLevel → Drawn
   by_form (Desc-F.Ref other) = drawn d
   by_form _ = record (drawn d) { title = Some name }
 

@@ -1,7 +1,7 @@
 -- The schema of a descriptor as a `Schema` value.
 use Rattle.std.specs.Prelude.{ℕ, ℤ, Bool, true, false, not, List, [], ◌∷◌, ◌++◌, map, filter, Option, Some, None, if◌then◌else◌, codes}
 use Rattle.std.specs.List.{list_any}
-use Rattle.std.specs.Option.{option_map_or}
+use Rattle.std.specs.Option.{option_map, option_map_or}
 use Rattle.schema_values.specs.declared.json_value.Json.{Json, Text as Words}
 use Rattle.schema_values.specs.declared.schema.Schema.{Schema, Bool as Truth, Object}
 use Rattle.schema_values.specs.declared.schema.SchemaObject.{SchemaObject, SchemaObject-F, roll-SchemaObject}
@@ -16,15 +16,19 @@ use Rattle.schema_values.specs.declared.schema.NumberBounds.{NumberBounds}
 use Rattle.schema_values.specs.declared.schema.LengthBounds.{LengthBounds}
 use Rattle.schema_values.specs.declared.schema.Items.{Items, One}
 use Rattle.typed_values.specs.declared.desc.Desc.{Desc, out-Desc}
-use Rattle.typed_values.specs.declared.desc.Desc.TheOpen.{Desc-F, Field-F}
+use Rattle.typed_values.specs.declared.desc.Desc.TheOpen.{Desc-F, Field-F, TaggedVariant-F, Variant-F}
 use Rattle.typed_values.specs.declared.desc.Desc.TheFolds.{fold-Desc}
 use Rattle.typed_values.specs.declared.desc.Field.{Field}
 use Rattle.typed_values.specs.declared.desc.Named.{Named}
+use Rattle.typed_values.specs.declared.desc.TaggedVariant.{TaggedVariant}
+use Rattle.typed_values.specs.declared.desc.Variant.{Variant}
 use Rattle.typed_values.specs.declared.desc.Presence.{Presence}
 use Rattle.typed_values.specs.declared.desc.Presence.TheVariants.{Required, Nullable, Skipped}
 use Rattle.typed_values.specs.declared.table.Definition.{Definition}
+use Rattle.typed_values.specs.Definitions.{tagged_description, tagged_fields, tagged_name}
 use Rattle.typed_values.specs.Order.{sorted_by}
-use Rattle.typed_values.specs.SchemaTable.{format_of, least_shown, same_name, is_described}
+use Rattle.typed_values.specs.SchemaTable.{bare_names, format_of, least_shown, same_name, is_described}
+use Rattle.typed_values.specs.Levels.{DescLevel, FieldOf, TaggedOf, VariantOf}
 
 -- the parts of a schema object
 abbrev pub Parts : Type 0
@@ -96,7 +100,15 @@ sketch parts = record { parts = parts; truth = None }
 
 -- a field with the schema of its type
 abbrev pub FieldSketch : Type 0
-FieldSketch = Field-F Sketch (Unit {0})
+FieldSketch = FieldOf Sketch
+
+-- a tagged variant with the schemas of its fields
+abbrev pub TaggedSketch : Type 0
+TaggedSketch = TaggedOf FieldSketch
+
+-- a variant with the schema of its payload
+abbrev pub VariantSketch : Type 0
+VariantSketch = VariantOf Sketch
 
 -- the name of a property
 abbrev pub property_name : Property → List ℕ
@@ -130,6 +142,10 @@ abbrev pub struct_of : List Property → List (List ℕ) → Bool → Parts
 struct_of properties required deny = record (of_single types.Object) {
   object = Some (roll-ObjectParts (record { properties = properties; required = required; additional = nothing_more deny }));
 }
+
+-- a struct of such fields, its properties and its required names in order
+abbrev pub struct_parts : List FieldSketch → Bool → Parts
+struct_parts fs deny = struct_of (sorted_by property_name (map property_of fs)) (sorted_by same_name (required_names fs)) deny
 
 -- a choice of some schemas
 abbrev pub choice_of : List Schema → Parts
@@ -187,8 +203,29 @@ map_of values = record (of_single types.Object) {
   object = Some (roll-ObjectParts (record { properties = []; required = []; additional = Some values }));
 }
 
+-- a field that must be there
+abbrev pub required_field : List ℕ → Sketch → FieldSketch
+required_field name s = record { name = name; desc = s; presence = Required; description = None }
+
+-- the variants with payload: each an object of the one property, and of no other
+abbrev pub payload_choices : List VariantSketch → List Schema
+payload_choices [] = []
+payload_choices (v ∷ vs) = with_payload v.payload (payload_choices vs) where
+  with_payload : Option Sketch → List Schema → List Schema
+  with_payload None choices = choices
+  with_payload (Some s) choices = object_of (with_description v.description (struct_parts (required_field v.name s ∷ []) true)) ∷ choices
+
+-- the choices of an external enumeration: those of its names without payload, and then each payload
+abbrev pub external_choices : List VariantSketch → List Schema
+external_choices vs = choices_of (bare_names vs) ++ payload_choices vs
+
+-- a tagged variant: an object of the tag, which has the variant's name alone, and of its fields
+abbrev pub tagged_choice : List ℕ → TaggedSketch → Schema
+tagged_choice tag v =
+    object_of (with_description v.description (struct_parts (required_field tag (sketch (enumerated (Words v.name ∷ []))) ∷ v.fields) false))
+
 -- one row for each descriptor
-abbrev pub sketch_step : Desc-F Sketch FieldSketch → Sketch
+abbrev pub sketch_step : Desc-F Sketch FieldSketch TaggedSketch VariantSketch → Sketch
 sketch_step Desc-F.Any = all_or_none true
 sketch_step Desc-F.Never = all_or_none false
 sketch_step Desc-F.Null = sketch (of_single types.Null)
@@ -202,17 +239,27 @@ sketch_step (Desc-F.Option s) = sketch (with_null s.parts)
 sketch_step (Desc-F.List s min max) = sketch (list_of (object_of s.parts) min max)
 sketch_step (Desc-F.Map s) = sketch (map_of (other_members s))
 sketch_step (Desc-F.Struct fs deny) =
-    sketch (struct_of (sorted_by property_name (map property_of fs)) (sorted_by same_name (required_names fs)) deny)
+    sketch (struct_parts fs deny)
+sketch_step (Desc-F.External vs) = sketch (one_of (external_choices vs))
+sketch_step (Desc-F.Tagged tag vs) = sketch (one_of (map (tagged_choice tag) vs))
 sketch_step (Desc-F.Untagged ss) = sketch (choice_of (map (λ s. object_of s.parts) ss))
 sketch_step (Desc-F.Ref name) = sketch (record no_parts { reference = Some (codes "#/components/schemas/" ++ name) })
 
 -- a field of one level, with the sketch of its type
-abbrev pub field_sketch : Field-F Sketch FieldSketch → FieldSketch
+abbrev pub field_sketch : Field-F Sketch FieldSketch TaggedSketch VariantSketch → FieldSketch
 field_sketch f = record { name = f.name; desc = f.desc; presence = f.presence; description = f.description }
+
+-- a tagged variant of one level
+abbrev pub tagged_sketch : TaggedVariant-F Sketch FieldSketch TaggedSketch VariantSketch → TaggedSketch
+tagged_sketch v = record { name = v.name; description = v.description; fields = v.fields }
+
+-- a variant of one level
+abbrev pub variant_sketch : Variant-F Sketch FieldSketch TaggedSketch VariantSketch → VariantSketch
+variant_sketch v = record { name = v.name; description = v.description; payload = v.payload }
 
 -- the sketch of a descriptor's schema
 abbrev pub schema_sketch : Desc → Sketch
-schema_sketch = fold-Desc Sketch FieldSketch sketch_step field_sketch
+schema_sketch = fold-Desc Sketch FieldSketch TaggedSketch VariantSketch sketch_step field_sketch tagged_sketch variant_sketch
 
 -- the parts of a descriptor's schema
 abbrev pub schema_parts : Desc → Parts
@@ -221,6 +268,14 @@ schema_parts d = (schema_sketch d).parts
 -- a field with the sketch of its type
 abbrev pub sketch_of_field : Field → FieldSketch
 sketch_of_field f = record { name = f.name; desc = schema_sketch f.desc; presence = f.presence; description = f.description }
+
+-- a variant with the sketch of its payload
+abbrev pub sketch_of_variant : Variant → VariantSketch
+sketch_of_variant v = record { name = v.name; description = v.description; payload = option_map schema_sketch v.payload }
+
+-- a tagged variant with the sketches of its fields
+abbrev pub sketch_of_tagged : TaggedVariant → TaggedSketch
+sketch_of_tagged v = record { name = tagged_name v; description = tagged_description v; fields = map sketch_of_field (tagged_fields v) }
 
 -- the schema of a descriptor
 abbrev pub schema_value : Desc → Schema
@@ -233,6 +288,6 @@ definition_value e = object_of (with_description e.description (schema_parts e.d
 -- what stands in a header for a descriptor: an option is written as the schema of what it is over
 abbrev pub in_header : Desc → Desc
 in_header d = inner (out-Desc d) where
-  inner : Desc-F Desc Field → Desc
+  inner : DescLevel → Desc
   inner (Desc-F.Option x) = x
   inner _ = d

@@ -48,7 +48,7 @@ pub fn decode_json(
 impl Scope<'_> {
     /// Decodes a value under a descriptor that stands in the table or in the whole descriptor.
     #[cycle(decode)]
-    fn decode_at(&self, alloc: Global, desc: &Desc, json: &Json) -> Result<Tree, Stop>
+    pub(crate) fn decode_at(&self, alloc: Global, desc: &Desc, json: &Json) -> Result<Tree, Stop>
         requires { IsPart self.now.table.now self.now.whole.now desc.now }
         ensures { Tells result (told self.now.table.now self.now.whole.now json.now desc.now) }
     {
@@ -68,6 +68,10 @@ impl Scope<'_> {
                 fields,
                 deny_unknown,
             } => self.decode_struct(alloc, fields.as_slice(), *deny_unknown, json),
+            Desc::External { variants } => self.decode_external(alloc, variants.as_slice(), json),
+            Desc::Tagged { tag, variants } => {
+                self.decode_tagged(alloc, tag, variants.as_slice(), json)
+            }
             Desc::Untagged { alternatives } => self.decode_untagged(
                 alloc,
                 alternatives.as_slice(),
@@ -233,7 +237,7 @@ impl Scope<'_> {
 
     /// Decodes each field in order.
     #[cycle(decode)]
-    fn decode_fields(
+    pub(crate) fn decode_fields(
         &self,
         alloc: Global,
         fields: &[Field],

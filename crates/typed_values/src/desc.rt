@@ -55,6 +55,16 @@ pub enum Desc {
         fields: List<Field>,
         deny_unknown: bool,
     },
+    /// The name of a variant without payload, or an object of one member, whose name is that of a variant and
+    /// whose value is of its payload.
+    External {
+        variants: List<Variant>,
+    },
+    /// An object in which the member `tag` names a variant, beside the fields of that variant.
+    Tagged {
+        tag: Text,
+        variants: List<TaggedVariant>,
+    },
     /// The first alternative that takes the value.
     Untagged {
         alternatives: List<Desc>,
@@ -70,7 +80,25 @@ pub struct Named {
     pub description: Option<Text>,
 }
 
-/// A field of a struct.
+/// A variant of an external enumeration, with its payload if it has one.
+#[derive(Drop)]
+#[cycle(desc)]
+pub struct Variant {
+    pub name: Text,
+    pub description: Option<Text>,
+    pub payload: Option<Desc>,
+}
+
+/// A variant of a tagged enumeration. Its fields stand beside the tag.
+#[derive(Drop)]
+#[cycle(desc)]
+pub struct TaggedVariant {
+    pub name: Text,
+    pub description: Option<Text>,
+    pub fields: List<Field>,
+}
+
+/// A field of a struct, or of a tagged variant.
 #[derive(Drop)]
 #[cycle(desc)]
 pub struct Field {
@@ -126,6 +154,13 @@ impl Desc {
                 fields: copy_fields(alloc, fields.as_slice())?,
                 deny_unknown: *deny_unknown,
             }),
+            Desc::External { variants } => Ok(Desc::External {
+                variants: copy_variants(alloc, variants.as_slice())?,
+            }),
+            Desc::Tagged { tag, variants } => Ok(Desc::Tagged {
+                tag: tag.copy(alloc)?,
+                variants: copy_tagged(alloc, variants.as_slice())?,
+            }),
             Desc::Untagged { alternatives } => Ok(Desc::Untagged {
                 alternatives: copy_descs(alloc, alternatives.as_slice())?,
             }),
@@ -153,6 +188,37 @@ impl Named {
     }
 }
 
+impl Variant {
+    /// A variant equal to this one.
+    #[cycle(copy)]
+    pub fn copy(&self, alloc: Global) -> Result<Variant, AllocError>
+        ensures { IfOk result (λ copy. copy ≡ self.now) }
+    {
+        Ok(Variant {
+            name: self.name.copy(alloc)?,
+            description: copy_text(alloc, &self.description)?,
+            payload: match &self.payload {
+                Some(payload) => Some(payload.copy(alloc)?),
+                None => None,
+            },
+        })
+    }
+}
+
+impl TaggedVariant {
+    /// A variant equal to this one.
+    #[cycle(copy)]
+    pub fn copy(&self, alloc: Global) -> Result<TaggedVariant, AllocError>
+        ensures { IfOk result (λ copy. copy ≡ self.now) }
+    {
+        Ok(TaggedVariant {
+            name: self.name.copy(alloc)?,
+            description: copy_text(alloc, &self.description)?,
+            fields: copy_fields(alloc, self.fields.as_slice())?,
+        })
+    }
+}
+
 impl Field {
     /// A field equal to this one.
     #[cycle(copy)]
@@ -174,6 +240,28 @@ fn copy_names(alloc: Global, names: &[Named]) -> Result<List<Named>, AllocError>
     let mut copies = List::new(alloc);
     for name in names {
         copies.push(name.copy(alloc)?)?;
+    }
+    Ok(copies)
+}
+
+#[cycle(copy)]
+fn copy_variants(alloc: Global, variants: &[Variant]) -> Result<List<Variant>, AllocError>
+    ensures { IfOk result (λ copies. copies ≡ variants.now) }
+{
+    let mut copies = List::new(alloc);
+    for variant in variants {
+        copies.push(variant.copy(alloc)?)?;
+    }
+    Ok(copies)
+}
+
+#[cycle(copy)]
+fn copy_tagged(alloc: Global, variants: &[TaggedVariant]) -> Result<List<TaggedVariant>, AllocError>
+    ensures { IfOk result (λ copies. copies ≡ variants.now) }
+{
+    let mut copies = List::new(alloc);
+    for variant in variants {
+        copies.push(variant.copy(alloc)?)?;
     }
     Ok(copies)
 }

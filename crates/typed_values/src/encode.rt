@@ -1,4 +1,4 @@
-ghost use Rattle.std.specs.Prelude.{◌≡◌, map, IfOk};
+ghost use Rattle.std.specs.Prelude.{◌≡◌, ◌++◌, map, IfOk};
 ghost use Rattle.schema_values.specs.Sound.{IsSound};
 ghost use Rattle.typed_values.specs.declared.tree.Tree.{Tree, out-Tree};
 ghost use Rattle.typed_values.specs.Checks.{TablePasses, DescPasses};
@@ -90,7 +90,12 @@ fn is_none(tree: &Tree) -> bool
 // A tree that fits has the form that its descriptor asks for. Any other is written as null.
 impl Scope<'_> {
     #[cycle(encode)]
-    fn encode_at(&self, alloc: Global, desc: &Desc, tree: &Tree) -> Result<Json, AllocError>
+    pub(crate) fn encode_at(
+        &self,
+        alloc: Global,
+        desc: &Desc,
+        tree: &Tree,
+    ) -> Result<Json, AllocError>
         requires { IsPart self.now.table.now self.now.whole.now desc.now }
         ensures { IfOk result
             (λ json. json ≡ written_under self.now.table.now self.now.whole.now tree.now desc.now) }
@@ -106,6 +111,10 @@ impl Scope<'_> {
             Desc::List { item, .. } => self.encode_list(alloc, item.get(), tree),
             Desc::Map(value) => self.encode_map(alloc, value.get(), tree),
             Desc::Struct { fields, .. } => self.encode_struct(alloc, fields.as_slice(), tree),
+            Desc::External { variants } => self.encode_external(alloc, variants.as_slice(), tree),
+            Desc::Tagged { tag, variants } => {
+                self.encode_tagged(alloc, tag, variants.as_slice(), tree)
+            }
             Desc::Untagged { alternatives } => {
                 self.encode_choice(alloc, alternatives.as_slice(), tree)
             }
@@ -206,28 +215,28 @@ impl Scope<'_> {
             (written_under self.now.table.now self.now.whole.now) fields.now (out-Tree tree.now)) }
     {
         match tree {
-            Tree::Fields(trees) => Ok(Json::Object(self.encode_fields(
-                alloc,
-                fields,
-                trees.as_slice(),
-            )?)),
+            Tree::Fields(trees) => {
+                let members = List::new(alloc);
+                Ok(Json::Object(self.encode_fields(alloc, members, fields, trees.as_slice())?))
+            }
             _ => Ok(Json::Null),
         }
     }
 
+    /// The members of some fields, behind those that are given.
     #[cycle(encode)]
-    fn encode_fields(
+    pub(crate) fn encode_fields(
         &self,
         alloc: Global,
+        mut members: List<Member>,
         fields: &[Field],
         trees: &[Tree],
     ) -> Result<List<Member>, AllocError>
         requires { AreFieldsOf self.now.table.now self.now.whole.now fields.now }
-        ensures { IfOk result (λ members. members ≡ meant.members_written
+        ensures { IfOk result (λ all. all ≡ members ++ meant.members_written
             (λ t. meant.is_none_level (out-Tree t))
             (written_under self.now.table.now self.now.whole.now) fields.now trees.now) }
     {
-        let mut members = List::new(alloc);
         for (field, tree) in fields.iter().zip(trees) {
             if !is_left_out(field.presence, tree) {
                 let value = self.encode_field(alloc, field, tree)?;

@@ -1,6 +1,6 @@
 ghost use Rattle.std.specs.Prelude.{◌≡◌, ◌↔◌, IsTrue};
 
-use crate::desc::{Desc, Field, IntKind, Named};
+use crate::desc::{Desc, Field, IntKind, Named, TaggedVariant, Variant};
 use schema_values::Text;
 
 impl Desc {
@@ -33,6 +33,16 @@ impl Desc {
                     deny_unknown: deny,
                 },
             ) => { deny_unknown == deny && same_fields(fields.as_slice(), others.as_slice()) }
+            (Desc::External { variants }, Desc::External { variants: others }) => {
+                same_variants(variants.as_slice(), others.as_slice())
+            }
+            (
+                Desc::Tagged { tag, variants },
+                Desc::Tagged {
+                    tag: other,
+                    variants: others,
+                },
+            ) => { tag.equals(other) && same_tagged(variants.as_slice(), others.as_slice()) }
             (
                 Desc::Untagged { alternatives },
                 Desc::Untagged {
@@ -69,6 +79,30 @@ impl Named {
     }
 }
 
+impl Variant {
+    /// Whether two variants are the same.
+    #[cycle(equals)]
+    pub fn equals(&self, other: &Variant) -> bool
+        ensures { IsTrue result ↔ (self.now ≡ other.now) }
+    {
+        self.name.equals(&other.name)
+            && same_text(&self.description, &other.description)
+            && same_payload(&self.payload, &other.payload)
+    }
+}
+
+impl TaggedVariant {
+    /// Whether two variants are the same.
+    #[cycle(equals)]
+    pub fn equals(&self, other: &TaggedVariant) -> bool
+        ensures { IsTrue result ↔ (self.now ≡ other.now) }
+    {
+        self.name.equals(&other.name)
+            && same_text(&self.description, &other.description)
+            && same_fields(self.fields.as_slice(), other.fields.as_slice())
+    }
+}
+
 impl Field {
     /// Whether two fields are the same.
     #[cycle(equals)]
@@ -90,6 +124,47 @@ fn same_names(names: &[Named], others: &[Named]) -> bool
     }
     for (name, other) in names.iter().zip(others) {
         if !name.equals(other) {
+            return false;
+        }
+    }
+    true
+}
+
+#[cycle(equals)]
+fn same_payload(payload: &Option<Desc>, other: &Option<Desc>) -> bool
+    ensures { IsTrue result ↔ (payload.now ≡ other.now) }
+{
+    match (payload, other) {
+        (Some(payload), Some(other)) => payload.equals(other),
+        (None, None) => true,
+        _ => false,
+    }
+}
+
+#[cycle(equals)]
+fn same_variants(variants: &[Variant], others: &[Variant]) -> bool
+    ensures { IsTrue result ↔ (variants.now ≡ others.now) }
+{
+    if variants.len() != others.len() {
+        return false;
+    }
+    for (variant, other) in variants.iter().zip(others) {
+        if !variant.equals(other) {
+            return false;
+        }
+    }
+    true
+}
+
+#[cycle(equals)]
+fn same_tagged(variants: &[TaggedVariant], others: &[TaggedVariant]) -> bool
+    ensures { IsTrue result ↔ (variants.now ≡ others.now) }
+{
+    if variants.len() != others.len() {
+        return false;
+    }
+    for (variant, other) in variants.iter().zip(others) {
+        if !variant.equals(other) {
             return false;
         }
     }

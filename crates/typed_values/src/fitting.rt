@@ -1,13 +1,13 @@
-ghost use Rattle.std.specs.Prelude.{◌≡◌, ◌↔◌, IsTrue, length, map};
+ghost use Rattle.std.specs.Prelude.{◌≡◌, ◌↔◌, IsTrue, IfSome, length, map};
 ghost use Rattle.typed_values.specs.declared.tree.Tree.{out-Tree};
 ghost use Rattle.typed_values.specs.Checks.{TablePasses, DescPasses};
 ghost use Rattle.typed_values.specs.Fits as meant;
-ghost use Rattle.typed_values.specs.Fits.{Fits, fits_under, field_desc};
+ghost use Rattle.typed_values.specs.Fits.{Fits, fits_under, field_desc, payload_of, struct_of};
 ghost use Rattle.typed_values.specs.Parts.{IsPart};
-ghost use Rattle.typed_values.specs.Rows.{AreParts, AreFieldsOf};
+ghost use Rattle.typed_values.specs.Rows.{AreParts, AreFieldsOf, ArePayloadsOf, AreVariantsOf};
 
 use crate::bounds::{character_count, is_length_within, is_number_of};
-use crate::desc::{Desc, Field, IntKind, Named, Presence};
+use crate::desc::{Desc, Field, IntKind, Named, Presence, TaggedVariant, Variant};
 use crate::scope::Scope;
 use crate::table::DescTable;
 use crate::tree::{Pair, Tree};
@@ -99,6 +99,8 @@ impl Scope<'_> {
             Desc::List { item, min, max } => self.items_fit(item.get(), *min, *max, tree),
             Desc::Map(value) => self.entries_fit(value.get(), tree),
             Desc::Struct { fields, .. } => self.fields_fit(fields.as_slice(), tree),
+            Desc::External { variants } => self.external_fits(variants.as_slice(), tree),
+            Desc::Tagged { variants, .. } => self.tagged_fits(variants.as_slice(), tree),
             Desc::Untagged { alternatives } => self.choice_fits(alternatives.as_slice(), tree),
             Desc::Ref(name) => match self.table.find(name) {
                 Some(definition) => self.fits_at(definition, tree),
@@ -225,6 +227,48 @@ impl Scope<'_> {
         match field.presence {
             Presence::Required | Presence::Nullable => self.fits_at(&field.desc, tree),
             Presence::Skipped => self.option_fits(&field.desc, tree),
+        }
+    }
+
+    #[cycle(fits)]
+    fn external_fits(&self, variants: &[Variant], tree: &Tree) -> bool
+        requires { ArePayloadsOf self.now.table.now self.now.whole.now variants.now }
+        ensures { result ≡ meant.choice_fits (fits_under self.now.table.now self.now.whole.now)
+            (map payload_of variants.now) (out-Tree tree.now) }
+    {
+        match tree {
+            Tree::Variant(place, tree) => match variants.get(*place as usize) {
+                Some(variant) => self.payload_fits(&variant.payload, tree.get()),
+                None => false,
+            },
+            _ => false,
+        }
+    }
+
+    #[cycle(fits)]
+    fn payload_fits(&self, payload: &Option<Desc>, tree: &Tree) -> bool
+        requires { IfSome payload.now (IsPart self.now.table.now self.now.whole.now) }
+        ensures { result ≡ fits_under self.now.table.now self.now.whole.now tree.now
+            (meant.payload_or_null payload.now) }
+    {
+        match payload {
+            Some(payload) => self.fits_at(payload, tree),
+            None => nought_fits(tree),
+        }
+    }
+
+    #[cycle(fits)]
+    fn tagged_fits(&self, variants: &[TaggedVariant], tree: &Tree) -> bool
+        requires { AreVariantsOf self.now.table.now self.now.whole.now variants.now }
+        ensures { result ≡ meant.choice_fits (fits_under self.now.table.now self.now.whole.now)
+            (map struct_of variants.now) (out-Tree tree.now) }
+    {
+        match tree {
+            Tree::Variant(place, tree) => match variants.get(*place as usize) {
+                Some(variant) => self.fields_fit(variant.fields.as_slice(), tree.get()),
+                None => false,
+            },
+            _ => false,
         }
     }
 

@@ -1,14 +1,17 @@
 // What an error tells of a single descriptor.
-ghost use Rattle.std.specs.Prelude.{◌≢◌, ◌↔◌, IsTrue, map, Contains};
-ghost use Rattle.std.specs.List.{AllByRecursion};
+ghost use Rattle.std.specs.Prelude.{◌≡◌, ◌≢◌, ◌↔◌, IsTrue, map, Contains};
+ghost use Rattle.std.specs.List.{AllByRecursion, list_any};
 ghost use Rattle.schema_values.specs.Sound.{AreDistinct};
 ghost use Rattle.typed_values.specs.declared.desc.Field.{Field};
+ghost use Rattle.typed_values.specs.declared.desc.TaggedVariant.{TaggedVariant};
 ghost use Rattle.typed_values.specs.Causes.{Tells};
-ghost use Rattle.typed_values.specs.Checks.{HasDoubledName, IsDangling, IsEmptyChoice, IsNullOfNull};
-ghost use Rattle.typed_values.specs.Checks.{IsOption, IsBadField, HasBadPresence};
+ghost use Rattle.typed_values.specs.Checks as meant;
+ghost use Rattle.typed_values.specs.Definitions.{tagged_fields};
+ghost use Rattle.typed_values.specs.Checks.{HasDoubledName, names_of_fields, IsDangling, IsEmptyChoice};
+ghost use Rattle.typed_values.specs.Checks.{IsNullOfNull, HasTagClash, IsOption, IsBadField, HasBadPresence};
 
 use crate::check::TableError;
-use crate::desc::{Desc, Field, Presence};
+use crate::desc::{Desc, Field, Presence, TaggedVariant, Variant};
 use crate::order::HasName;
 use crate::ranges::are_bounds_right;
 use crate::search::takes_null;
@@ -24,6 +27,7 @@ pub(crate) fn tells(error: TableError, table: &DescTable, desc: &Desc) -> bool
         TableError::Dangling => is_dangling(table, desc),
         TableError::EmptyEnumeration => is_empty_choice(desc),
         TableError::NullOfNull => is_null_of_null(table, desc),
+        TableError::TagClash => has_tag_clash(desc),
         TableError::BadRange => !are_bounds_right(desc),
         TableError::BadPresence => has_bad_presence(table, desc),
         TableError::BadName | TableError::Unguarded(_) => false,
@@ -36,8 +40,24 @@ fn has_doubled_name(desc: &Desc) -> bool
     match desc {
         Desc::Struct { fields, .. } => !are_distinct(fields.as_slice()),
         Desc::Enumeration { names } => !are_distinct(names.as_slice()),
+        Desc::External { variants } => !are_distinct(variants.as_slice()),
+        Desc::Tagged { variants, .. } => {
+            !are_distinct(variants.as_slice()) || has_doubled_field(variants.as_slice())
+        }
         _ => false,
     }
+}
+
+fn has_doubled_field(variants: &[TaggedVariant]) -> bool
+    ensures { IsTrue result ↔
+        ((v : TaggedVariant) × Contains variants.now v × (AreDistinct (names_of_fields v) → ⊥)) }
+{
+    for variant in variants {
+        if !are_distinct(variant.fields.as_slice()) {
+            return true;
+        }
+    }
+    false
 }
 
 fn are_distinct<T: HasName>(items: &[T]) -> bool
@@ -79,8 +99,16 @@ fn is_empty_choice(desc: &Desc) -> bool
     match desc {
         Desc::Untagged { alternatives } => alternatives.is_empty(),
         Desc::Enumeration { names } => names.is_empty(),
+        Desc::External { variants } => !has_payload(variants.as_slice()),
+        Desc::Tagged { variants, .. } => variants.is_empty(),
         _ => false,
     }
+}
+
+fn has_payload(variants: &[Variant]) -> bool
+    ensures { result ≡ list_any meant.has_payload variants.now }
+{
+    variants.iter().any(|variant| variant.payload.is_some())
 }
 
 fn is_null_of_null(table: &DescTable, desc: &Desc) -> bool
@@ -92,13 +120,47 @@ fn is_null_of_null(table: &DescTable, desc: &Desc) -> bool
     }
 }
 
+fn has_tag_clash(desc: &Desc) -> bool
+    ensures { IsTrue result ↔ HasTagClash desc.now }
+{
+    match desc {
+        Desc::Tagged { tag, variants } => some_field_named(tag, variants.as_slice()),
+        _ => false,
+    }
+}
+
+fn some_field_named(name: &Text, variants: &[TaggedVariant]) -> bool
+    ensures { IsTrue result ↔ ((v : TaggedVariant) × (f : Field) × Contains variants.now v
+        × Contains (tagged_fields v) f × (f.name ≡ name.now)) }
+{
+    for variant in variants {
+        if !is_new_name(name, variant.fields.as_slice()) {
+            return true;
+        }
+    }
+    false
+}
+
 fn has_bad_presence(table: &DescTable, desc: &Desc) -> bool
     ensures { IsTrue result ↔ HasBadPresence table.now desc.now }
 {
     match desc {
         Desc::Struct { fields, .. } => some_bad_field(table, fields.as_slice()),
+        Desc::Tagged { variants, .. } => some_bad_variant(table, variants.as_slice()),
         _ => false,
     }
+}
+
+fn some_bad_variant(table: &DescTable, variants: &[TaggedVariant]) -> bool
+    ensures { IsTrue result ↔ ((v : TaggedVariant) × (f : Field) × Contains variants.now v
+        × Contains (tagged_fields v) f × IsBadField table.now f) }
+{
+    for variant in variants {
+        if some_bad_field(table, variant.fields.as_slice()) {
+            return true;
+        }
+    }
+    false
 }
 
 fn some_bad_field(table: &DescTable, fields: &[Field]) -> bool

@@ -4,8 +4,10 @@
 mod bounds;
 mod check;
 mod decode;
+mod decode_variants;
 mod desc;
 mod encode;
+mod encode_variants;
 mod equal;
 mod equal_trees;
 mod fault;
@@ -23,19 +25,16 @@ mod scalars;
 mod schema_names;
 mod schema_parts;
 mod schema_rows;
+mod schema_variants;
 mod schemas;
 mod scope;
 mod search;
 mod table;
-#[cfg(test)]
-mod tests;
 mod tree;
-#[cfg(test)]
-mod tree_tests;
 
 pub use check::{TableError, check_desc, check_table};
 pub use decode::decode_json;
-pub use desc::{Desc, Field, IntKind, Named, Presence};
+pub use desc::{Desc, Field, IntKind, Named, Presence, TaggedVariant, Variant};
 pub use encode::encode_json;
 pub use fault::{DecodeError, Fault, FaultKind};
 pub use fitting::fits;

@@ -2,9 +2,10 @@ ghost use Rattle.std.specs.Prelude.{◌≡◌, map, option_map, IfOk, OnOk};
 ghost use Rattle.std.specs.Cmp.Lexicographic.{slice_cmp};
 ghost use Rattle.std.specs.List.Sorted.{IsSortedByKey};
 ghost use Rattle.std.specs.Ordering.{nat_cmp};
+ghost use Rattle.typed_values.specs.Denotes.{named_from};
 ghost use Rattle.typed_values.specs.Order.{first_by, sorted_by};
 
-use crate::desc::{Field, Named};
+use crate::desc::{Field, Named, TaggedVariant, Variant};
 use schema_values::{Member, Property, Text};
 use std::alloc::{AllocError, Global};
 
@@ -58,6 +59,26 @@ impl HasName for Named {
     }
 }
 
+impl HasName for Variant {
+    ghost use Rattle.typed_values.specs.Definitions.{variant_name};
+
+    ghost name_of = { variant_name };
+
+    fn name(&self) -> &Text {
+        &self.name
+    }
+}
+
+impl HasName for TaggedVariant {
+    ghost use Rattle.typed_values.specs.Definitions.{tagged_name};
+
+    ghost name_of = { tagged_name };
+
+    fn name(&self) -> &Text {
+        &self.name
+    }
+}
+
 impl HasName for Member {
     ghost use Rattle.schema_values.specs.Member as member;
 
@@ -74,6 +95,19 @@ impl<T: HasName> HasName for &T {
     fn name(&self) -> &Text {
         (**self).name()
     }
+}
+
+/// The first item of a name, and its place.
+pub(crate) fn find_named<'a, T: HasName>(items: &'a [T], name: &Text) -> Option<(usize, &'a T)>
+    ensures { option_map (λ found. (found.0, found.1.now)) result
+        ≡ named_from T.name_of 0 items.now name.now }
+{
+    for (place, item) in items.iter().enumerate() {
+        if item.name().equals(name) {
+            return Some((place, item));
+        }
+    }
+    None
 }
 
 /// Puts items in the order of their names. Those of one name keep their order.

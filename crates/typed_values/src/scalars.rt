@@ -1,14 +1,14 @@
-ghost use Rattle.std.specs.Prelude.{◌≡◌, ◌≤◌, length};
+ghost use Rattle.std.specs.Prelude.{◌≤◌, length};
 ghost use Rattle.schema_values.specs.declared.json_value.Json.{out-Json};
 ghost use Rattle.typed_values.specs.Answer.{Tells};
-ghost use Rattle.typed_values.specs.Denotes.{nought, truth, character, number, words};
-ghost use Rattle.typed_values.specs.Denotes.{one_of_names, place_from};
+ghost use Rattle.typed_values.specs.Denotes.{nought, truth, character, number, words, one_of_names};
 
 use crate::bounds::{character_count, is_length_within, is_number_of};
 use crate::desc::{IntKind, Named};
 use crate::fault::{FaultKind, Stop};
+use crate::order::find_named;
 use crate::tree::Tree;
-use schema_values::{Boxed, Json, Text};
+use schema_values::{Boxed, Json};
 use std::alloc::Global;
 
 pub(crate) fn decode_null(alloc: Global, json: &Json) -> Result<Tree, Stop>
@@ -35,24 +35,12 @@ pub(crate) fn decode_name(alloc: Global, names: &[Named], json: &Json) -> Result
     ensures { Tells result (one_of_names names.now (out-Json json.now)) }
 {
     match json {
-        Json::Text(text) => match place_of(names, text) {
-            Some(place) => Ok(Tree::Variant(place as u32, Boxed::new(alloc, Tree::Unit)?)),
+        Json::Text(text) => match find_named(names, text) {
+            Some((place, _)) => Ok(Tree::Variant(place as u32, Boxed::new(alloc, Tree::Unit)?)),
             None => Err(Stop::refused(alloc, FaultKind::NotListed)),
         },
         _ => Err(Stop::refused(alloc, FaultKind::WrongKind)),
     }
-}
-
-/// The place of a name.
-fn place_of(names: &[Named], name: &Text) -> Option<usize>
-    ensures { result ≡ place_from 0 names.now name.now }
-{
-    for (place, named) in names.iter().enumerate() {
-        if named.name.equals(name) {
-            return Some(place);
-        }
-    }
-    None
 }
 
 pub(crate) fn decode_bool(alloc: Global, json: &Json) -> Result<Tree, Stop>

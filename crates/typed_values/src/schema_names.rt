@@ -26,7 +26,7 @@ fn is_any_described(names: &[Named]) -> bool
     names.iter().any(|named| named.description.is_some())
 }
 
-fn enumerated(values: List<Json>) -> SchemaObject
+pub(crate) fn enumerated(values: List<Json>) -> SchemaObject
     ensures { out-SchemaObject result ≡ meant.enumerated values }
 {
     let mut parts = of_single(InstanceType::String);
@@ -34,7 +34,7 @@ fn enumerated(values: List<Json>) -> SchemaObject
     parts
 }
 
-fn one_of(choices: List<Schema>) -> SchemaObject
+pub(crate) fn one_of(choices: List<Schema>) -> SchemaObject
     ensures { out-SchemaObject result ≡ meant.one_of choices }
 {
     let mut subschemas = no_subschemas();
@@ -55,7 +55,7 @@ fn texts_of(alloc: Global, names: &[Named]) -> Result<List<Json>, AllocError>
 }
 
 /// The names without description as one choice, if there are any, then each described name.
-fn choices_of(alloc: Global, names: &[Named]) -> Result<List<Schema>, AllocError>
+pub(crate) fn choices_of(alloc: Global, names: &[Named]) -> Result<List<Schema>, AllocError>
     ensures { IfOk result (λ choices. choices ≡ meant.choices_of names.now) }
 {
     let mut choices = plain_choice(alloc, plain_texts(alloc, names)?)?;

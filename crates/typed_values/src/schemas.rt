@@ -1,4 +1,4 @@
-ghost use Rattle.std.specs.Prelude.{◌≡◌, map, IfOk};
+ghost use Rattle.std.specs.Prelude.{◌≡◌, ◌++◌, map, IfOk};
 ghost use Rattle.schema_values.specs.declared.schema.SchemaObject.{out-SchemaObject};
 ghost use Rattle.typed_values.specs.declared.schemas.SchemaPlace.TheVariants.{Plain, Header};
 ghost use Rattle.typed_values.specs.Order.{sorted_by};
@@ -15,6 +15,7 @@ use crate::schema_rows::{
     char_parts, choice_parts, int_parts, list_parts, map_parts, never_parts, ref_parts,
     struct_parts, text_parts,
 };
+use crate::schema_variants::{external_parts, tagged_parts};
 use crate::table::{Definition, DescTable};
 use schema_values::{InstanceType, List, Property, Schema, SchemaObject, Text};
 use std::alloc::{AllocError, Global};
@@ -61,7 +62,7 @@ fn schema_at(alloc: Global, desc: &Desc) -> Result<Schema, AllocError>
 }
 
 #[cycle(schema)]
-fn parts_of(alloc: Global, desc: &Desc) -> Result<SchemaObject, AllocError>
+pub(crate) fn parts_of(alloc: Global, desc: &Desc) -> Result<SchemaObject, AllocError>
     ensures { IfOk result (λ parts. out-SchemaObject parts ≡ schema_parts desc.now) }
 {
     match desc {
@@ -83,10 +84,12 @@ fn parts_of(alloc: Global, desc: &Desc) -> Result<SchemaObject, AllocError>
             fields,
             deny_unknown,
         } => {
-            let properties = properties_of(alloc, fields.as_slice())?;
-            let required = required_names(alloc, fields.as_slice())?;
+            let properties = properties_of(alloc, Vec::new(alloc), fields.as_slice())?;
+            let required = required_names(alloc, Vec::new(alloc), fields.as_slice())?;
             Ok(struct_parts(properties, required, *deny_unknown))
         }
+        Desc::External { variants } => external_parts(alloc, variants.as_slice()),
+        Desc::Tagged { tag, variants } => tagged_parts(alloc, tag, variants.as_slice()),
         Desc::Untagged { alternatives } => {
             Ok(choice_parts(schemas_of(alloc, alternatives.as_slice())?))
         }
@@ -117,13 +120,16 @@ fn schemas_of(alloc: Global, descs: &[Desc]) -> Result<List<Schema>, AllocError>
     Ok(schemas)
 }
 
-/// The properties of fields, in the order of their names.
+/// Some properties and those of fields, in the order of their names.
 #[cycle(schema)]
-fn properties_of(alloc: Global, fields: &[Field]) -> Result<List<Property>, AllocError>
-    ensures { IfOk result (λ properties. properties ≡ sorted_by meant.property_name
-        (map meant.property_of (map meant.sketch_of_field fields.now))) }
+pub(crate) fn properties_of(
+    alloc: Global,
+    mut properties: Vec<Property>,
+    fields: &[Field],
+) -> Result<List<Property>, AllocError>
+    ensures { IfOk result (λ all. all ≡ sorted_by meant.property_name
+        (properties.items ++ map meant.property_of (map meant.sketch_of_field fields.now))) }
 {
-    let mut properties = Vec::new(alloc);
     for field in fields {
         let parts = parts_of(alloc, &field.desc)?;
         properties.push(property_of(alloc, field, parts)?)?;
@@ -143,12 +149,15 @@ fn property_of(alloc: Global, field: &Field, parts: SchemaObject) -> Result<Prop
     })
 }
 
-/// The names of the fields that must be there, in order.
-fn required_names(alloc: Global, fields: &[Field]) -> Result<List<Text>, AllocError>
-    ensures { IfOk result (λ names. names ≡ sorted_by same_name
-        (meant.required_names (map meant.sketch_of_field fields.now))) }
+/// Some names and those of the fields that must be there, in order.
+pub(crate) fn required_names(
+    alloc: Global,
+    mut names: Vec<Text>,
+    fields: &[Field],
+) -> Result<List<Text>, AllocError>
+    ensures { IfOk result (λ all. all ≡ sorted_by same_name
+        (names.items ++ meant.required_names (map meant.sketch_of_field fields.now))) }
 {
-    let mut names = Vec::new(alloc);
     for field in fields {
         if field.presence == Presence::Required {
             names.push(field.name.copy(alloc)?)?;

@@ -32,11 +32,13 @@ use Rattle.typed_values.proofs.Needed.{IsNeeded}
 use Rattle.typed_values.proofs.Rows.{two_maps}
 use Rattle.written_schemas.proofs.Notes.{noted, notes, notes_before}
 use Rattle.written_schemas.proofs.Composites.{is_list_of, wrapped_admits, reference_admits, choice_admits, one_admitted}
+use Rattle.written_schemas.proofs.Counted.{count, one_counted}
+use Rattle.written_schemas.proofs.Forms.{drawn_of}
 use Rattle.written_schemas.proofs.Enumerations.{enumerated_is, is_named, named_once, names_admit, ok_named, choices_counted}
 use Rattle.written_schemas.proofs.Maps.{is_map_of, as_other}
 use Rattle.written_schemas.proofs.Sorted.{all_sorted}
 use Rattle.written_schemas.proofs.Structs.{is_struct_of}
-use Rattle.written_schemas.proofs.Fields.{drawn_of, property, AgreesOn, struct_agrees}
+use Rattle.written_schemas.proofs.Fields.{property, AgreesOn, struct_agrees}
 
 module _ (table : List Definition) (whole : Desc) (doc : Json) (q : ℕ) where
   -- a schema admits null beside where an annotation says so, and else what denotes a tree
@@ -73,6 +75,10 @@ module _ (table : List Definition) (whole : Desc) (doc : Json) (q : ℕ) where
       ap (λ (x : Drawn). drawn_json (noted (extra || x.nullable) t s x)) e
       ∙ ap (λ (n : Bool). drawn_json (noted n t s (plain ms))) (or-false extra)
       ∙ ap Object (notes_before extra t s ms)
+
+  -- each field agrees at values where all that is needed does
+  abbrev pub FieldsAgree : List Field → Type 0
+  FieldsAgree fs = (f : Field) → Contains fs f → (v : Json) → Agrees v → AgreesAt v q f.desc
 
   module _ (j : Json) where
     -- a schema whose members say nothing of other schemas at this value
@@ -132,20 +138,20 @@ module _ (table : List Definition) (whole : Desc) (doc : Json) (q : ℕ) where
           ∙ sym (all_sorted member_name (λ m. is_ok (told table whole m.value x)) ms)
           ∙ sym (ok_entries (λ v. told table whole v x) ms)
 
-    values_agree : (fs : List Field) → ((f : Field) → Contains fs f → IsNeeded table whole f.desc) → (ms : List Member) → AllByRecursion (λ m. Agrees m.value) ms → AllByRecursion (λ m. AgreesOn table whole (smaller_admits doc q) fs m.value) ms
-    values_agree fs need [] h = tt
-    values_agree fs need (m ∷ ms) h = (λ f c. under_description m.value q f.desc f.description (h.0 f.desc (need f c)), values_agree fs need ms h.1)
+    values_agree : (fs : List Field) → FieldsAgree fs → (ms : List Member) → AllByRecursion (λ m. Agrees m.value) ms → AllByRecursion (λ m. AgreesOn table whole (smaller_admits doc q) fs m.value) ms
+    values_agree fs each [] h = tt
+    values_agree fs each (m ∷ ms) h = (λ f c. under_description m.value q f.desc f.description (each f c m.value h.0), values_agree fs each ms h.1)
 
-    pub object_agrees : (fs : List Field) (deny : Bool) → AreDistinct (map field_name fs) → ((f : Field) → Contains fs f → IsNeeded table whole f.desc) → (y : Json-F Json Member) → Below y
+    pub object_agrees : (fs : List Field) (deny : Bool) → AreDistinct (map field_name fs) → FieldsAgree fs → (y : Json-F Json Member) → Below y
         → is_struct_of (smaller_admits doc q) (sorted_by name_of (map property_of (map drawn_of fs))) (sorted_by same_name (required_names (map drawn_of fs))) deny y ≡ is_ok (struct_row table whole fs deny y)
-    object_agrees fs deny once need Json-F.Null h = refl
-    object_agrees fs deny once need (Json-F.Bool b) h = refl
-    object_agrees fs deny once need (Json-F.Int i) h = refl
-    object_agrees fs deny once need (Json-F.Text w) h = refl
-    object_agrees fs deny once need (Json-F.List js) h = refl
-    object_agrees fs deny once need (Json-F.Object ms) h =
+    object_agrees fs deny once each Json-F.Null h = refl
+    object_agrees fs deny once each (Json-F.Bool b) h = refl
+    object_agrees fs deny once each (Json-F.Int i) h = refl
+    object_agrees fs deny once each (Json-F.Text w) h = refl
+    object_agrees fs deny once each (Json-F.List js) h = refl
+    object_agrees fs deny once each (Json-F.Object ms) h =
         ap (λ (ps : List Member). is_struct_of (smaller_admits doc q) (sorted_by name_of ps) (sorted_by same_name (required_names (map drawn_of fs))) deny (Json-F.Object ms)) (two_maps property_of drawn_of property (λ f. refl) fs)
-        ∙ struct_agrees table whole (smaller_admits doc q) fs deny ms once h.1 (values_agree fs need ms h.0) (λ v. nothing_admitted v q)
+        ∙ struct_agrees table whole (smaller_admits doc q) fs deny ms once h.1 (values_agree fs each ms h.0) (λ v. nothing_admitted v q)
 
     some_agree : (next : Json → Bool) (ds : List Desc) → ((x : Desc) → Contains ds x → next (schema_json x) ≡ is_ok (told table whole j x))
         → list_any next (map drawn_json (map drawn ds)) ≡ list_any (λ x. is_ok (told table whole j x)) ds
@@ -163,32 +169,40 @@ module _ (table : List Definition) (whole : Desc) (doc : Json) (q : ℕ) where
         ∙ ap (λ (b : Bool). extra && is_null (out-Json j) || b)
         (and-true (list_any (admits_within doc q j k) (map drawn_json (map drawn ds))) ∙ some_agree (admits_within doc q j k) ds (λ x c. plainly j k x (each x c)) ∙ sym (ok_first (told table whole j) 0 ds) ∙ ap (λ (o : Told). is_ok o) (sym f))
 
+    -- exactly one of some schemas, of which no two admit the value
+    pub one_agrees : (d : Desc) (ss : List Json) (k : ℕ) (some : Bool) → drawn d ≡ plain (member (codes "oneOf") (Items ss) ∷ []) → count_by (admits_within doc q j k) ss ≡ count some
+        → some ≡ is_ok (told table whole j d) → AgreesAt j (suc k) d
+    one_agrees d ss k some e counted same extra t s =
+        ap (admits_within doc q j (suc k)) (noted_plain d extra t s None _ e)
+        ∙ admits-suc doc q j k _
+        ∙ one_admitted doc (smaller_admits doc q) (admits_within doc q j k) j extra t s (out-Json j) ss
+        ∙ ap (λ (b : Bool). extra && is_null (out-Json j) || b) (and-true (count_by (admits_within doc q j k) ss == 1) ∙ ap (λ (k : ℕ). k == 1) counted ∙ one_counted some ∙ same)
+
+    one_list : (k : ℕ) (names : List (List ℕ)) → admits_within doc q j (suc k) (drawn_json (enumerated names)) ≡ list_any (is_named (out-Json j)) names
+    one_list k names = ap (λ (x : Drawn). admits_within doc q j (suc k) (drawn_json x)) (enumerated_is names) ∙ admits-suc doc q j k _ ∙ names_admit doc (smaller_admits doc q) (admits_within doc q j k) j false None None names
+
+    one_name : (k : ℕ) (n : Named) → admits_within doc q j (suc k) (described_choice n) ≡ is_named (out-Json j) n.name
+    one_name k n = by_text n.description
+      where
+        by_text : (text : Option (List ℕ)) → admits_within doc q j (suc k) (drawn_json (described text (enumerated (n.name ∷ [])))) ≡ is_named (out-Json j) n.name
+        by_text None = one_list k (n.name ∷ []) ∙ or-false _
+        by_text (Some text) = admits-suc doc q j k _ ∙ names_admit doc (smaller_admits doc q) (admits_within doc q j k) j false None (Some text) (n.name ∷ []) ∙ or-false _
+
+    -- one choice admits a name that is listed, and none any other
+    pub names_counted : (ns : List Named) → AreDistinct (map listed_name ns) → (k : ℕ) → count_by (admits_within doc q j (suc k)) (choices_of ns) ≡ count (list_any (is_named (out-Json j)) (map listed_name ns))
+    names_counted ns once k = choices_counted (is_named (out-Json j)) (named_once (out-Json j)) (admits_within doc q j (suc k)) (one_list k) (one_name k) ns once
+
     -- an enumeration without descriptions is one list of names, and any other a choice of such lists
     module _ (d : Desc) (ns : List Named) (same : told table whole j d ≡ one_of_names ns (out-Json j)) (once : AreDistinct (map listed_name ns)) where
       named : list_any (is_named (out-Json j)) (map listed_name ns) ≡ is_ok (told table whole j d)
       named = sym (ok_named ns (out-Json j)) ∙ ap (λ (o : Told). is_ok o) (sym same)
 
-      one_list : (k : ℕ) (names : List (List ℕ)) → admits_within doc q j (suc k) (drawn_json (enumerated names)) ≡ list_any (is_named (out-Json j)) names
-      one_list k names = ap (λ (x : Drawn). admits_within doc q j (suc k) (drawn_json x)) (enumerated_is names) ∙ admits-suc doc q j k _ ∙ names_admit doc (smaller_admits doc q) (admits_within doc q j k) j false None None names
-
-      one_name : (k : ℕ) (n : Named) → admits_within doc q j (suc k) (described_choice n) ≡ is_named (out-Json j) n.name
-      one_name k n = by_text n.description
-        where
-          by_text : (text : Option (List ℕ)) → admits_within doc q j (suc k) (drawn_json (described text (enumerated (n.name ∷ [])))) ≡ is_named (out-Json j) n.name
-          by_text None = one_list k (n.name ∷ []) ∙ or-false _
-          by_text (Some text) = admits-suc doc q j k _ ∙ names_admit doc (smaller_admits doc q) (admits_within doc q j k) j false None (Some text) (n.name ∷ []) ∙ or-false _
-
-      plain_names : drawn d ≡ enumerated (map listed_name ns) → (k : ℕ) → AgreesAt j (suc k) d
-      plain_names e k = leaf d None _ _ (e ∙ enumerated_is (map listed_name ns)) (λ next extra t s. names_admit doc (smaller_admits doc q) next j extra t s (map listed_name ns)) named (suc k) (omega arith)
+      pub plain_names : drawn d ≡ enumerated (map listed_name ns) → (m : ℕ) → 1 ≤ m → AgreesAt j m d
+      plain_names e = leaf d None _ _ (e ∙ enumerated_is (map listed_name ns)) (λ next extra t s. names_admit doc (smaller_admits doc q) next j extra t s (map listed_name ns)) named
 
       described_names : drawn d ≡ plain (member (codes "oneOf") (Items (choices_of ns)) ∷ []) → (k : ℕ) → AgreesAt j (suc (suc k)) d
-      described_names e k extra t s =
-          let next = admits_within doc q j (suc k) in
-          ap (admits_within doc q j (suc (suc k))) (noted_plain d extra t s None _ e)
-          ∙ admits-suc doc q j (suc k) _
-          ∙ one_admitted doc (smaller_admits doc q) next j extra t s (out-Json j) (choices_of ns)
-          ∙ ap (λ (b : Bool). extra && is_null (out-Json j) || b)
-          (and-true (count_by next (choices_of ns) == 1) ∙ choices_counted (is_named (out-Json j)) (named_once (out-Json j)) next (one_list k) (one_name k) ns once ∙ named)
+      described_names e k =
+          one_agrees d (choices_of ns) (suc k) (list_any (is_named (out-Json j)) (map listed_name ns)) e (names_counted ns once k) named
 
       pub enumeration_agrees : drawn d ≡ enumeration ns → (m : ℕ) → 2 ≤ m → AgreesAt j m d
       enumeration_agrees e zero le = absurd (omega (arith, le))
@@ -197,7 +211,7 @@ module _ (table : List Definition) (whole : Desc) (doc : Json) (q : ℕ) where
         where
           by_test : (b : Bool) → drawn d ≡ cond b (plain (member (codes "oneOf") (Items (choices_of ns)) ∷ [])) (enumerated (map listed_name ns)) → AgreesAt j (suc (suc k)) d
           by_test true e = described_names e k
-          by_test false e = plain_names e (suc k)
+          by_test false e = plain_names e (suc (suc k)) (omega arith)
 
     null_or : (y : Json-F Json Member) (o : Told) → is_ok (optional y o) ≡ (is_null y || is_ok o)
     null_or Json-F.Null o = refl

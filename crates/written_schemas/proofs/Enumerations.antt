@@ -1,11 +1,10 @@
 -- What the schemas of enumerations admit: a text that is one of the names, which exactly one of their choices has.
-use Rattle.std.proofs.Common.{◌≡◌, ℕ, ◌+◌, Bool, true, false, ◌&&◌, ◌||◌, not, List, [], ◌∷◌, ◌++◌, map, filter, Option, Some, is_ok, count_by, bytes_eq, cond, ◌==◌, codes, refl, sym, ◌∙◌, ap, arith}
+use Rattle.std.proofs.Common.{◌≡◌, ℕ, ◌+◌, Bool, true, false, ◌&&◌, ◌||◌, not, List, [], ◌∷◌, ◌++◌, map, filter, Option, Some, is_ok, count_by, bytes_eq, cond, codes, refl, sym, ◌∙◌, ap, arith}
 use Rattle.std.proofs.Math.Bool.{and-false, and-true}
 use Rattle.std.proofs.lemmas.Bool.Decides.{same_from_decides}
 use Rattle.std.proofs.lemmas.List.Sums.{sum_by-append, sum_by-cons}
 use Rattle.std.proofs.lemmas.Slice.Eq.{bytes_eq-Decides}
-use Rattle.std.specs.List.{list_any, AllByRecursion}
-use Rattle.std.specs.Prelude.{◌≢◌}
+use Rattle.std.specs.List.{list_any}
 use Rattle.schema_values.specs.declared.json_value.Json.{Json, out-Json, Text as Words, List as Items, Object}
 use Rattle.schema_values.specs.declared.json_value.Json.TheOpen.{Json-F}
 use Rattle.schema_values.specs.declared.json_value.Json.TheVariants as json
@@ -20,8 +19,10 @@ use Rattle.openapi_values.specs.Rows.{is_listed}
 use Rattle.openapi_values.specs.JsonAdmits.{schema_admits}
 use Rattle.typed_values.specs.declared.desc.Named.{Named}
 use Rattle.typed_values.specs.Definitions.{listed_name}
-use Rattle.typed_values.specs.Denotes.{place_from, listed, one_of_names}
+use Rattle.typed_values.specs.declared.fault.FaultKind.TheVariants.{NotListed}
+use Rattle.typed_values.specs.Denotes.{refused, named_from, where_found, bare, one_of_names}
 use Rattle.typed_values.specs.SchemaTable.{plain, enumerated, is_described, described_choice, plain_choice, choices_of, drawn_json}
+use Rattle.written_schemas.proofs.Counted.{none_of, count, no_other, counted_map}
 use Rattle.written_schemas.proofs.Notes.{notes, noted_admits}
 use Rattle.written_schemas.proofs.Scalars.{type_row, never_admits}
 
@@ -29,10 +30,6 @@ use Rattle.written_schemas.proofs.Scalars.{type_row, never_admits}
 abbrev pub is_named : {X : Type 0} → Level X → List ℕ → Bool
 is_named (Json-F.Text w) name = bytes_eq w name
 is_named _ name = false
-
-no_name : (p : List ℕ → Bool) → ((name : List ℕ) → p name ≡ false) → (names : List (List ℕ)) → list_any p names ≡ false
-no_name p none [] = refl
-no_name p none (name ∷ names) = ap (λ (b : Bool). b || list_any p names) (none name) ∙ no_name p none names
 
 pub named_once : {X : Type 0} (j : Level X) (a b : List ℕ) → is_named j a ≡ true → is_named j b ≡ true → a ≡ b
 named_once Json-F.Null a b e f = absurd (cc e)
@@ -82,52 +79,41 @@ module _ (doc : Json) (smaller : Json → Json → Bool) (next : Json → Bool) 
       ∙ ap (λ (b : Bool). n && is_null (out-Json value) || b) (by_form names (out-Json value) refl)
     where
       by_form : (names : List (List ℕ)) (j : Level Json) → out-Json value ≡ j → (has_type (codes "string") j && (is_listed value (Items (map Words names)) && true)) ≡ list_any (is_named j) names
-      by_form names Json-F.Null e = sym (no_name _ (λ name. refl) names)
-      by_form names (Json-F.Bool b) e = sym (no_name _ (λ name. refl) names)
-      by_form names (Json-F.Int i) e = sym (no_name _ (λ name. refl) names)
+      by_form names Json-F.Null e = sym (none_of _ (λ name. refl) names)
+      by_form names (Json-F.Bool b) e = sym (none_of _ (λ name. refl) names)
+      by_form names (Json-F.Int i) e = sym (none_of _ (λ name. refl) names)
       by_form names (Json-F.Text w) e = and-true (is_listed value (Items (map Words names))) ∙ text_listed value w names e
-      by_form names (Json-F.List js) e = sym (no_name _ (λ name. refl) names)
-      by_form names (Json-F.Object ms) e = sym (no_name _ (λ name. refl) names)
+      by_form names (Json-F.List js) e = sym (none_of _ (λ name. refl) names)
+      by_form names (Json-F.Object ms) e = sym (none_of _ (λ name. refl) names)
 
 -- ---- what an enumeration denotes
 
-turned : (a b : List ℕ) → bytes_eq a b ≡ bytes_eq b a
+pub turned : (a b : List ℕ) → bytes_eq a b ≡ bytes_eq b a
 turned a b = same_from_decides (bytes_eq a b) (bytes_eq b a) (bytes_eq-Decides a b) (λ h. sym ((bytes_eq-Decides b a).0 h), λ e. (bytes_eq-Decides b a).1 (sym e))
 
-ok_listed : (i : ℕ) (ns : List Named) (w : List ℕ) → is_ok (listed (place_from i ns w)) ≡ list_any (bytes_eq w) (map listed_name ns)
+ok_listed : (i : ℕ) (ns : List Named) (w : List ℕ) → is_ok (where_found (refused NotListed) bare (named_from listed_name i ns w)) ≡ list_any (bytes_eq w) (map listed_name ns)
 ok_listed i [] w = refl
 ok_listed i (n ∷ ns) w = by_name (bytes_eq n.name w) (ok_listed (i + 1) ns w) ∙ ap (λ (b : Bool). b || list_any (bytes_eq w) (map listed_name ns)) (turned n.name w)
   where
-    by_name : (b : Bool) → is_ok (listed (place_from (i + 1) ns w)) ≡ list_any (bytes_eq w) (map listed_name ns) → is_ok (listed (cond b (Some i) (place_from (i + 1) ns w))) ≡ (b || list_any (bytes_eq w) (map listed_name ns))
+    by_name : (b : Bool) → is_ok (where_found (refused NotListed) bare (named_from listed_name (i + 1) ns w)) ≡ list_any (bytes_eq w) (map listed_name ns)
+        → is_ok (where_found (refused NotListed) bare (cond b (Some (i, n)) (named_from listed_name (i + 1) ns w))) ≡ (b || list_any (bytes_eq w) (map listed_name ns))
     by_name true e = refl
     by_name false e = e
 
 pub ok_named : {X : Type 0} (ns : List Named) (j : Level X) → is_ok (one_of_names ns j) ≡ list_any (is_named j) (map listed_name ns)
-ok_named ns Json-F.Null = sym (no_name _ (λ name. refl) (map listed_name ns))
-ok_named ns (Json-F.Bool b) = sym (no_name _ (λ name. refl) (map listed_name ns))
-ok_named ns (Json-F.Int i) = sym (no_name _ (λ name. refl) (map listed_name ns))
+ok_named ns Json-F.Null = sym (none_of _ (λ name. refl) (map listed_name ns))
+ok_named ns (Json-F.Bool b) = sym (none_of _ (λ name. refl) (map listed_name ns))
+ok_named ns (Json-F.Int i) = sym (none_of _ (λ name. refl) (map listed_name ns))
 ok_named ns (Json-F.Text w) = ok_listed 0 ns w
-ok_named ns (Json-F.List js) = sym (no_name _ (λ name. refl) (map listed_name ns))
-ok_named ns (Json-F.Object ms) = sym (no_name _ (λ name. refl) (map listed_name ns))
+ok_named ns (Json-F.List js) = sym (none_of _ (λ name. refl) (map listed_name ns))
+ok_named ns (Json-F.Object ms) = sym (none_of _ (λ name. refl) (map listed_name ns))
 
 -- ---- choices, of which exactly one has a name that is listed
-
--- one where a test holds, else nothing
-abbrev count : Bool → ℕ
-count b = cond b 1 0
 
 module _ (p : List ℕ → Bool) (once : (a b : List ℕ) → p a ≡ true → p b ≡ true → a ≡ b) where
   -- a name without description counts once, and each described one
   abbrev times : List Named → ℕ
   times ns = count (list_any p (map listed_name (filter (λ n. not (is_described n)) ns))) + count_by (λ n. p n.name) (filter is_described ns)
-
-  no_other : (name : List ℕ) (names : List (List ℕ)) → p name ≡ true → AllByRecursion (λ other. name ≢ other) names → list_any p names ≡ false
-  no_other name [] e h = refl
-  no_other name (other ∷ names) e h = by_test (p other) refl (no_other name names e h.1)
-    where
-      by_test : (b : Bool) → p other ≡ b → list_any p names ≡ false → (b || list_any p names) ≡ false
-      by_test true f later = absurd (h.0 (once name other e f))
-      by_test false f later = later
 
   plain_cons : (b : Bool) (n : Named) (ns : List Named) → list_any p (map listed_name (cond (not b) (n ∷ ns) ns)) ≡ (cond b false (p n.name) || list_any p (map listed_name ns))
   plain_cons true n ns = refl
@@ -154,7 +140,7 @@ module _ (p : List ℕ → Bool) (once : (a b : List ℕ) → p a ≡ true → p
       let others = filter is_described ns in
       ap (λ (b : Bool). count b + count_by (λ n. p n.name) (filter is_described (n ∷ ns))) (plain_cons (is_described n) n plains)
       ∙ ap (λ (k : ℕ). count (cond (is_described n) false (p n.name) || list_any p (map listed_name plains)) + k) (described_cons (is_described n) n others)
-      ∙ joined (is_described n) (p n.name) (list_any p (map listed_name plains)) (list_any p (map listed_name ns)) (count_by (λ n. p n.name) others) (times_once ns h.1) (λ e. no_other n.name (map listed_name ns) e h.0)
+      ∙ joined (is_described n) (p n.name) (list_any p (map listed_name plains)) (list_any p (map listed_name ns)) (count_by (λ n. p n.name) others) (times_once ns h.1) (λ e. no_other (λ name. name) p once n.name (map listed_name ns) e h.0)
 
   module _ (next : Json → Bool) (one_list : (names : List (List ℕ)) → next (drawn_json (enumerated names)) ≡ list_any p names) (one_name : (n : Named) → next (described_choice n) ≡ p n.name) where
     plain_counted : (names : List (List ℕ)) → count_by next (plain_choice names) ≡ count (list_any p names)
@@ -164,20 +150,11 @@ module _ (p : List ℕ → Bool) (once : (a b : List ℕ) → p a ≡ true → p
         let once : count_by next (choice ∷ []) ≡ count (next choice) + 0 = sum_by-cons (λ s. count (next s)) choice [] in
         omega (arith, once, ap count (one_list (name ∷ names)))
 
-    described_counted : (ns : List Named) → count_by next (map described_choice ns) ≡ count_by (λ n. p n.name) ns
-    described_counted [] = refl
-    described_counted (n ∷ ns) = omega (arith, described_counted ns, sum_by-cons (λ s. count (next s)) (described_choice n) (map described_choice ns), sum_by-cons (λ n. count (p n.name)) n ns, ap count (one_name n))
-
-    -- exactly one choice admits a name that is listed
-    pub choices_counted : (ns : List Named) → AreDistinct (map listed_name ns) → (count_by next (choices_of ns) == 1) ≡ list_any p (map listed_name ns)
+    -- one choice admits a name that is listed, and none any other
+    pub choices_counted : (ns : List Named) → AreDistinct (map listed_name ns) → count_by next (choices_of ns) ≡ count (list_any p (map listed_name ns))
     choices_counted ns h =
         let plains = plain_choice (map listed_name (filter (λ n. not (is_described n)) ns)) in
-        let others = map described_choice (filter is_described ns) in
-        let all : count_by next (plains ++ others) ≡ count_by next plains + count_by next others = sum_by-append (λ s. count (next s)) plains others in
-        let counted : count_by next (choices_of ns) ≡ count (list_any p (map listed_name ns)) =
-        omega (arith, all, plain_counted (map listed_name (filter (λ n. not (is_described n)) ns)), described_counted (filter is_described ns), times_once ns h) in
-        ap (λ (k : ℕ). k == 1) counted ∙ by_test (list_any p (map listed_name ns))
-      where
-        by_test : (b : Bool) → (count b == 1) ≡ b
-        by_test true = refl
-        by_test false = refl
+        let others = filter is_described ns in
+        let all : count_by next (plains ++ map described_choice others) ≡ count_by next plains + count_by next (map described_choice others) =
+        sum_by-append (λ s. count (next s)) plains (map described_choice others) in
+        omega (arith, all, plain_counted (map listed_name (filter (λ n. not (is_described n)) ns)), counted_map next (λ n. p n.name) described_choice others (λ n c. one_name n), times_once ns h)

@@ -22,16 +22,14 @@ use Rattle.typed_values.specs.Definitions.{field_name}
 use Rattle.typed_values.specs.Denotes.{value_named, is_declared, told, by_presence}
 use Rattle.typed_values.specs.Order.{sorted_by}
 use Rattle.typed_values.specs.Rows.{value_denotes, told_field, told_fields, told_struct}
-use Rattle.typed_values.specs.SchemaTable.{DrawnField, drawn, property_of, required_names, same_name}
+use Rattle.typed_values.specs.SchemaTable.{property_of, required_names, same_name}
 use Rattle.typed_values.proofs.Denoted.{ok_below, ok_just, ok_all, ok_struct}
 use Rattle.typed_values.proofs.Found.{contains_first, contains_later, other_name}
+use Rattle.written_schemas.proofs.Forms.{drawn_of}
 use Rattle.written_schemas.proofs.Structs.{all_same, is_struct_of, other_passes}
 use Rattle.written_schemas.proofs.Sorted.{all_sorted, any_sorted, first_sorted, absent, and_swapped}
 
--- a field with the schema of its type
-abbrev pub drawn_of : Field → DrawnField
-drawn_of f = record { name = f.name; desc = drawn f.desc; presence = f.presence; description = f.description }
-
+-- a field as it stands among the properties
 abbrev pub property : Field → Member
 property f = property_of (drawn_of f)
 

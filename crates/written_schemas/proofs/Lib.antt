@@ -1,4 +1,5 @@
 mod SchemaForms
+mod Induction
 mod SchemaMembers
 mod NotRefused
 mod DrawnParts
@@ -6,6 +7,7 @@ mod Written
 pub mod Notes
 pub mod Scalars
 pub mod Composites
+pub mod Counted
 pub mod Enumerations
 pub mod Structs
 pub mod Maps
@@ -13,8 +15,13 @@ pub mod Sorted
 pub mod Fields
 pub mod Costs
 pub mod Forms
+pub mod VariantForms
 pub mod Truths
+pub mod FoundByName
+pub mod ExternalVariants
+pub mod TaggedVariants
 pub mod AtOneValue
+pub mod VariantChoices
 pub mod Agreement
 pub mod Parts
 pub mod EachValue

@@ -1,7 +1,9 @@
 -- The schema of a descriptor is never refused.
-use Rattle.std.proofs.Common.{◌≡◌, ℕ, List, [], ◌∷◌, ◌++◌, map, filter, Option, Some, None, option_map, unwrap_or, Bool, true, false, if◌then◌else◌, refl, sym, ◌∙◌, ap, subst}
+use Rattle.std.proofs.Common.{◌≡◌, ℕ, List, [], ◌∷◌, ◌++◌, map, filter, Option, Some, None, option_map, unwrap_or, Bool, true, false, if◌then◌else◌, MatchOption, refl, sym, ◌∙◌, ap, subst}
 use Rattle.std.specs.List.{AllByRecursion, list_all, list_any}
 use Rattle.std.specs.Option.{option_map_or, option_or}
+use Rattle.std.specs.Prelude.{⊤}
+use Rattle.schema_values.specs.declared.json_value.Json.{Text as Words}
 use Rattle.schema_values.specs.declared.json_value.Json.TheVariants as json
 use Rattle.schema_values.specs.declared.schema.ArrayParts.{roll-ArrayParts}
 use Rattle.schema_values.specs.declared.schema.InstanceType.TheVariants.{Object, Array, String}
@@ -16,16 +18,22 @@ use Rattle.openapi_values.specs.declared.j2oas.J2oasError.TheVariants.{BadEnumVa
 use Rattle.openapi_values.specs.Refusal.{Refusal, Level, first_of, items_missing, is_value_of, values_refusal, object_step, refusal_of, array_refusal, object_parts_refusal, property_refusal, subschemas_inner}
 use Rattle.openapi_values.proofs.RefusalLevels.{truth-is, object-is, items-are, property-is, array-is, object_parts-are, one_kind-is, inner-is, parts-are}
 use Rattle.typed_values.specs.declared.desc.Desc.{Desc}
-use Rattle.typed_values.specs.declared.desc.Desc.TheFolds.{fold-roll-Desc, map-Desc, ind-Desc}
-use Rattle.typed_values.specs.declared.desc.Desc.TheOpen.{Desc-F, Field-F}
+use Rattle.typed_values.specs.declared.desc.Desc.TheOpen.{Desc-F}
+use Rattle.typed_values.specs.declared.desc.Desc.TheViews.{out-roll-Desc}
 use Rattle.typed_values.specs.declared.desc.Field.{Field}
 use Rattle.typed_values.specs.declared.desc.Named.{Named}
+use Rattle.typed_values.specs.declared.desc.Presence.{Presence}
+use Rattle.typed_values.specs.declared.desc.Presence.TheVariants.{Required}
+use Rattle.typed_values.specs.declared.desc.TaggedVariant.{TaggedVariant}
+use Rattle.typed_values.specs.declared.desc.Variant.{Variant}
+use Rattle.typed_values.specs.Definitions.{tagged_description, tagged_fields, tagged_name}
 use Rattle.typed_values.specs.Order.{sorted_by}
-use Rattle.typed_values.specs.SchemaTable.{is_described, same_name}
-use Rattle.typed_values.specs.Schemas.{Parts, Sketch, FieldSketch, object_of, no_parts, no_subschemas, of_single, annotatable, with_null, with_description, property_name, property_of, required_names, nothing_more, list_of, struct_of, map_of, choice_of, one_of, all_or_none, other_members, texts_of, not_described, enumerated, described_choice, plain_choice, choices_of, enumeration, sketch_step, field_sketch, schema_sketch, schema_parts, sketch_of_field, schema_value}
-use Rattle.typed_values.proofs.SchemaRows.{same_fields}
-use Rattle.written_schemas.proofs.SchemaForms.{StructParts, struct_parts, in_all_of, kept, wrapped, sketch_level}
+use Rattle.typed_values.specs.SchemaTable.{bare_names, is_described, same_name}
+use Rattle.typed_values.specs.Schemas.{Parts, Sketch, FieldSketch, object_of, no_parts, no_subschemas, of_single, annotatable, with_null, with_description, property_name, property_of, required_field, required_names, nothing_more, list_of, struct_parts, map_of, choice_of, one_of, all_or_none, other_members, texts_of, not_described, enumerated, described_choice, plain_choice, choices_of, enumeration, external_choices, payload_choices, tagged_choice, sketch, sketch_step, schema_sketch, schema_parts, sketch_of_field, sketch_of_tagged, sketch_of_variant, schema_value}
+use Rattle.typed_values.proofs.SchemaRows.{parts_row, sketch_level}
 use Rattle.typed_values.proofs.SortedLemmas.{all_sorted}
+use Rattle.written_schemas.proofs.Induction.{InField, InFields, InTagged, InVariant, KnownLevel, firsts, by_levels, each_holds}
+use Rattle.written_schemas.proofs.SchemaForms.{StructParts, object_parts, in_all_of, kept, wrapped}
 
 -- parts in which each part with schemas stands as its refusal
 abbrev level_of : Parts → Level SchemaObject-F
@@ -156,38 +164,65 @@ enumeration_taken ns = by_case (list_any is_described ns)
     by_case true = one_of_taken (choices_of ns) (choices_taken (not_described ns) (filter is_described ns))
     by_case false = listed_taken ns
 
--- ---- one row for each descriptor
+-- ---- structs
+
+property_taken : (name : List ℕ) (presence : Presence) (description : Option (List ℕ)) (s : Sketch) → Taken s.parts
+    → property_refusal (property_of (record { name = name; desc = s; presence = presence; description = description })) ≡ None
+property_taken name presence description s h =
+    property-is (property_of (record { name = name; desc = s; presence = presence; description = description })) ∙ described_taken description s.parts h
 
 abbrev IsTaken : Desc → Type 0
 IsTaken d = Taken (schema_parts d)
 
-abbrev Known : Type 0
-Known = (d : Desc) × IsTaken d
+abbrev AreTakenProperties : List Property → Type 0
+AreTakenProperties = AllByRecursion (λ (p : Property). property_refusal p ≡ None)
 
-abbrev KnownField : Type 0
-KnownField = (f : Field) × IsTaken f.desc
+properties_taken : (fs : List Field) → InFields IsTaken fs → AreTakenProperties (map property_of (map sketch_of_field fs))
+properties_taken [] h = tt
+properties_taken (f ∷ fs) h = (property_taken f.name f.presence f.description (schema_sketch f.desc) h.0, properties_taken fs h.1)
 
-properties_taken : (es : List KnownField) → AllByRecursion (λ (p : Property). property_refusal p ≡ None) (map property_of (map sketch_of_field (map (λ e. e.0) es)))
-properties_taken [] = tt
-properties_taken (e ∷ es) = (property-is (property_of (sketch_of_field e.0)) ∙ described_taken e.0.description (schema_parts e.0.desc) e.1, properties_taken es)
+struct_taken : (fs : List FieldSketch) (deny : Bool) → AreTakenProperties (map property_of fs) → Taken (struct_parts fs deny)
+struct_taken fs deny h =
+    object_taken (object_parts (sorted_by property_name (map property_of fs)) (sorted_by same_name (required_names fs)) deny)
+    (all_sorted (λ (p : Property). property_refusal p ≡ None) property_name (map property_of fs) h) (nothing_more_taken deny)
 
-alternatives_taken : (es : List Known) → AreTaken (map (λ (s : Sketch). object_of s.parts) (map schema_sketch (map (λ e. e.0) es)))
-alternatives_taken [] = tt
-alternatives_taken (e ∷ es) = (e.1, alternatives_taken es)
+-- ---- variants
 
-abbrev firsts : Desc-F Known KnownField → Desc-F Desc Field
-firsts = map-Desc Known KnownField Desc Field (λ e. e.0) (λ e. e.0)
+both_taken : (ss others : List Schema) → AreTaken ss → AreTaken others → AreTaken (ss ++ others)
+both_taken [] others h k = k
+both_taken (s ∷ ss) others h k = (h.0, both_taken ss others h.1 k)
 
-abbrev struct_parts_of : List FieldSketch → Bool → Parts
-struct_parts_of fs deny = struct_of (sorted_by property_name (map property_of fs)) (sorted_by same_name (required_names fs)) deny
+payloads_taken : (vs : List Variant) → AllByRecursion (InVariant IsTaken) vs → AreTaken (payload_choices (map sketch_of_variant vs))
+payloads_taken [] h = tt
+payloads_taken (v ∷ vs) h = by_payload v.payload h.0 (payloads_taken vs h.1)
+  where
+    by_payload : (payload : Option Desc) → MatchOption payload ⊤ IsTaken → AreTaken (payload_choices (map sketch_of_variant vs))
+        → AreTaken (payload_choices (record { name = v.name; description = v.description; payload = option_map schema_sketch payload } ∷ map sketch_of_variant vs))
+    by_payload None taken later = later
+    by_payload (Some x) taken later =
+        let field = required_field v.name (schema_sketch x) in
+        (described_taken v.description (struct_parts (field ∷ []) true) (struct_taken (field ∷ []) true (property_taken v.name Required None (schema_sketch x) taken, tt)), later)
 
-struct_taken : (es : List KnownField) (deny : Bool) → Taken (struct_parts_of (map sketch_of_field (map (λ e. e.0) es)) deny)
-struct_taken es deny =
-    let fs = map sketch_of_field (map (λ (e : KnownField). e.0) es) in
-    object_taken (struct_parts (sorted_by property_name (map property_of fs)) (sorted_by same_name (required_names fs)) deny)
-    (all_sorted (λ (p : Property). property_refusal p ≡ None) property_name (map property_of fs) (properties_taken es)) (nothing_more_taken deny)
+external_taken : (vs : List Variant) → AllByRecursion (InVariant IsTaken) vs → AreTaken (external_choices (map sketch_of_variant vs))
+external_taken vs h =
+    let names = bare_names (map sketch_of_variant vs) in
+    both_taken (choices_of names) (payload_choices (map sketch_of_variant vs)) (choices_taken (not_described names) (filter is_described names)) (payloads_taken vs h)
 
-taken_by : (y : Desc-F Known KnownField) → Taken (sketch_level (firsts y)).parts
+tagged_taken : (tag : List ℕ) (vs : List TaggedVariant) → AllByRecursion (InTagged IsTaken) vs → AreTaken (map (tagged_choice tag) (map sketch_of_tagged vs))
+tagged_taken tag [] h = tt
+tagged_taken tag (v ∷ vs) h =
+    let name = sketch (enumerated (Words (tagged_name v) ∷ [])) in
+    let fields = required_field tag name ∷ map sketch_of_field (tagged_fields v) in
+    let one = listed_taken (record { name = tagged_name v; description = None } ∷ []) in
+    (described_taken (tagged_description v) (struct_parts fields false) (struct_taken fields false (property_taken tag Required None name one, properties_taken (tagged_fields v) h.0)), tagged_taken tag vs h.1)
+
+-- ---- one row for each descriptor
+
+alternatives_taken : (ds : List Desc) → AllByRecursion IsTaken ds → AreTaken (map (λ (s : Sketch). object_of s.parts) (map schema_sketch ds))
+alternatives_taken [] h = tt
+alternatives_taken (d ∷ ds) h = (h.0, alternatives_taken ds h.1)
+
+taken_by : (y : KnownLevel IsTaken) → Taken (sketch_level (firsts IsTaken y)).parts
 taken_by Desc-F.Any = by_parts _
 taken_by Desc-F.Never = nothing_taken
 taken_by Desc-F.Null = by_parts _
@@ -199,12 +234,11 @@ taken_by (Desc-F.Enumeration ns) = enumeration_taken ns
 taken_by (Desc-F.Option e) = null_taken (schema_parts e.0) e.1
 taken_by (Desc-F.List e min max) = list_taken (schema_parts e.0) min max e.1
 taken_by (Desc-F.Map e) = map_taken (schema_sketch e.0) e.1
-taken_by (Desc-F.Struct es deny) = ap (λ (fs : List FieldSketch). refusal_of (object_of (struct_parts_of fs deny))) (same_fields (map (λ (e : KnownField). e.0) es)) ∙ struct_taken es deny
-taken_by (Desc-F.Untagged es) = choice_taken (map (λ (s : Sketch). object_of s.parts) (map schema_sketch (map (λ (e : Known). e.0) es))) (alternatives_taken es)
+taken_by (Desc-F.Struct es deny) = struct_taken _ deny (properties_taken (map (λ e. e.0) es) (each_holds (InField IsTaken) es))
+taken_by (Desc-F.External es) = one_of_taken _ (external_taken (map (λ e. e.0) es) (each_holds (InVariant IsTaken) es))
+taken_by (Desc-F.Tagged tag es) = one_of_taken _ (tagged_taken tag (map (λ e. e.0) es) (each_holds (InTagged IsTaken) es))
+taken_by (Desc-F.Untagged es) = choice_taken _ (alternatives_taken (map (λ e. e.0) es) (each_holds IsTaken es))
 taken_by (Desc-F.Ref name) = by_parts (sketch_step (Desc-F.Ref name)).parts
 
 pub never_refused : (d : Desc) → refusal_of (schema_value d) ≡ None
-never_refused = ind-Desc IsTaken (λ f. IsTaken f.desc) (λ x y is.
-    let h = subst (λ (z : Desc-F Desc Field). Taken (sketch_level z).parts) is (taken_by y) in
-    subst (λ (s : Sketch). Taken s.parts) (sym (fold-roll-Desc Sketch FieldSketch sketch_step field_sketch x)) h)
-    (λ x y is. subst (λ (z : Field-F Desc Field). IsTaken z.desc) is y.desc.1)
+never_refused = by_levels IsTaken (λ y. subst Taken (sym (parts_row _ (firsts IsTaken y) (out-roll-Desc (firsts IsTaken y)))) (taken_by y))

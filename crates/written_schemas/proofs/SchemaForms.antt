@@ -8,13 +8,9 @@ use Rattle.schema_values.specs.declared.schema.Property.{Property}
 use Rattle.schema_values.specs.declared.schema.Schema.{Schema}
 use Rattle.schema_values.specs.declared.schema.SchemaObject.{SchemaObject}
 use Rattle.schema_values.specs.declared.schema.Subschemas.{Subschemas, roll-Subschemas}
-use Rattle.typed_values.specs.declared.desc.Desc.{Desc}
-use Rattle.typed_values.specs.declared.desc.Desc.TheFolds.{fold-Field, map-Desc}
-use Rattle.typed_values.specs.declared.desc.Desc.TheOpen.{Desc-F}
-use Rattle.typed_values.specs.declared.desc.Field.{Field}
 use Rattle.typed_values.specs.declared.desc.Named.{Named}
 use Rattle.typed_values.specs.SchemaTable.{is_described}
-use Rattle.typed_values.specs.Schemas.{Parts, Sketch, FieldSketch, object_of, no_parts, no_subschemas, annotatable, nothing_more, one_of, choices_of, enumerated, texts_of, enumeration, sketch_step, field_sketch, schema_sketch}
+use Rattle.typed_values.specs.Schemas.{Parts, object_of, no_parts, no_subschemas, annotatable, nothing_more, one_of, choices_of, enumerated, texts_of, enumeration}
 
 abbrev pub of_reference : List ℕ → Parts
 of_reference name = record no_parts { reference = Some (codes "#/components/schemas/" ++ name) }
@@ -27,8 +23,8 @@ in_all_of p = roll-Subschemas (record no_subschemas { all_of = Some (object_of p
 abbrev pub StructParts : Type 0
 StructParts = ObjectParts-F Items Schema ArrayParts ObjectParts Property SchemaObject Subschemas
 
-abbrev pub struct_parts : List Property → List (List ℕ) → Bool → StructParts
-struct_parts properties required deny = record { properties = properties; required = required; additional = nothing_more deny }
+abbrev pub object_parts : List Property → List (List ℕ) → Bool → StructParts
+object_parts properties required deny = record { properties = properties; required = required; additional = nothing_more deny }
 
 module _ (p : Parts) where
   pub kept : p.reference ≡ None → annotatable p ≡ p
@@ -52,9 +48,3 @@ enumeration_is_free ns = by_case (list_any is_described ns)
     by_case : (b : Bool) → (if b then one_of (choices_of ns) else enumerated (texts_of ns)).reference ≡ None
     by_case true = refl
     by_case false = refl
-
-abbrev pub folded_field : Field → FieldSketch
-folded_field = fold-Field Sketch FieldSketch sketch_step field_sketch
-
-abbrev pub sketch_level : Desc-F Desc Field → Sketch
-sketch_level x = sketch_step (map-Desc Desc Field Sketch FieldSketch schema_sketch folded_field x)

@@ -22,7 +22,7 @@ use Rattle.typed_values.specs.declared.desc.IntKind.{IntKind}
 use Rattle.typed_values.specs.SchemaTable.{nothing, if_true, if_text, if_number, if_count, if_members, if_names, if_denied, of_type, format_of, reference}
 use Rattle.typed_values.specs.Schemas.{Parts, object_of, of_single, no_subschemas, number_bounds, length_bounds, nothing_more, list_of, struct_of, map_of, choice_of, one_of, all_or_none}
 use Rattle.typed_values.proofs.Rows.{two_maps}
-use Rattle.written_schemas.proofs.SchemaForms.{StructParts, struct_parts, of_reference, in_all_of}
+use Rattle.written_schemas.proofs.SchemaForms.{StructParts, object_parts, of_reference, in_all_of}
 
 -- ---- a schema by its parts
 
@@ -165,7 +165,7 @@ pub struct_members : (properties : List Property) (required : List (List ℕ)) (
     ≡ of_type (codes "object") (if_members (map property_member properties) (codes "properties") (if_names required (codes "required") (if_denied deny)))
 struct_members properties required deny =
     let denied = present (codes "additionalProperties") (option_map additional_json (option_map schema_written (nothing_more deny))) [] in
-    object_members (struct_parts properties required deny)
+    object_members (object_parts properties required deny)
     ∙ ap (of_type (codes "object")) (
     members_if (map pair_member (map property_written properties)) (codes "properties") (present (codes "required") (names_json required) denied)
     ∙ ap (λ (ms : List Member). if_members ms (codes "properties") (present (codes "required") (names_json required) denied)) (two_maps pair_member property_written property_member (λ p. refl) properties)

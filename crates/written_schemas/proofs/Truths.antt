@@ -3,9 +3,9 @@ use Rattle.std.proofs.Common.{◌≡◌, Bool, true, false, map, Some, None, con
 use Rattle.std.specs.List.{list_any}
 use Rattle.typed_values.specs.declared.desc.Desc.{Desc, out-Desc}
 use Rattle.typed_values.specs.declared.desc.Desc.TheOpen.{Desc-F}
-use Rattle.typed_values.specs.declared.desc.Field.{Field}
 use Rattle.typed_values.specs.Definitions.{listed_name}
 use Rattle.typed_values.specs.SchemaTable.{Drawn, drawn, drawn_step, is_described}
+use Rattle.typed_values.specs.Levels.{DescLevel}
 use Rattle.written_schemas.proofs.Enumerations.{enumerated_is}
 use Rattle.written_schemas.proofs.Forms.{drawn_level, drawn_row}
 
@@ -17,13 +17,13 @@ module _ (d : Desc) (b : Bool) (told : (drawn d).truth ≡ Some b) where
   abbrev IsTruth : Type 0
   IsTruth = ((out-Desc d ≡ Desc-F.Any) × (b ≡ true)) ⊎ ((out-Desc d ≡ Desc-F.Never) × (b ≡ false))
 
-  not_told : (z : Desc-F Desc Field) → out-Desc d ≡ z → (drawn_step (drawn_level z)).truth ≡ None → IsTruth
+  not_told : (z : DescLevel) → out-Desc d ≡ z → (drawn_step (drawn_level z)).truth ≡ None → IsTruth
   not_told z e none = absurd (let never : Some b ≡ None = sym told ∙ ap (λ (s : Drawn). s.truth) (drawn_row d z e) ∙ none in cc never)
 
-  is_told : (z : Desc-F Desc Field) → out-Desc d ≡ z → (c : Bool) → (drawn_step (drawn_level z)).truth ≡ Some c → b ≡ c
+  is_told : (z : DescLevel) → out-Desc d ≡ z → (c : Bool) → (drawn_step (drawn_level z)).truth ≡ Some c → b ≡ c
   is_told z e c f = let same : Some b ≡ Some c = sym told ∙ ap (λ (s : Drawn). s.truth) (drawn_row d z e) ∙ f in cc same
 
-  by_form : (z : Desc-F Desc Field) → out-Desc d ≡ z → IsTruth
+  by_form : (z : DescLevel) → out-Desc d ≡ z → IsTruth
   by_form Desc-F.Any e = inl (e, is_told Desc-F.Any e true refl)
   by_form Desc-F.Never e = inr (e, is_told Desc-F.Never e false refl)
   by_form Desc-F.Null e = not_told _ e refl
@@ -36,6 +36,8 @@ module _ (d : Desc) (b : Bool) (told : (drawn d).truth ≡ Some b) where
   by_form (Desc-F.List x min max) e = not_told _ e refl
   by_form (Desc-F.Map x) e = not_told _ e refl
   by_form (Desc-F.Struct fs deny) e = not_told _ e refl
+  by_form (Desc-F.External vs) e = not_told _ e refl
+  by_form (Desc-F.Tagged tag vs) e = not_told _ e refl
   by_form (Desc-F.Untagged ds) e = not_told _ e refl
   by_form (Desc-F.Ref name) e = not_told _ e refl
 

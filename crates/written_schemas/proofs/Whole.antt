@@ -7,12 +7,12 @@ use Rattle.openapi_values.specs.JsonAdmits.{admits_within}
 use Rattle.openapi_values.specs.Room.{values, room}
 use Rattle.typed_values.specs.declared.desc.Desc.{Desc, out-Desc}
 use Rattle.typed_values.specs.declared.desc.Desc.TheOpen.{Desc-F}
-use Rattle.typed_values.specs.declared.desc.Field.{Field}
 use Rattle.typed_values.specs.declared.table.Definition.{Definition}
 use Rattle.typed_values.specs.declared.tree.Tree.{Tree}
 use Rattle.typed_values.specs.Denotes.{Told, told, room as table_room}
 use Rattle.typed_values.specs.Parts.{the_whole}
 use Rattle.typed_values.specs.SchemaTable.{drawn, drawn_json, schema_json, schema_json_titled, schema_json_described}
+use Rattle.typed_values.specs.Levels.{DescLevel}
 use Rattle.typed_values.proofs.Needed.{of_whole}
 use Rattle.typed_values.proofs.Soundness.{passes_is_sound}
 use Rattle.written_schemas.specs.Written.{IsWritten, AdmitsDenoted, StepsSuffice}
@@ -30,7 +30,7 @@ module _ (doc : Json) (table : List Definition) (desc : Desc) (written : IsWritt
   pub agree_with : (q : ℕ) → values doc + bare desc ≤ q → (json : Json) → IsSoundValue json → (t s : Option (List ℕ))
       → admits_within doc q json q (drawn_json (noted (drawn desc).nullable t s (drawn desc))) ≡ is_ok (told table desc json desc)
   agree_with q enough json sound t s =
-      agree table desc doc q written.table_passes written.desc_passes (passes_is_sound table desc written.table_passes written.desc_passes) written.defined
+      agree table desc doc q written.table_passes written.desc_passes (passes_is_sound table desc written.table_passes written.desc_passes) written.defined (omega (arith, enough))
       (λ d need. omega (arith, cost_bounded table desc doc written.table_passes written.defined (table_room table desc) d need, enough))
       json sound desc (of_whole the_whole) false t s
 
@@ -60,7 +60,7 @@ module _ (doc : Json) (table : List Definition) (desc : Desc) (written : IsWritt
     titled_is : (name : List ℕ) → P (schema_json_titled name desc)
     titled_is name = by_form (out-Desc desc) refl
       where
-        by_form : (z : Desc-F Desc Field) → out-Desc desc ≡ z → P (schema_json_titled name desc)
+        by_form : (z : DescLevel) → out-Desc desc ≡ z → P (schema_json_titled name desc)
         by_form Desc-F.Any e = rw e (each (Some name) (drawn desc).description)
         by_form Desc-F.Never e = rw e (each (Some name) (drawn desc).description)
         by_form Desc-F.Null e = rw e (each (Some name) (drawn desc).description)
@@ -73,6 +73,8 @@ module _ (doc : Json) (table : List Definition) (desc : Desc) (written : IsWritt
         by_form (Desc-F.List x min max) e = rw e (each (Some name) (drawn desc).description)
         by_form (Desc-F.Map x) e = rw e (each (Some name) (drawn desc).description)
         by_form (Desc-F.Struct fs deny) e = rw e (each (Some name) (drawn desc).description)
+        by_form (Desc-F.External vs) e = rw e (each (Some name) (drawn desc).description)
+        by_form (Desc-F.Tagged tag vs) e = rw e (each (Some name) (drawn desc).description)
         by_form (Desc-F.Untagged ds) e = rw e (each (Some name) (drawn desc).description)
         by_form (Desc-F.Ref other) e = rw e plain_is
 

@@ -7,7 +7,7 @@ pub fn int(kind: IntKind, min: Option<i128>, max: Option<i128>) -> Desc {
     Desc::Int { kind, min, max }
 }
 
-fn text(min: Option<u32>, max: Option<u32>) -> Desc {
+pub fn text(min: Option<u32>, max: Option<u32>) -> Desc {
     Desc::Text {
         min,
         max,

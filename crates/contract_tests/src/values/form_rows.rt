@@ -4,7 +4,7 @@
 type Row = (&'static str, &'static str, &'static str);
 
 /// Values that denote a tree, and the tree as `shown` writes it.
-pub const TREE_ROWS: [Row; 35] = [
+pub const TREE_ROWS: [Row; 52] = [
     // Any: every JSON value.
     ("Any", "null", "<null>"),
     ("Any", "true", "<true>"),
@@ -64,10 +64,37 @@ pub const TREE_ROWS: [Row; 35] = [
     ("Mixed", "7", "1:7"),
     ("Mixed", "[null]", "2:[<null>]"),
     ("Mixed", "{}", "3:{}"),
+    // External enumerations: the name of a variant without payload, or an object of a variant with payload.
+    ("Shape", r#""dot""#, "0:unit"),
+    ("Shape", r#"{"box":{"w":3}}"#, "1:(3 -)"),
+    ("Shape", r#"{"box":{"w":3,"h":4}}"#, "1:(3 +4)"),
+    ("Shape", r#"{"box":{"h":null,"d":1,"w":3}}"#, "1:(3 -)"),
+    ("Term", r#"{"num":-128}"#, "0:-128"),
+    ("Term", r#"{"neg":{"neg":{"num":3}}}"#, "1:1:0:3"),
+    ("Term", r#"{"maybe":null}"#, "2:-"),
+    ("Term", r#"{"neg":{"maybe":7}}"#, "1:2:+7"),
+    ("Card", r#""ace""#, "0:unit"),
+    ("Card", r#"{"number":9}"#, "1:9"),
+    ("Card", r#""king""#, "2:unit"),
+    // Tagged enumerations: the tag, and the fields of the variant that it names.
+    ("Event", r#"{"kind":"open"}"#, "0:()"),
+    ("Event", r#"{"x":"any","kind":"open"}"#, "0:()"),
+    ("Event", r#"{"kind":"move","x":-1}"#, "1:(-1 -)"),
+    (
+        "Event",
+        r#"{"x":5,"note":"n","kind":"move","z":0}"#,
+        "1:(5 +'n')",
+    ),
+    ("Drawing", r#"{"shapes":[]}"#, "([] -)"),
+    (
+        "Drawing",
+        r#"{"last":{"kind":"open"},"shapes":["dot",{"box":{"w":1}}]}"#,
+        "([0:unit 1:(1 -)] +0:())",
+    ),
 ];
 
 /// Values that denote none, and the text of the fault.
-pub const FAULT_ROWS: [Row; 40] = [
+pub const FAULT_ROWS: [Row; 70] = [
     // Any: every JSON value.
     ("Any", "1.5", "not JSON"),
     // Never: none.
@@ -145,4 +172,60 @@ pub const FAULT_ROWS: [Row; 40] = [
     ("Mixed", "[]", "no alternative fits"),
     ("Mixed", r#""blue""#, "no alternative fits"),
     ("Mixed", "null", "no alternative fits"),
+    // External enumerations.
+    ("Shape", r#"{"box":{"w":256}}"#, "box.w: value out of range"),
+    ("Shape", r#"{"dot":null}"#, "unknown variant"),
+    ("Shape", r#"{"box":[3,null]}"#, "box: invalid type"),
+    ("Shape", r#""box""#, "unknown variant"),
+    ("Shape", r#""round""#, "unknown variant"),
+    ("Shape", r#"{"round":1}"#, "unknown variant"),
+    ("Shape", r#"{"box":{}}"#, "box: missing field `w`"),
+    ("Shape", "{}", "invalid type"),
+    ("Shape", r#"{"box":{"w":3},"dot":null}"#, "invalid type"),
+    ("Shape", "null", "invalid type"),
+    ("Shape", "0", "invalid type"),
+    ("Shape", r#"["dot"]"#, "invalid type"),
+    (
+        "Term",
+        r#"{"neg":{"neg":{"num":300}}}"#,
+        "neg.neg.num: value out of range",
+    ),
+    ("Term", r#"{"neg":"num"}"#, "neg: unknown variant"),
+    ("Term", r#"{"maybe":true}"#, "maybe: invalid type"),
+    ("Card", r#""number""#, "unknown variant"),
+    ("Card", r#"{"king":null}"#, "unknown variant"),
+    // Tagged enumerations.
+    ("Event", "{}", "missing field `kind`"),
+    ("Event", r#"{"x":1}"#, "missing field `kind`"),
+    ("Event", r#"{"kind":1}"#, "kind: invalid type"),
+    ("Event", r#"{"kind":null}"#, "kind: invalid type"),
+    ("Event", r#"{"kind":"shut"}"#, "kind: unknown variant"),
+    ("Event", r#"{"kind":"move"}"#, "missing field `x`"),
+    (
+        "Event",
+        r#"{"kind":"move","x":128}"#,
+        "x: value out of range",
+    ),
+    (
+        "Event",
+        r#"{"kind":"move","x":1,"note":null}"#,
+        "note: invalid type",
+    ),
+    ("Event", r#""open""#, "invalid type"),
+    ("Event", "[]", "invalid type"),
+    (
+        "Drawing",
+        r#"{"shapes":["dot",{"box":{"w":-1}}]}"#,
+        "shapes[1].box.w: value out of range",
+    ),
+    (
+        "Drawing",
+        r#"{"shapes":[],"last":{"kind":"shut"}}"#,
+        "last.kind: unknown variant",
+    ),
+    (
+        "Drawing",
+        r#"{"shapes":[],"last":{}}"#,
+        "last: missing field `kind`",
+    ),
 ];

@@ -92,7 +92,7 @@ const MIXED: &str = r##"{
 }"##;
 
 /// What each form is written as, where that is short.
-const SHORT_SCHEMAS: [(&str, &str); 12] = [
+const SHORT_SCHEMAS: [(&str, &str); 15] = [
     ("Any", "{}"),
     ("Never", r#"{"not":{}}"#),
     ("Null", r#"{"type":"string","enum":[null]}"#),
@@ -105,7 +105,30 @@ const SHORT_SCHEMAS: [(&str, &str); 12] = [
     ("Letters", LETTERS),
     ("Values", r#"{"type":"object","additionalProperties":true}"#),
     ("Empty", r#"{"type":"object","additionalProperties":false}"#),
+    ("Shape", SHAPE),
+    ("Card", CARD),
+    ("Event", EVENT),
 ];
+
+const SHAPE: &str = concat!(
+    r#"{"oneOf":[{"type":"string","enum":["dot"]},{"type":"object","properties":{"box":{"type":"object","#,
+    r#""properties":{"h":{"nullable":true,"type":"integer","format":"uint8","minimum":0},"#,
+    r#""w":{"type":"integer","format":"uint8","minimum":0}},"required":["w"]}},"required":["box"],"#,
+    r#""additionalProperties":false}]}"#
+);
+
+const CARD: &str = concat!(
+    r#"{"oneOf":[{"type":"string","enum":["king"]},{"description":"one","type":"string","enum":["ace"]},"#,
+    r#"{"description":"two to ten","type":"object","properties":{"number":{"type":"integer","#,
+    r#""format":"uint8","minimum":0}},"required":["number"],"additionalProperties":false}]}"#
+);
+
+const EVENT: &str = concat!(
+    r#"{"oneOf":[{"type":"object","properties":{"kind":{"type":"string","enum":["open"]}},"#,
+    r#""required":["kind"]},{"description":"a step","type":"object","properties":{"kind":{"type":"string","#,
+    r#""enum":["move"]},"note":{"type":"string"},"x":{"type":"integer","format":"int8"}},"#,
+    r#""required":["kind","x"]}]}"#
+);
 
 const MOOD: &str = concat!(
     r#"{"oneOf":[{"description":"good","type":"string","enum":["glad"]},"#,

@@ -1,5 +1,6 @@
-//! A definition of each form: any value, none, null, characters, enumerations and maps.
+//! A definition of each form: any value, none, null, characters, enumerations of every kind, and maps.
 use crate::values::definitions::{define, int, list, named, option, push};
+use crate::values::variants::define_variants;
 use schema_values::{Boxed, List, Text};
 use std::alloc::{AllocError, Global};
 use typed_values::{Desc, DescTable, IntKind, Named, Presence};
@@ -81,5 +82,6 @@ pub fn forms(alloc: Global) -> Result<DescTable, AllocError> {
     define(&mut table, "Empty", map(alloc, Desc::Never)?)?;
     define(&mut table, "Bag", bag(alloc)?)?;
     define(&mut table, "Mixed", mixed(alloc)?)?;
+    define_variants(alloc, &mut table)?;
     Ok(table)
 }

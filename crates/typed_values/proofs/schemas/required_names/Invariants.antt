@@ -3,4 +3,5 @@ use Rattle.typed_values.specs.Schemas.{required_names, sketch_of_field}
 use Rattle.typed_values.proofs.schemas.required_names.Given as goal
 
 abbrev pub invariant-loop-field : goal.invariant-loop-field
-invariant-loop-field l = required_names (map sketch_of_field l.fields) ≡ l.names.items ++ required_names (map sketch_of_field (drop l.field-index l.fields))
+invariant-loop-field l =
+    l.fn.names.items ++ required_names (map sketch_of_field l.fields) ≡ l.names.items ++ required_names (map sketch_of_field (drop l.field-index l.fields))

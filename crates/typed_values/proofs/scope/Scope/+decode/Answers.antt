@@ -1,26 +1,35 @@
-use Rattle.std.proofs.Common.{ℕ, suc, true, ◌≡◌, ◌+◌, List, map, refl, sym, ◌∙◌, ap, arith, length, drop, Bor}
-use Rattle.std.proofs.lemmas.List.{length-map}
+use Rattle.std.proofs.Common.{ℕ, suc, true, ◌≡◌, ◌+◌, List, map, refl, sym, ◌∙◌, ap, arith, length, drop, Bor, ◌<◌, ◌∷◌, Option, subst, get_or}
+use Rattle.std.proofs.lemmas.List.{length-map, get_or-map}
 use Rattle.std.proofs.lemmas.Result.{err_from_is_err_and}
+use Rattle.std.specs.Prelude.{IfSome}
 use Rattle.std.specs.declared.result.Result.{Result}
-use denote.Param.Weighed.{most}
+use denote.Param.Weighed.{most, at_most}
 use Rattle.schema_values.specs.declared.json_value.Json.{Json, out-Json, size-Json}
 use Rattle.schema_values.specs.declared.json_value.Json.TheVariants as json
 use Rattle.schema_values.specs.declared.json_value.Member.{Member, size-Member}
+use Rattle.std.specs.declared.result.Result.TheVariants.{Err}
+use Rattle.schema_values.proofs.DistinctLemmas.{sorted_from_adjacent}
+use Rattle.typed_values.specs.declared.desc.Desc.{Desc}
 use Rattle.typed_values.specs.declared.desc.Field.{Field}
-use Rattle.typed_values.specs.declared.fault.Place.TheVariants.{Item}
+use Rattle.typed_values.specs.declared.fault.Place.TheVariants.{Item, Name}
 use Rattle.typed_values.specs.declared.tree.Pair.{Pair}
 use Rattle.typed_values.specs.declared.tree.Tree.{Tree, List as Items, Map as Entries, Fields as Parts}
+use Rattle.typed_values.specs.Answer.{Tells}
 use Rattle.typed_values.specs.Bounds.{is_length_within}
-use Rattle.typed_values.specs.Denotes.{Told, below, told, all_told, as_tree, member_name}
+use Rattle.typed_values.specs.Definitions.{tagged_name, variant_name}
+use Rattle.typed_values.specs.Denotes.{Told, below, chosen, told, all_told, as_tree, member_name}
 use Rattle.typed_values.specs.Faults.{Trouble}
 use Rattle.typed_values.specs.Order.{sorted_by}
+use Rattle.typed_values.specs.Parts.{IsPart}
 use Rattle.typed_values.specs.Rows.{told_item, told_entry, told_field}
-use Rattle.typed_values.proofs.Arms.{row_any, row_never, row_nought, row_bool, row_char, row_int, row_text, row_enumeration, row_option, row_list, row_map, row_struct, row_untagged, row_ref, definition_is_part, no_dangling}
-use Rattle.typed_values.proofs.Inside.{part_of_option, part_of_list, part_of_map, parts_of_untagged, fields_of_struct, few_names, few_alternatives}
+use Rattle.typed_values.proofs.Arms.{row_any, row_never, row_nought, row_bool, row_char, row_int, row_text, row_enumeration, row_option, row_list, row_map, row_struct, row_external, row_tagged, row_untagged, row_ref, definition_is_part, no_dangling, payload_at, chosen_err}
+use Rattle.typed_values.proofs.Inside.{part_of_option, part_of_list, part_of_map, parts_of_untagged, fields_of_struct, payloads_of_external, variants_of_tagged, few_names, few_variants, few_tagged, few_alternatives}
+use Rattle.typed_values.proofs.Listed.{place_below, found_inside}
 use Rattle.typed_values.proofs.Loops.{after, all_step, all_err, all_end, items_within}
 use Rattle.typed_values.proofs.JsonSizes.{size_list, item_smaller, member_greater, entry_at_most, value_smaller, members-lt-alone}
-use Rattle.typed_values.proofs.Measure.{option-lt, ref-lt, choice-lt-at, at-lt-choice, alone-lt-at, at-lt-alone, alone-le-alone}
+use Rattle.typed_values.proofs.Measure.{option-lt, ref-lt, choice-lt-at, at-lt-choice, alone-lt-at, at-lt-alone, alone-le-alone, size_alone}
 use Rattle.typed_values.proofs.Places.{taken_behind}
+use Rattle.typed_values.proofs.Ordered.{sorted_stays}
 use Rattle.typed_values.proofs.scope.Scope.+decode.Goals as goal
 
 abbrev lent : List (Bor Member) → List Member
@@ -89,6 +98,28 @@ decode_at-decode_struct-requires t c =
 pub decode_at-returns-in-Struct : goal.decode_at-returns-in-Struct
 decode_at-returns-in-Struct t c =
     rw (row_struct _ _ c.args.json.now c.args.desc.now (c.args.self.now.sound _ c.requires) c.in-Struct.fields c.in-Struct.deny_unknown c.in-Struct.is, ← c.as_slice-in-Struct.ensures) c.decode_struct.ensures
+
+pub decode_at-decode_external-requires : goal.decode_at-decode_external-requires
+decode_at-decode_external-requires t c =
+    let less = alone-lt-at c.args.self.now.table.now c.args.self.now.whole.now (size-Json c.args.json.now) c.args.desc.now in
+    let parts = payloads_of_external c.requires c.in-External.variants c.in-External.is in
+    let few = few_variants c.requires c.args.self.now.ranged c.in-External.variants c.in-External.is in
+    rw c.as_slice-in-External.ensures (omega (arith, c.decreases, less), (parts, few))
+
+pub decode_at-returns-in-External : goal.decode_at-returns-in-External
+decode_at-returns-in-External t c =
+    rw (row_external _ _ c.args.json.now c.args.desc.now (c.args.self.now.sound _ c.requires) c.in-External.variants c.in-External.is, ← c.as_slice-in-External.ensures) c.decode_external.ensures
+
+pub decode_at-decode_tagged-requires : goal.decode_at-decode_tagged-requires
+decode_at-decode_tagged-requires t c =
+    let less = alone-lt-at c.args.self.now.table.now c.args.self.now.whole.now (size-Json c.args.json.now) c.args.desc.now in
+    let parts = variants_of_tagged c.requires c.in-Tagged.tag c.in-Tagged.variants c.in-Tagged.is in
+    let few = few_tagged c.requires c.args.self.now.ranged c.in-Tagged.tag c.in-Tagged.variants c.in-Tagged.is in
+    rw c.as_slice-in-Tagged.ensures (omega (arith, c.decreases, less), (parts, few))
+
+pub decode_at-returns-in-Tagged : goal.decode_at-returns-in-Tagged
+decode_at-returns-in-Tagged t c =
+    rw (row_tagged _ _ c.args.json.now c.args.desc.now (c.args.self.now.sound _ c.requires) c.in-Tagged.tag c.in-Tagged.variants c.in-Tagged.is, ← c.as_slice-in-Tagged.ensures) c.decode_tagged.ensures
 
 pub decode_at-decode_untagged-requires : goal.decode_at-decode_untagged-requires
 decode_at-decode_untagged-requires t c =
@@ -233,3 +264,51 @@ pub decode_untagged-decode_at-requires : goal.decode_untagged-decode_at-requires
 decode_untagged-decode_at-requires t c =
     let less = at-lt-choice c.args.self.now.table.now c.args.self.now.whole.now (size-Json c.args.json.now) c.args.alternatives.now c.loop-i.i c.index-alternatives-i.result (omega arith) c.index-alternatives-i.is in
     (omega (arith, c.decreases, less), c.requires.parts c.index-alternatives-i.result (c.loop-i.i, omega arith, sym c.index-alternatives-i.is))
+
+pub decode_external-decode_payload-requires : goal.decode_external-decode_payload-requires
+decode_external-decode_payload-requires t c =
+    let m = c.in-Some.member.now in
+    let inner = members-lt-alone c.args.self.now.table.now c.args.self.now.whole.now c.args.json.now c.in-Object.members c.in-Object.is in
+    let same : c.in-Object.members ≡ m ∷ c.in-Some.others.now = sym c.as_slice.ensures ∙ c.in-Some.ensures.cases.0 in
+    let most_is : most size-Member c.in-Object.members ≡ most size-Member (m ∷ c.in-Some.others.now) = ap (most size-Member) same in
+    let less = alone-le-alone c.args.self.now.table.now c.args.self.now.whole.now (size-Member m) (most size-Member c.in-Object.members) (omega (arith, most_is)) in
+    (omega (arith, c.decreases, inner, less), (c.requires.parts, c.requires.few))
+
+pub decode_payload-decode_at-requires : goal.decode_payload-decode_at-requires
+decode_payload-decode_at-requires t c =
+    let v = c.in-Some.variant.now in
+    let inside = found_inside variant_name c.args.variants.now c.args.member.now.name (c.in-Some.place, v) (sym c.in-Some.ensures) in
+    let less = at-lt-alone c.args.self.now.table.now c.args.self.now.whole.now (size-Json c.args.member.now.value) (size-Member c.args.member.now) c.in-Some-payload.payload (member_greater c.args.member.now) in
+    (omega (arith, c.decreases, less), subst (λ (o : Option Desc). IfSome o (IsPart c.args.self.now.table.now c.args.self.now.whole.now)) c.in-Some-payload.is (c.requires.parts v inside))
+
+pub decode_payload-overflow_cast-result : goal.decode_payload-overflow_cast-result
+decode_payload-overflow_cast-result t c =
+    let less = place_below variant_name c.args.variants.now c.args.member.now.name (c.in-Some.place, c.in-Some.variant.now) (sym c.in-Some.ensures) in
+    omega (arith, less, c.requires.few)
+
+pub decode_payload-returns-in_ok-copy-in-Err : goal.decode_payload-returns-in_ok-copy-in-Err
+decode_payload-returns-in_ok-copy-in-Err t c =
+    let inner = told c.args.self.now.table.now c.args.self.now.whole.now c.args.member.now.value in
+    let of_payload = inner c.in-Some-payload.payload in
+    let at = payload_at inner c.args.variants.now c.args.member.now.name c.in-Some.place c.in-Some.variant.now c.in-Some-payload.payload (sym c.in-Some.ensures) c.in-Some-payload.is in
+    let bad = chosen_err c.in-Some.place (below (Name c.in_ok-copy-in-Err.field-0) of_payload) c.below.result (c.below.ensures of_payload c.in-Err.ensures) in
+    subst (λ (o : Told). Tells (Err c.below.result) o) (sym at)
+    (subst (λ (n : List ℕ). Tells (Err c.below.result) (chosen c.in-Some.place (below (Name n) of_payload))) c.in_ok-copy-in-Err.ensures bad)
+
+pub decode_tagged-decode_variant-requires : goal.decode_tagged-decode_variant-requires
+decode_tagged-decode_variant-requires t c =
+    let table = c.args.self.now.table.now in
+    let whole = c.args.self.now.whole.now in
+    let is = c.in_ok-members.ensures ∙ c.as_slice.ensures in
+    let less = subst (λ (ms : List Member). suc (suc (size_alone table whole (most size-Member ms))) < size_alone table whole (size-Json c.args.json.now)) (sym is) (members-lt-alone table whole c.args.json.now c.in-Object.members c.in-Object.is) in
+    (omega (arith, c.decreases, less), (c.requires.parts, c.requires.few))
+
+pub decode_variant-decode_fields-requires : goal.decode_variant-decode_fields-requires
+decode_variant-decode_fields-requires t c =
+    let inside = found_inside tagged_name c.args.variants.now c.in-Text.name (c.in-Some.place, c.in-Some.variant.now) (sym c.in-Some.ensures) in
+    (omega (arith, c.decreases), rw c.as_slice.ensures (c.requires.parts c.in-Some.variant.now inside))
+
+pub decode_variant-overflow_cast-result : goal.decode_variant-overflow_cast-result
+decode_variant-overflow_cast-result t c =
+    let less = place_below tagged_name c.args.variants.now c.in-Text.name (c.in-Some.place, c.in-Some.variant.now) (sym c.in-Some.ensures) in
+    omega (arith, less, c.requires.few)

@@ -45,6 +45,18 @@ decreases-decode_fields l = suc (size_alone l.self.now.table.now l.self.now.whol
 abbrev pub decreases-decode_field : goal.decreases-decode_field
 decreases-decode_field l = size_alone l.self.now.table.now l.self.now.whole.now (most size-Member l.members.now.items.now)
 
+abbrev pub decreases-decode_external : goal.decreases-decode_external
+decreases-decode_external l = suc (size_alone l.self.now.table.now l.self.now.whole.now (size-Json l.json.now))
+
+abbrev pub decreases-decode_payload : goal.decreases-decode_payload
+decreases-decode_payload l = size_alone l.self.now.table.now l.self.now.whole.now (size-Member l.member.now)
+
+abbrev pub decreases-decode_tagged : goal.decreases-decode_tagged
+decreases-decode_tagged l = suc (size_alone l.self.now.table.now l.self.now.whole.now (size-Json l.json.now))
+
+abbrev pub decreases-decode_variant : goal.decreases-decode_variant
+decreases-decode_variant l = suc (suc (size_alone l.self.now.table.now l.self.now.whole.now (most size-Member l.members.now.items.now)))
+
 abbrev pub invariant-decode_fields-loop-field : goal.invariant-decode_fields-loop-field
 invariant-decode_fields-loop-field l =
     told_fields l.self.table.now l.self.whole.now l.members.items.now l.fields

@@ -36,6 +36,18 @@ decreases-encode_field l = any_at_size l.self.now.table.now l.self.now.whole.now
 abbrev pub decreases-encode_choice : goal.decreases-encode_choice
 decreases-encode_choice l = suc (size_alone l.self.now.table.now l.self.now.whole.now (size-Tree l.tree.now))
 
+abbrev pub decreases-encode_external : goal.decreases-encode_external
+decreases-encode_external l = suc (size_alone l.self.now.table.now l.self.now.whole.now (size-Tree l.tree.now))
+
+abbrev pub decreases-encode_variant : goal.decreases-encode_variant
+decreases-encode_variant l = any_at_size l.self.now.table.now l.self.now.whole.now (size-Tree l.tree.now)
+
+abbrev pub decreases-encode_tagged : goal.decreases-encode_tagged
+decreases-encode_tagged l = suc (size_alone l.self.now.table.now l.self.now.whole.now (size-Tree l.tree.now))
+
+abbrev pub decreases-encode_tagged_variant : goal.decreases-encode_tagged_variant
+decreases-encode_tagged_variant l = suc (size_alone l.self.now.table.now l.self.now.whole.now (size-Tree l.tree.now))
+
 abbrev pub invariant-encode_each-loop-tree : goal.invariant-encode_each-loop-tree
 invariant-encode_each-loop-tree l = l.items ≡ map (λ t. written_under l.self.table.now l.self.whole.now t l.item) (take l.tree-index l.trees)
 
@@ -44,5 +56,5 @@ invariant-encode_pairs-loop-pair l = l.members ≡ map (pair_written (λ t. writ
 
 abbrev pub invariant-encode_fields-loop-field : goal.invariant-encode_fields-loop-field
 invariant-encode_fields-loop-field l =
-    members_written (λ t. is_none_level (out-Tree t)) (written_under l.self.table.now l.self.whole.now) l.fields l.trees
+    l.fn.members ++ members_written (λ t. is_none_level (out-Tree t)) (written_under l.self.table.now l.self.whole.now) l.fields l.trees
     ≡ l.members ++ members_written (λ t. is_none_level (out-Tree t)) (written_under l.self.table.now l.self.whole.now) (drop (length l.yielded) l.fields) (drop (length l.yielded) l.trees)

@@ -1,15 +1,17 @@
-use Rattle.std.proofs.Common.{rules, suc, ◌≡◌, false, Some, None, refl, sym, ◌∙◌, ap, arith, length}
+use Rattle.std.proofs.Common.{rules, suc, ◌≡◌, false, Some, None, IfSome, refl, sym, ◌∙◌, ap, subst, arith, length}
 use Rattle.std.proofs.lemmas.Option.{slice_get_read, slice_get_past}
 use Rattle.std.proofs.lemmas.Slice.Zip.{zip_turn}
 use denote.Param.Weighed.{most}
 use Rattle.typed_values.specs.declared.tree.Pair.{size-Pair}
 use Rattle.typed_values.specs.declared.tree.Tree.{size-Tree, out-Tree}
 use Rattle.typed_values.specs.declared.tree.Tree.TheVariants as tree
-use Rattle.typed_values.specs.Fits.{fits_under, parts_fit}
+use Rattle.typed_values.specs.Fits.{fits_under, parts_fit, payload_of, struct_of}
+use Rattle.typed_values.specs.Definitions.{tagged_fields}
+use Rattle.typed_values.specs.Parts.{IsPart}
 use Rattle.typed_values.proofs.Arms.{definition_is_part}
-use Rattle.typed_values.proofs.FitRows.{choice_row, skipped_desc, below_true, below_false, unequal, fits_any, fits_never, fits_null, fits_bool, fits_char, fits_int, fits_text, fits_enumeration, fits_option, fits_list, fits_map, fits_struct, fits_untagged, fits_ref, lengths_differ}
-use Rattle.typed_values.proofs.FitSteps.{skipped_row}
-use Rattle.typed_values.proofs.Inside.{part_of_option, part_of_list, part_of_map, parts_of_untagged, fields_of_struct}
+use Rattle.typed_values.proofs.FitRows.{choice_row, given_row, skipped_desc, below_true, below_false, unequal, fits_any, fits_never, fits_null, fits_bool, fits_char, fits_int, fits_text, fits_enumeration, fits_option, fits_list, fits_map, fits_struct, fits_external, fits_tagged, fits_untagged, fits_ref, lengths_differ}
+use Rattle.typed_values.proofs.FitSteps.{nought_row, skipped_row, struct_row}
+use Rattle.typed_values.proofs.Inside.{part_of_option, part_of_list, part_of_map, parts_of_untagged, fields_of_struct, payloads_of_external, variants_of_tagged}
 use Rattle.typed_values.proofs.Measure.{ref-lt, alone-lt-at, at-lt-any, alone-lt-any, any-lt-alone, at-lt-alone}
 use Rattle.typed_values.proofs.TreeSizes.{size_some, size_items, size_entries, size_choice, tree_smaller, value_smaller}
 use Rattle.typed_values.proofs.scope.Scope.+fits.Goals as goal
@@ -33,6 +35,16 @@ pub fits_at-fields_fit-requires : goal.fits_at-fields_fit-requires
 fits_at-fields_fit-requires t c =
     let less = alone-lt-at c.args.self.now.table.now c.args.self.now.whole.now (size-Tree c.args.tree.now) c.args.desc.now in
     (omega (arith, c.decreases, less), rw c.as_slice-in-Struct.ensures (fields_of_struct c.requires c.in-Struct.fields c.in-Struct.deny_unknown c.in-Struct.is))
+
+pub fits_at-external_fits-requires : goal.fits_at-external_fits-requires
+fits_at-external_fits-requires t c =
+    let less = alone-lt-at c.args.self.now.table.now c.args.self.now.whole.now (size-Tree c.args.tree.now) c.args.desc.now in
+    (omega (arith, c.decreases, less), rw c.as_slice-in-External.ensures (payloads_of_external c.requires c.in-External.variants c.in-External.is))
+
+pub fits_at-tagged_fits-requires : goal.fits_at-tagged_fits-requires
+fits_at-tagged_fits-requires t c =
+    let less = alone-lt-at c.args.self.now.table.now c.args.self.now.whole.now (size-Tree c.args.tree.now) c.args.desc.now in
+    (omega (arith, c.decreases, less), rw c.as_slice-in-Tagged.ensures (variants_of_tagged c.requires _ c.in-Tagged.variants c.in-Tagged.is))
 
 pub fits_at-choice_fits-requires : goal.fits_at-choice_fits-requires
 fits_at-choice_fits-requires t c =
@@ -80,6 +92,12 @@ fits_at-returns-in-Map t c = rw (fits_map _ _ _ _ (c.args.self.now.sound _ c.req
 
 pub fits_at-returns-in-Struct : goal.fits_at-returns-in-Struct
 fits_at-returns-in-Struct t c = rw (fits_struct _ _ _ _ (c.args.self.now.sound _ c.requires) c.in-Struct.fields c.in-Struct.deny_unknown c.in-Struct.is, ← c.as_slice-in-Struct.ensures) c.fields_fit.ensures
+
+pub fits_at-returns-in-External : goal.fits_at-returns-in-External
+fits_at-returns-in-External t c = rw (fits_external _ _ _ _ (c.args.self.now.sound _ c.requires) c.in-External.variants c.in-External.is, ← c.as_slice-in-External.ensures) c.external_fits.ensures
+
+pub fits_at-returns-in-Tagged : goal.fits_at-returns-in-Tagged
+fits_at-returns-in-Tagged t c = rw (fits_tagged _ _ _ _ (c.args.self.now.sound _ c.requires) _ c.in-Tagged.variants c.in-Tagged.is, ← c.as_slice-in-Tagged.ensures) c.tagged_fits.ensures
 
 pub fits_at-returns-in-Untagged : goal.fits_at-returns-in-Untagged
 fits_at-returns-in-Untagged t c = rw (fits_untagged _ _ _ _ (c.args.self.now.sound _ c.requires) c.in-Untagged.alternatives c.in-Untagged.is, ← c.as_slice-in-Untagged.ensures) c.choice_fits.ensures
@@ -145,6 +163,44 @@ field_fits-option_fits-requires t c =
 pub field_fits-returns-in-Skipped : goal.field_fits-returns-in-Skipped
 field_fits-returns-in-Skipped t c =
     rw (skipped_desc c.args.field.now c.in-Skipped.is, skipped_row c.args.self.now.table.now c.args.self.now.whole.now c.args.tree.now c.args.field.now.desc) c.option_fits.ensures
+
+pub external_fits-payload_fits-requires : goal.external_fits-payload_fits-requires
+external_fits-payload_fits-requires t c =
+    let size : size-Tree c.args.tree.now ≡ suc (size-Tree c.in-Variant.tree) = ap size-Tree c.in-Variant.is ∙ size_choice c.in-Variant.place c.in-Variant.tree in
+    let less = any-lt-alone c.args.self.now.table.now c.args.self.now.whole.now (size-Tree c.in-Variant.tree) (size-Tree c.args.tree.now) (omega arith) in
+    rw c.get-in-Some.ensures (omega (arith, c.decreases, less), c.requires c.in-Some.variant.now (c.in-Variant.place, below_true _ _ c.in-Some.ensures.lookup.0, sym c.in-Some.ensures.lookup.1))
+
+pub external_fits-returns-in-Some : goal.external_fits-returns-in-Some
+external_fits-returns-in-Some t c =
+    rw (given_row (fits_under c.args.self.now.table.now c.args.self.now.whole.now) payload_of c.args.variants.now c.args.tree.now c.in-Variant.place c.in-Variant.tree (Some c.in-Some.variant.now) c.in-Variant.is (slice_get_read c.args.variants.now _ c.in-Variant.place c.in-Some.variant.now refl (below_true _ _ c.in-Some.ensures.lookup.0) c.in-Some.ensures.lookup.1), ← c.get-in-Some.ensures) c.payload_fits.ensures
+
+pub external_fits-returns-in-None : goal.external_fits-returns-in-None
+external_fits-returns-in-None t c =
+    rw (given_row (fits_under c.args.self.now.table.now c.args.self.now.whole.now) payload_of c.args.variants.now c.args.tree.now c.in-Variant.place c.in-Variant.tree None c.in-Variant.is (slice_get_past c.args.variants.now c.in-Variant.place (below_false _ _ c.in-None.ensures.lookup.0))) refl
+
+pub payload_fits-fits_at-requires : goal.payload_fits-fits_at-requires
+payload_fits-fits_at-requires t c =
+    let less = at-lt-any c.args.self.now.table.now c.args.self.now.whole.now (size-Tree c.args.tree.now) c.in-Some.payload in
+    (omega (arith, c.decreases, less), subst (λ o. IfSome o (IsPart c.args.self.now.table.now c.args.self.now.whole.now)) c.in-Some.is c.requires)
+
+pub payload_fits-returns-in-None : goal.payload_fits-returns-in-None
+payload_fits-returns-in-None t c = rw (c.in-None.is, nought_row c.args.self.now.table.now c.args.self.now.whole.now c.args.tree.now) c.nought_fits.ensures
+
+pub tagged_fits-fields_fit-requires : goal.tagged_fits-fields_fit-requires
+tagged_fits-fields_fit-requires t c =
+    let size : size-Tree c.args.tree.now ≡ suc (size-Tree c.in-Variant.tree) = ap size-Tree c.in-Variant.is ∙ size_choice c.in-Variant.place c.in-Variant.tree in
+    let less = any-lt-alone c.args.self.now.table.now c.args.self.now.whole.now (size-Tree c.in-Variant.tree) (size-Tree c.args.tree.now) (omega arith) in
+    let least = alone-lt-any c.args.self.now.table.now c.args.self.now.whole.now (size-Tree c.in-Variant.tree) in
+    rw (c.get-in-Some.ensures, c.as_slice.ensures)
+    (omega (arith, c.decreases, less, least), c.requires c.in-Some.variant.now (c.in-Variant.place, below_true _ _ c.in-Some.ensures.lookup.0, sym c.in-Some.ensures.lookup.1))
+
+pub tagged_fits-returns-in-Some : goal.tagged_fits-returns-in-Some
+tagged_fits-returns-in-Some t c =
+    rw (given_row (fits_under c.args.self.now.table.now c.args.self.now.whole.now) struct_of c.args.variants.now c.args.tree.now c.in-Variant.place c.in-Variant.tree (Some c.in-Some.variant.now) c.in-Variant.is (slice_get_read c.args.variants.now _ c.in-Variant.place c.in-Some.variant.now refl (below_true _ _ c.in-Some.ensures.lookup.0) c.in-Some.ensures.lookup.1), struct_row c.args.self.now.table.now c.args.self.now.whole.now c.in-Variant.tree (tagged_fields c.in-Some.variant.now) false, ← c.as_slice.ensures, ← c.get-in-Some.ensures) c.fields_fit.ensures
+
+pub tagged_fits-returns-in-None : goal.tagged_fits-returns-in-None
+tagged_fits-returns-in-None t c =
+    rw (given_row (fits_under c.args.self.now.table.now c.args.self.now.whole.now) struct_of c.args.variants.now c.args.tree.now c.in-Variant.place c.in-Variant.tree None c.in-Variant.is (slice_get_past c.args.variants.now c.in-Variant.place (below_false _ _ c.in-None.ensures.lookup.0))) refl
 
 pub choice_fits-fits_at-requires : goal.choice_fits-fits_at-requires
 choice_fits-fits_at-requires t c =

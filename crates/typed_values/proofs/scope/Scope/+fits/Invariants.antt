@@ -33,6 +33,15 @@ decreases-parts_fit l = size_alone l.self.now.table.now l.self.now.whole.now (su
 abbrev pub decreases-field_fits : goal.decreases-field_fits
 decreases-field_fits l = any_at_size l.self.now.table.now l.self.now.whole.now (size-Tree l.tree.now)
 
+abbrev pub decreases-external_fits : goal.decreases-external_fits
+decreases-external_fits l = suc (size_alone l.self.now.table.now l.self.now.whole.now (size-Tree l.tree.now))
+
+abbrev pub decreases-payload_fits : goal.decreases-payload_fits
+decreases-payload_fits l = any_at_size l.self.now.table.now l.self.now.whole.now (size-Tree l.tree.now)
+
+abbrev pub decreases-tagged_fits : goal.decreases-tagged_fits
+decreases-tagged_fits l = suc (size_alone l.self.now.table.now l.self.now.whole.now (size-Tree l.tree.now))
+
 abbrev pub decreases-choice_fits : goal.decreases-choice_fits
 decreases-choice_fits l = suc (size_alone l.self.now.table.now l.self.now.whole.now (size-Tree l.tree.now))
 
