@@ -29,23 +29,25 @@ fn told_next(
     }
 }
 
-// The same of the only endpoint.
-fn told(alloc: Global, endpoint: ApiEndpoint) -> Result<String, AllocError> {
-    told_next(alloc, &mut ApiDescription::new(alloc), endpoint)
+// The same of the only endpoint, of this shape and at this path.
+fn told(alloc: Global, shape: HandlerShape, path: &str) -> Result<String, Fail> {
+    let mut api = ApiDescription::new(alloc);
+    Ok(told_next(alloc, &mut api, endpoint(alloc, shape, path)?)?)
 }
 
 fn told_at(alloc: Global, path: &str) -> Result<String, Fail> {
-    Ok(told(alloc, endpoint(alloc, flag_shape(alloc)?, path)?)?)
+    told(alloc, flag_shape(alloc)?, path)
 }
 
 fn told_of_method(alloc: Global, method: Method) -> Result<String, Fail> {
+    let mut api = ApiDescription::new(alloc);
     let shape = flag_shape(alloc)?;
     let endpoint = endpoint_of(alloc, shape, method, "application/json", "/a")?;
-    Ok(told(alloc, endpoint)?)
+    Ok(told_next(alloc, &mut api, endpoint)?)
 }
 
 fn told_of_shape(alloc: Global, shape: HandlerShape) -> Result<String, Fail> {
-    Ok(told(alloc, endpoint(alloc, shape, "/a")?)?)
+    told(alloc, shape, "/a")
 }
 
 fn without_slots(alloc: Global) -> Result<HandlerShape, AllocError> {
@@ -120,28 +122,37 @@ fn with_definition(alloc: Global, name: &str, desc: Desc) -> Result<HandlerShape
     Ok(shape)
 }
 
+const OTHER_SHAPES: [&str; 9] = [
+    "no slot",
+    "two slots",
+    "code 202",
+    "code 400",
+    "no code",
+    "no error",
+    "another name",
+    "another type",
+    "another definition",
+];
+
+fn other_shape(alloc: Global, case: &str) -> Result<HandlerShape, AllocError> {
+    match case {
+        "no slot" => without_slots(alloc),
+        "two slots" => with_two_slots(alloc),
+        "code 202" => with_success(alloc, Some(StatusCode::ACCEPTED)),
+        "code 400" => with_success(alloc, Some(StatusCode::BAD_REQUEST)),
+        "no code" => with_success(alloc, None),
+        "no error" => without_error(alloc),
+        "another name" => with_error(alloc, named(alloc, "Error")?, "Fault"),
+        "another type" => with_error(alloc, Desc::Bool, "Error"),
+        _ => with_another_error(alloc),
+    }
+}
+
 #[test]
 fn other_shapes_are_not_built(rt: HostRuntime) -> Result<(), Fail> {
     let alloc = rt.alloc();
-    let shapes = [
-        ("no slot", without_slots(alloc)?),
-        ("two slots", with_two_slots(alloc)?),
-        ("code 202", with_success(alloc, Some(StatusCode::ACCEPTED))?),
-        (
-            "code 400",
-            with_success(alloc, Some(StatusCode::BAD_REQUEST))?,
-        ),
-        ("no code", with_success(alloc, None)?),
-        ("no error", without_error(alloc)?),
-        (
-            "another name",
-            with_error(alloc, named(alloc, "Error")?, "Fault")?,
-        ),
-        ("another type", with_error(alloc, Desc::Bool, "Error")?),
-        ("another definition", with_another_error(alloc)?),
-    ];
-    for (case, shape) in shapes {
-        let told = told_of_shape(alloc, shape)?;
+    for case in OTHER_SHAPES {
+        let told = told_of_shape(alloc, other_shape(alloc, case)?)?;
         assert_eq!(rt; told.as_str(), NOT_BUILT, "at {case}");
     }
     Ok(())
@@ -194,23 +205,20 @@ fn each_path_is_told_as_its_row_says(rt: HostRuntime) -> Result<(), Fail> {
     Ok(())
 }
 
+fn failing_shape(alloc: Global, place: &str) -> Result<HandlerShape, AllocError> {
+    match place {
+        "a slot" => with_body(alloc, named(alloc, "Nowhere")?),
+        "the response" => with_response(alloc, named(alloc, "Nowhere")?),
+        _ => with_definition(alloc, "N", named(alloc, "N")?),
+    }
+}
+
 #[test]
 fn schemas_that_fail_their_checks_are_unsupported(rt: HostRuntime) -> Result<(), Fail> {
     let alloc = rt.alloc();
-    let shapes = [
-        ("a slot", with_body(alloc, named(alloc, "Nowhere")?)?),
-        (
-            "the response",
-            with_response(alloc, named(alloc, "Nowhere")?)?,
-        ),
-        (
-            "the table",
-            with_definition(alloc, "N", named(alloc, "N")?)?,
-        ),
-    ];
-    for (case, shape) in shapes {
-        let told = told_of_shape(alloc, shape)?;
-        assert_eq!(rt; told.as_str(), UNSUPPORTED, "at {case}");
+    for place in ["a slot", "the response", "the table"] {
+        let told = told_of_shape(alloc, failing_shape(alloc, place)?)?;
+        assert_eq!(rt; told.as_str(), UNSUPPORTED, "at {place}");
     }
     Ok(())
 }
@@ -220,9 +228,9 @@ fn schemas_that_fail_their_checks_are_unsupported(rt: HostRuntime) -> Result<(),
 fn the_first_cause_is_told(rt: HostRuntime) -> Result<(), Fail> {
     let alloc = rt.alloc();
     let shape = with_body(alloc, named(alloc, "Nowhere")?)?;
-    let told_of_path = told(alloc, endpoint(alloc, shape, "//a")?)?;
+    let told_of_path = told(alloc, shape, "//a")?;
     assert_eq!(rt; told_of_path.as_str(), "BadTemplate: bad route path: '//a'");
-    let told_of_shape = told(alloc, endpoint(alloc, without_slots(alloc)?, "//a")?)?;
+    let told_of_shape = told(alloc, without_slots(alloc)?, "//a")?;
     assert_eq!(rt; told_of_shape.as_str(), NOT_BUILT);
     Ok(())
 }
