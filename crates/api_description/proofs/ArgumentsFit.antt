@@ -1,6 +1,7 @@
 -- Arguments that a request denotes fit their slots.
 use Rattle.std.proofs.Common.{ℕ, List, [], ◌∷◌}
 use Rattle.std.proofs.lemmas.List.Elements.{All-head, All-tail}
+use Rattle.schema_values.proofs.SoundReadings.{reading_sound}
 use Rattle.typed_values.specs.declared.table.Definition.{Definition}
 use Rattle.typed_values.specs.Checks.{TablePasses}
 use Rattle.typed_values.proofs.DenotedFits.{denoted_fits}
@@ -12,7 +13,7 @@ use Rattle.api_description.specs.Requests.{ArgsDenoted, ArgsFit, SlotDenotes, Sl
 
 module _ (table : List Definition) (body : List ℕ) (right : TablePasses table) where
   argument_fits : (slot : Slot) (arg : Arg) → SlotPasses table slot → SlotDenotes table body slot arg → ArgFits table slot arg
-  argument_fits (TypedBody desc name) (OfTree tree) passes (json, reads, denotes) = denoted_fits table desc json tree right passes denotes
+  argument_fits (TypedBody desc name) (OfTree tree) passes (json, reads, denotes) = denoted_fits table desc json tree right passes (reading_sound body json reads) denotes
 
   pub arguments_fit : (slots : List Slot) (args : List Arg) → SlotsPass table slots → ArgsDenoted table body slots args → ArgsFit table slots args
   arguments_fit [] [] pass given = tt

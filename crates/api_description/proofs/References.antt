@@ -1,35 +1,67 @@
 -- The references that stand in a descriptor, and in its parts.
-use Rattle.std.proofs.Common.{◌≡◌, ℕ, Bool, true, List, [], ◌∷◌, ◌++◌, map, refl, ◌∙◌, ap}
+use Rattle.std.proofs.Common.{◌≡◌, ℕ, Bool, true, List, [], ◌∷◌, ◌++◌, map, Option, Some, None, refl, ◌∙◌, ap}
 use Rattle.std.specs.List.{flat_map}
+use Rattle.std.specs.Prelude.{Contains}
 use Rattle.std.proofs.lemmas.Bool.{or_left}
 use Rattle.typed_values.specs.declared.desc.Desc.{Desc, out-Desc}
-use Rattle.typed_values.specs.declared.desc.Desc.TheFolds.{fold-Field, fold_out-Desc, fold_out-Field, map-Desc}
+use Rattle.typed_values.specs.declared.desc.Desc.TheFolds.{fold-Field, fold-TaggedVariant, fold-Variant, fold_out-Desc, fold_out-Field, fold_out-TaggedVariant, fold_out-Variant, map-Desc}
 use Rattle.typed_values.specs.declared.desc.Desc.TheOpen.{Desc-F}
 use Rattle.typed_values.specs.declared.desc.Desc.TheVariants as desc
 use Rattle.typed_values.specs.declared.desc.Field.{Field}
-use Rattle.typed_values.specs.Parts.{StandsIn, the_whole, in_option, in_list, in_field, in_alternative}
+use Rattle.typed_values.specs.declared.desc.TaggedVariant.{TaggedVariant}
+use Rattle.typed_values.specs.declared.desc.Variant.{Variant}
+use Rattle.typed_values.specs.Definitions.{tagged_fields}
+use Rattle.typed_values.specs.Parts.{StandsIn, the_whole, in_option, in_list, in_map, in_field, in_payload, in_variant, in_alternative}
 use Rattle.typed_values.specs.Reached.{Mentions}
-use Rattle.api_description.specs.Documents.{references, references_step, references_of_field, is_among}
+use Rattle.typed_values.specs.Levels.{DescLevel}
+use Rattle.api_description.specs.Documents.{Names, references, references_step, references_of_field, references_of_tagged, references_of_variant, references_in_variant, references_in_tagged, is_among}
 use Rattle.api_description.proofs.Among.{any_contained, at_itself, among_joined}
 
-abbrev Names : Type 0
-Names = List (List ℕ)
-
 abbrev folded_field : Field → Names
-folded_field = fold-Field Names Names references_step references_of_field
+folded_field = fold-Field Names Names Names Names references_step references_of_field references_of_tagged references_of_variant
 
-references_row : (d : Desc) (y : Desc-F Desc Field) → out-Desc d ≡ y → references d ≡ references_step (map-Desc Desc Field Names Names references folded_field y)
+abbrev folded_tagged : TaggedVariant → Names
+folded_tagged = fold-TaggedVariant Names Names Names Names references_step references_of_field references_of_tagged references_of_variant
+
+abbrev folded_variant : Variant → Names
+folded_variant = fold-Variant Names Names Names Names references_step references_of_field references_of_tagged references_of_variant
+
+-- the names of one level
+abbrev references_level : DescLevel → Names
+references_level z = references_step (map-Desc Desc Field TaggedVariant Variant Names Names Names Names references folded_field folded_tagged folded_variant z)
+
+references_row : (d : Desc) (y : DescLevel) → out-Desc d ≡ y → references d ≡ references_level y
 references_row d y e =
-    fold_out-Desc Names Names references_step references_of_field d
-    ∙ ap (λ (z : Desc-F Desc Field). references_step (map-Desc Desc Field Names Names references folded_field z)) e
+    fold_out-Desc Names Names Names Names references_step references_of_field references_of_tagged references_of_variant d
+    ∙ ap (λ (z : DescLevel). references_level z) e
 
 joined : {X : Type 0} (g h : X → Names) → ((x : X) → g x ≡ h x) → (xs : List X) → flat_map (λ some. some) (map g xs) ≡ flat_map h xs
 joined g h same [] = refl
 joined g h same (x ∷ xs) = ap (λ (some : Names). some ++ flat_map (λ some. some) (map g xs)) (same x) ∙ ap (λ (rest : Names). h x ++ rest) (joined g h same xs)
 
+fields_joined : (fs : List Field) → flat_map (λ some. some) (map folded_field fs) ≡ flat_map (λ f. references f.desc) fs
+fields_joined =
+    joined folded_field (λ f. references f.desc)
+    (λ f. fold_out-Field Names Names Names Names references_step references_of_field references_of_tagged references_of_variant f)
+
+abbrev variant_with : List ℕ → Option (List ℕ) → Option Desc → Variant
+variant_with name description payload = record { name = name; description = description; payload = payload }
+
+variant_by : (name : List ℕ) (description : Option (List ℕ)) (payload : Option Desc) → folded_variant (variant_with name description payload) ≡ references_in_variant (variant_with name description payload)
+variant_by name description None = fold_out-Variant Names Names Names Names references_step references_of_field references_of_tagged references_of_variant (variant_with name description None)
+variant_by name description (Some d) = fold_out-Variant Names Names Names Names references_step references_of_field references_of_tagged references_of_variant (variant_with name description (Some d))
+
+tagged_by : (v : TaggedVariant) → folded_tagged v ≡ references_in_tagged v
+tagged_by v = fold_out-TaggedVariant Names Names Names Names references_step references_of_field references_of_tagged references_of_variant v ∙ fields_joined (tagged_fields v)
+
 struct_row : (d : Desc) (fs : List Field) (deny : Bool) → out-Desc d ≡ Desc-F.Struct fs deny → references d ≡ flat_map (λ f. references f.desc) fs
-struct_row d fs deny e =
-    references_row d (Desc-F.Struct fs deny) e ∙ joined folded_field (λ f. references f.desc) (λ f. fold_out-Field Names Names references_step references_of_field f) fs
+struct_row d fs deny e = references_row d (Desc-F.Struct fs deny) e ∙ fields_joined fs
+
+external_row : (d : Desc) (vs : List Variant) → out-Desc d ≡ Desc-F.External vs → references d ≡ flat_map references_in_variant vs
+external_row d vs e = references_row d (Desc-F.External vs) e ∙ joined folded_variant references_in_variant (λ v. variant_by v.name v.description v.payload) vs
+
+tagged_row : (d : Desc) (tag : List ℕ) (vs : List TaggedVariant) → out-Desc d ≡ Desc-F.Tagged tag vs → references d ≡ flat_map references_in_tagged vs
+tagged_row d tag vs e = references_row d (Desc-F.Tagged tag vs) e ∙ joined folded_tagged references_in_tagged tagged_by vs
 
 choice_row : (d : Desc) (ds : List Desc) → out-Desc d ≡ Desc-F.Untagged ds → references d ≡ flat_map references ds
 choice_row d ds e = references_row d (Desc-F.Untagged ds) e ∙ joined references references (λ x. refl) ds
@@ -37,8 +69,18 @@ choice_row d ds e = references_row d (Desc-F.Untagged ds) e ∙ joined reference
 pub struct_references : (d : Desc) (fs : List Field) (deny : Bool) → d ≡ desc.Struct fs deny → references d ≡ flat_map (λ f. references f.desc) fs
 struct_references d fs deny e = struct_row d fs deny (ap out-Desc e ∙ desc.outs-Struct fs deny)
 
+pub external_references : (d : Desc) (vs : List Variant) → d ≡ desc.External vs → references d ≡ flat_map references_in_variant vs
+external_references d vs e = external_row d vs (ap out-Desc e ∙ desc.outs-External vs)
+
+pub tagged_references : (d : Desc) (tag : List ℕ) (vs : List TaggedVariant) → d ≡ desc.Tagged tag vs → references d ≡ flat_map references_in_tagged vs
+tagged_references d tag vs e = tagged_row d tag vs (ap out-Desc e ∙ desc.outs-Tagged tag vs)
+
 pub choice_references : (d : Desc) (ds : List Desc) → d ≡ desc.Untagged ds → references d ≡ flat_map references ds
 choice_references d ds e = choice_row d ds (ap out-Desc e ∙ desc.outs-Untagged ds)
+
+-- the names in a variant are those in its payload
+payload_references : (v : Variant) (x : Desc) → v.payload ≡ Some x → references_in_variant v ≡ references x
+payload_references v x e = rw e refl
 
 -- ---- a reference that stands in a descriptor
 
@@ -46,12 +88,23 @@ module _ (name : List ℕ) where
   abbrev Has : Desc → Type 0
   Has d = is_among name (references d) ≡ true
 
+  in_fields : (fs : List Field) (f : Field) → Contains fs f → Has f.desc → is_among name (flat_map (λ f. references f.desc) fs) ≡ true
+  in_fields fs f c h = among_joined name (λ f. references f.desc) fs ∙ any_contained (λ f. is_among name (references f.desc)) fs f c h
+
   has_part : (whole d : Desc) → StandsIn whole d → Has d → Has whole
   has_part whole d the_whole h = h
   has_part whole d (in_option {d = p} x s e) h = has_part whole p s (ap (is_among name) (references_row p (Desc-F.Option x) e) ∙ h)
   has_part whole d (in_list {d = p} x min max s e) h = has_part whole p s (ap (is_among name) (references_row p (Desc-F.List x min max) e) ∙ h)
-  has_part whole d (in_field {d = p} fs deny f s e c) h =
-      has_part whole p s (ap (is_among name) (struct_row p fs deny e) ∙ among_joined name (λ f. references f.desc) fs ∙ any_contained (λ f. is_among name (references f.desc)) fs f c h)
+  has_part whole d (in_map {d = p} x s e) h = has_part whole p s (ap (is_among name) (references_row p (Desc-F.Map x) e) ∙ h)
+  has_part whole d (in_field {d = p} fs deny f s e c) h = has_part whole p s (ap (is_among name) (struct_row p fs deny e) ∙ in_fields fs f c h)
+  has_part whole d (in_payload {d = p} vs v x s e c q) h =
+      has_part whole p s
+      (ap (is_among name) (external_row p vs e) ∙ among_joined name references_in_variant vs
+      ∙ any_contained (λ v. is_among name (references_in_variant v)) vs v c (ap (is_among name) (payload_references v x q) ∙ h))
+  has_part whole d (in_variant {d = p} tag vs v f s e c k) h =
+      has_part whole p s
+      (ap (is_among name) (tagged_row p tag vs e) ∙ among_joined name references_in_tagged vs
+      ∙ any_contained (λ v. is_among name (references_in_tagged v)) vs v c (in_fields (tagged_fields v) f k h))
   has_part whole d (in_alternative {d = p} ds x s e c) h =
       has_part whole p s (ap (is_among name) (choice_row p ds e) ∙ among_joined name references ds ∙ any_contained (λ x. is_among name (references x)) ds x c h)
 

@@ -12,9 +12,12 @@ use Rattle.std.specs.Str.{chars, encode_utf8_all}
 use Rattle.schema_values.specs.declared.json_value.Json.{Json}
 use Rattle.schema_values.specs.Pretty.{pretty_of}
 use Rattle.typed_values.specs.declared.desc.Desc.{Desc}
-use Rattle.typed_values.specs.declared.desc.Desc.TheOpen.{Desc-F, Field-F}
+use Rattle.typed_values.specs.declared.desc.Desc.TheOpen.{Desc-F, Field-F, TaggedVariant-F, Variant-F}
 use Rattle.typed_values.specs.declared.desc.Desc.TheFolds.{fold-Desc}
+use Rattle.typed_values.specs.declared.desc.TaggedVariant.{TaggedVariant}
+use Rattle.typed_values.specs.declared.desc.Variant.{Variant}
 use Rattle.typed_values.specs.declared.table.Definition.{Definition}
+use Rattle.typed_values.specs.Definitions.{tagged_fields}
 use Rattle.typed_values.specs.SchemaTable.{schema_json_titled, schema_json_described}
 use Rattle.openapi_values.specs.declared.document.Components.{Components}
 use Rattle.openapi_values.specs.declared.document.OpenApi.{OpenApi}
@@ -114,22 +117,55 @@ path_item_of m version endpoints template = record {
 abbrev pub paths_of : {X : Type 0} {F : X → Type 0} → Meanings X F → Parts → List (ApiEndpoint X F) → List (List ℕ × PathItem)
 paths_of m version endpoints = map (λ template. (template, path_item_of m version endpoints template)) (templates version endpoints)
 
+-- some names
+abbrev pub Names : Type 0
+Names = List (List ℕ)
+
+-- all of some lists of names
+abbrev pub all_names : List Names → Names
+all_names = flat_map (λ names. names)
+
 -- the names of the references that stand in a descriptor
-abbrev pub references_step : Desc-F (List (List ℕ)) (List (List ℕ)) → List (List ℕ)
+abbrev pub references_step : Desc-F Names Names Names Names → Names
 references_step (Desc-F.Option names) = names
 references_step (Desc-F.List names min max) = names
-references_step (Desc-F.Struct names deny) = flat_map (λ some. some) names
-references_step (Desc-F.Untagged names) = flat_map (λ some. some) names
+references_step (Desc-F.Map names) = names
+references_step (Desc-F.Struct names deny) = all_names names
+references_step (Desc-F.External names) = all_names names
+references_step (Desc-F.Tagged tag names) = all_names names
+references_step (Desc-F.Untagged names) = all_names names
 references_step (Desc-F.Ref name) = name ∷ []
 references_step _ = []
 
 -- those of a field are those of its type
-abbrev pub references_of_field : Field-F (List (List ℕ)) (List (List ℕ)) → List (List ℕ)
+abbrev pub references_of_field : Field-F Names Names Names Names → Names
 references_of_field field = field.desc
+
+-- those of a tagged variant are those of its fields
+abbrev pub references_of_tagged : TaggedVariant-F Names Names Names Names → Names
+references_of_tagged variant = all_names variant.fields
+
+-- those of a variant are those of its payload
+abbrev pub references_of_variant : Variant-F Names Names Names Names → Names
+references_of_variant variant = of_payload variant.payload where
+  of_payload : Option Names → Names
+  of_payload None = []
+  of_payload (Some names) = names
 
 -- the names of all references that stand in a descriptor
 abbrev pub references : Desc → List (List ℕ)
-references = fold-Desc (List (List ℕ)) (List (List ℕ)) references_step references_of_field
+references = fold-Desc Names Names Names Names references_step references_of_field references_of_tagged references_of_variant
+
+-- those of the payload of a variant
+abbrev pub references_in_variant : Variant → Names
+references_in_variant variant = of_payload variant.payload where
+  of_payload : Option Desc → Names
+  of_payload None = []
+  of_payload (Some d) = references d
+
+-- those of the fields of a tagged variant
+abbrev pub references_in_tagged : TaggedVariant → Names
+references_in_tagged variant = flat_map (λ field. references field.desc) (tagged_fields variant)
 
 -- whether a name is one of some names
 abbrev pub is_among : List ℕ → List (List ℕ) → Bool

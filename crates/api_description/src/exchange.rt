@@ -4,11 +4,12 @@ ghost use Rattle.api_description.specs.Agreement.{IsHandled, IsTaken};
 ghost use Rattle.api_description.specs.Endpoints.{boxed, shape_at};
 ghost use Rattle.api_description.specs.Exchanges.{Answers, EndpointAnswers, HasId, IsTurned, context_of};
 ghost use Rattle.api_description.specs.Registering.{AreAccepted};
-ghost use Rattle.api_description.specs.Replies.{ShapePasses};
+ghost use Rattle.api_description.specs.Replies.{ReplyFits, ShapePasses, response_of};
 
 use crate::api_extract::{ArgList, ExtractError, RequestParts, ServerConfig, extract};
 use crate::api_respond::{
-    Reply, RequestContext, RequestEndpointMetadata, RouteHandler, encode_error, encode_reply,
+    HandlerShape, Reply, RequestContext, RequestEndpointMetadata, RouteHandler, encode_error,
+    encode_reply,
 };
 use crate::description::ApiDescription;
 use crate::endpoint::{ApiEndpoint, endpoint_for};
@@ -125,7 +126,23 @@ fn answer(
     };
     let context = context_of(alloc, endpoint, request, request_id, config)?;
     let reply = endpoint.boxed().handle(alloc, &context, store, &mut args)?;
-    let response = encode_reply(alloc, shape, &reply, &context.request_id)?;
+    Ok(handled(alloc, shape, args, reply, &context.request_id)?)
+}
+
+// A reply to arguments, with the response that encodes it.
+fn handled(
+    alloc: Global,
+    shape: &HandlerShape,
+    args: ArgList,
+    reply: Reply,
+    request_id: &RequestId,
+) -> Result<Exchange, AllocError>
+    requires shape { ShapePasses shape.now }
+    requires reply { ReplyFits shape.now reply }
+    ensures { IfOk result (λ exchange. exchange ≡ Exchange.Handled args reply
+        (response_of shape.now reply request_id.now)) }
+{
+    let response = encode_reply(alloc, shape, &reply, request_id)?;
     Ok(Exchange::Handled {
         args,
         reply,

@@ -4,8 +4,6 @@
 
 pub mod api_extract;
 pub mod api_respond;
-#[cfg(test)]
-mod api_tests;
 pub mod api_versions;
 mod description;
 mod document;
@@ -15,8 +13,6 @@ pub mod http_status;
 mod laws;
 mod register;
 mod template;
-#[cfg(test)]
-mod tests;
 pub mod tree_store;
 
 pub use description::{ApiDescription, RegisterError, TagConfig};

@@ -1,10 +1,16 @@
 //! What bodies denote under one record, and what the tables of definitions are told.
 
 mod definitions;
+mod form_rows;
+mod form_schemas;
+mod forms;
 mod rows;
 mod shown;
+mod variants;
 
 use crate::values::definitions::{definitions, mutual, named};
+use crate::values::form_rows::{FAULT_ROWS, TREE_ROWS};
+use crate::values::forms::forms;
 use crate::values::rows::ROWS;
 use crate::values::shown::{folder_count, shown};
 use schema_values::{Json, ReadError, Text};
@@ -43,6 +49,79 @@ fn each_body_is_told_as_its_row_says(rt: HostRuntime) -> Result<(), Fail> {
     for (body, expected) in &ROWS {
         let told = told(alloc, &table, &record, body)?;
         assert_eq!(rt; told.as_str(), *expected, "at {body}");
+    }
+    Ok(())
+}
+
+#[test]
+fn each_form_denotes_the_tree_of_its_row(rt: HostRuntime) -> Result<(), Fail> {
+    let alloc = rt.alloc();
+    let table = forms(alloc)?;
+    for (name, body, expected) in &TREE_ROWS {
+        let told = told(alloc, &table, &named(alloc, name)?, body)?;
+        assert_eq!(rt; told.as_str(), *expected, "at {name} {body}");
+    }
+    Ok(())
+}
+
+#[test]
+fn each_form_is_told_the_fault_of_its_row(rt: HostRuntime) -> Result<(), Fail> {
+    let alloc = rt.alloc();
+    let table = forms(alloc)?;
+    for (name, body, expected) in &FAULT_ROWS {
+        let told = told(alloc, &table, &named(alloc, name)?, body)?;
+        assert_eq!(rt; told.as_str(), *expected, "at {name} {body}");
+    }
+    Ok(())
+}
+
+/// What a value is written as once it is decoded.
+fn written_again(
+    alloc: Global,
+    table: &DescTable,
+    desc: &Desc,
+    body: &str,
+) -> Result<Text, AllocError> {
+    if check_table(table).is_err() || check_desc(table, desc).is_err() {
+        return Text::from_str(alloc, "unchecked");
+    }
+    let Ok(json) = Json::read(alloc, body.as_bytes()) else {
+        return Text::from_str(alloc, "not JSON");
+    };
+    match decode_json(alloc, table, desc, &json) {
+        Ok(tree) => encode_json(alloc, table, desc, &tree)?.compact(alloc),
+        Err(_) => Text::from_str(alloc, "no tree"),
+    }
+}
+
+#[test]
+fn values_of_each_form_are_written_again(rt: HostRuntime) -> Result<(), Fail> {
+    let rows = [
+        ("Any", r#"{"b":[1],"a":{}}"#, r#"{"a":{},"b":[1]}"#),
+        ("Null", "null", "null"),
+        ("Char", r#""ß""#, r#""ß""#),
+        ("Color", r#""green""#, r#""green""#),
+        ("Counts", r#"{"b":1,"a":2}"#, r#"{"a":2,"b":1}"#),
+        (
+            "Bag",
+            r#"{"any":1,"bags":{}}"#,
+            r#"{"any":1,"color":null,"bags":{}}"#,
+        ),
+        ("Mixed", "[7,null]", "[7,null]"),
+        ("Mixed", "{}", "{}"),
+        ("Shape", r#""dot""#, r#""dot""#),
+        ("Shape", r#"{"box":{"w":3}}"#, r#"{"box":{"w":3,"h":null}}"#),
+        (
+            "Event",
+            r#"{"x":1,"kind":"move"}"#,
+            r#"{"kind":"move","x":1}"#,
+        ),
+    ];
+    let alloc = rt.alloc();
+    let table = forms(alloc)?;
+    for (name, body, expected) in rows {
+        let written = written_again(alloc, &table, &named(alloc, name)?, body)?;
+        assert_eq!(rt; written.as_str(), expected, "at {name} {body}");
     }
     Ok(())
 }

@@ -8,6 +8,7 @@ use Rattle.typed_values.specs.declared.desc.Presence.TheVariants.{Required}
 use Rattle.typed_values.specs.declared.table.Definition.{Definition}
 use Rattle.typed_values.specs.declared.tree.Tree.{Tree, out-Tree}
 use Rattle.typed_values.specs.declared.tree.Tree.TheOpen.{Tree-F}
+use Rattle.typed_values.specs.Levels.{TreeOf}
 use Rattle.api_description.specs.declared.api_extract.slot.Arg.{Arg}
 use Rattle.api_description.specs.declared.api_extract.slot.Arg.TheVariants.{Tree as OfTree}
 use Rattle.api_description.specs.declared.api_extract.slot.Slot.TheVariants.{TypedBody}
@@ -44,7 +45,7 @@ point_shape = record {
 }
 
 -- the text that one level of a tree is
-abbrev pub text_in : Tree-F Tree → Option (List ℕ)
+abbrev pub text_in : TreeOf Tree → Option (List ℕ)
 text_in (Tree-F.Text text) = Some text
 text_in _ = None
 
@@ -54,7 +55,7 @@ first_text [] = None
 first_text (tree ∷ trees) = text_in (out-Tree tree)
 
 -- the first field of one level of a tree, where it is a text
-abbrev pub label_in : Tree-F Tree → Option (List ℕ)
+abbrev pub label_in : TreeOf Tree → Option (List ℕ)
 label_in (Tree-F.Fields trees) = first_text trees
 label_in _ = None
 

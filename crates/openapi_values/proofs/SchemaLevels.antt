@@ -1,5 +1,5 @@
 -- One level of a schema, as it is written.
-use Rattle.std.proofs.Common.{◌≡◌, ℕ, List, [], ◌∷◌, ◌++◌, Bool, Option, Some, None, option_map, unwrap_or, map, codes, refl, ◌∙◌, ap}
+use Rattle.std.proofs.Common.{◌≡◌, ℕ, List, [], ◌∷◌, ◌++◌, Bool, Option, Some, None, option_map, map, codes, refl, ◌∙◌, ap}
 use Rattle.std.specs.Option.{option_map_or}
 use Rattle.schema_values.specs.declared.json_value.Json.{Json}
 use Rattle.schema_values.specs.declared.schema.ArrayParts.{ArrayParts, fold_out-ArrayParts}
@@ -8,13 +8,12 @@ use Rattle.schema_values.specs.declared.schema.ObjectParts.{ObjectParts, out-Obj
 use Rattle.schema_values.specs.declared.schema.Property.{Property, fold_out-Property}
 use Rattle.schema_values.specs.declared.schema.Schema.{Schema, Bool as Truth, Object, fold_out-Schema}
 use Rattle.schema_values.specs.declared.schema.Items.TheViews.{outs-One, outs-Bool, outs-Object}
-use Rattle.schema_values.specs.declared.schema.Items.TheShapes.{former-SchemaObject-object, former-SchemaObject-subschemas, former-Subschemas-all_of}
 use Rattle.schema_values.specs.declared.schema.SchemaObject.{SchemaObject, out-SchemaObject, fold_out-SchemaObject}
 use Rattle.schema_values.specs.declared.schema.Subschemas.{Subschemas, fold_out-Subschemas}
 use Rattle.openapi_values.specs.Objects.{Entry, pair_member, object_of, reference_json, unless_empty}
 use Rattle.openapi_values.proofs.OneVariant.{schema_in}
 use Rattle.openapi_values.proofs.PartMaps.{items-map, additional-map, array-map, object-map, subschemas-map, all_of-map}
-use Rattle.openapi_values.specs.SchemaJson.{Written, untitled, truth_json, additional_json, names_json, schemas_json, annotations, type_entries, schema_step, items_step, array_step, property_step, object_parts_step, subschemas_step, object_step, schema_written, items_written, array_written, object_parts_written, property_written, object_written, subschemas_written, count_json}
+use Rattle.openapi_values.specs.SchemaJson.{Written, untitled, truth_json, additional_json, names_json, schemas_json, annotations, entries_behind, object_level, schema_step, items_step, array_step, property_step, object_parts_step, subschemas_step, object_step, schema_written, items_written, array_written, object_parts_written, property_written, object_written, subschemas_written, count_json}
 
 pub truth-is : (truth : Bool) → schema_written (Truth truth) ≡ record { truth = Some truth; under = λ title. truth_json truth }
 unfolding schema_written
@@ -40,11 +39,15 @@ unfolding array_written items_written
 array-is array = fold_out-ArrayParts Json Written (List Entry) (List Entry) (List ℕ × Json) (Option (List ℕ) → Json) (List Entry) items_step schema_step array_step object_parts_step property_step object_step subschemas_step array
     ∙ ap (λ o. (codes "items", o) ∷ (codes "minItems", count_json array.min) ∷ (codes "maxItems", count_json array.max) ∷ []) (items-map items_written array.items)
 
-pub subschemas-are : (subschemas : Subschemas) → subschemas_written subschemas ≡ (codes "allOf", schemas_json (option_map (map schema_written) subschemas.all_of)) ∷ (codes "anyOf", schemas_json (option_map (map schema_written) subschemas.any_of)) ∷ []
+pub subschemas-are : (subschemas : Subschemas) → subschemas_written subschemas ≡
+    (codes "allOf", schemas_json (option_map (map schema_written) subschemas.all_of))
+    ∷ (codes "anyOf", schemas_json (option_map (map schema_written) subschemas.any_of))
+    ∷ (codes "oneOf", schemas_json (option_map (map schema_written) subschemas.one_of))
+    ∷ (codes "not", option_map untitled (option_map schema_written subschemas.not))
+    ∷ []
 unfolding subschemas_written schema_written
 subschemas-are subschemas = fold_out-Subschemas Json Written (List Entry) (List Entry) (List ℕ × Json) (Option (List ℕ) → Json) (List Entry) items_step schema_step array_step object_parts_step property_step object_step subschemas_step subschemas
-    ∙ ap (λ o. (codes "allOf", schemas_json o) ∷ (codes "anyOf", schemas_json (former-Subschemas-all_of.map Schema Written schema_written subschemas.any_of)) ∷ []) (all_of-map schema_written subschemas.all_of)
-    ∙ ap (λ o. (codes "allOf", schemas_json (option_map (map schema_written) subschemas.all_of)) ∷ (codes "anyOf", schemas_json o) ∷ []) (all_of-map schema_written subschemas.any_of)
+    ∙ rw (all_of-map schema_written subschemas.all_of, all_of-map schema_written subschemas.any_of, all_of-map schema_written subschemas.one_of, additional-map schema_written subschemas.not) refl
 
 pub object_parts-are : (object : ObjectParts) → object_parts_written object ≡
     (codes "properties", unless_empty (map pair_member (map property_written (out-ObjectParts object).properties)))
@@ -59,20 +62,10 @@ object_parts-are object = fold_out-ObjectParts Json Written (List Entry) (List E
     ∷ (codes "additionalProperties", option_map additional_json o)
     ∷ []) (additional-map schema_written (out-ObjectParts object).additional)
 
--- a schema object, by what its parts are written as
-abbrev pub object_with : SchemaObject → Option (List ℕ) → Option (List Entry) → Option (List Entry) → Option (List Entry) → Json
-object_with schema given array object subschemas = option_map_or reference_json (out-SchemaObject schema).reference
-    (object_of ((annotations given (out-SchemaObject schema).title (out-SchemaObject schema).description (out-SchemaObject schema).nullable
-    ++ type_entries (out-SchemaObject schema).instance_type (out-SchemaObject schema).format (out-SchemaObject schema).number (out-SchemaObject schema).string array object)
-    ++ unwrap_or subschemas []))
-
-pub object-is : (schema : SchemaObject) (given : Option (List ℕ)) → object_written schema given ≡
-    object_with schema given (option_map array_written (out-SchemaObject schema).array) (option_map object_parts_written (out-SchemaObject schema).object) (option_map subschemas_written (out-SchemaObject schema).subschemas)
+pub object-is : (schema : SchemaObject) (given : Option (List ℕ)) → object_written schema given ≡ object_step (object_level schema) given
 unfolding object_written array_written object_parts_written subschemas_written
 object-is schema given = ap (λ f. f given) (fold_out-SchemaObject Json Written (List Entry) (List Entry) (List ℕ × Json) (Option (List ℕ) → Json) (List Entry) items_step schema_step array_step object_parts_step property_step object_step subschemas_step schema)
-    ∙ ap (λ o. object_with schema given o (former-SchemaObject-object.map ObjectParts (List Entry) object_parts_written (out-SchemaObject schema).object) (former-SchemaObject-subschemas.map Subschemas (List Entry) subschemas_written (out-SchemaObject schema).subschemas)) (array-map array_written (out-SchemaObject schema).array)
-    ∙ ap (λ o. object_with schema given (option_map array_written (out-SchemaObject schema).array) o (former-SchemaObject-subschemas.map Subschemas (List Entry) subschemas_written (out-SchemaObject schema).subschemas)) (object-map object_parts_written (out-SchemaObject schema).object)
-    ∙ ap (λ o. object_with schema given (option_map array_written (out-SchemaObject schema).array) (option_map object_parts_written (out-SchemaObject schema).object) o) (subschemas-map subschemas_written (out-SchemaObject schema).subschemas)
+    ∙ rw (array-map array_written (out-SchemaObject schema).array, object-map object_parts_written (out-SchemaObject schema).object, subschemas-map subschemas_written (out-SchemaObject schema).subschemas) refl
 
 by_reference : (o : Option (List ℕ)) (other : Json) (text : List ℕ) → o ≡ Some text → option_map_or reference_json o other ≡ reference_json text
 by_reference o other text e = ap (λ o. option_map_or reference_json o other) e
@@ -85,7 +78,5 @@ without None other h = refl
 without (Some text) other h = absurd (h text refl)
 
 pub parts-are : (schema : SchemaObject) (given : Option (List ℕ)) → ((text : List ℕ) → (out-SchemaObject schema).reference ≡ Some text → ⊥) → object_written schema given ≡
-    object_of ((annotations given (out-SchemaObject schema).title (out-SchemaObject schema).description (out-SchemaObject schema).nullable
-    ++ type_entries (out-SchemaObject schema).instance_type (out-SchemaObject schema).format (out-SchemaObject schema).number (out-SchemaObject schema).string (option_map array_written (out-SchemaObject schema).array) (option_map object_parts_written (out-SchemaObject schema).object))
-    ++ unwrap_or (option_map subschemas_written (out-SchemaObject schema).subschemas) [])
+    object_of (annotations given (out-SchemaObject schema).title (out-SchemaObject schema).description (out-SchemaObject schema).nullable ++ entries_behind (object_level schema))
 parts-are schema given none = object-is schema given ∙ without _ _ none

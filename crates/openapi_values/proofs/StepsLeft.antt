@@ -53,7 +53,7 @@ members_passed s first later after beside inside is e f =
 
 -- one step of a schema, where so many are left
 pub one_step : (a : Admitter) (j : Json) (n steps : ℕ) (s : Json) → suc n ≡ steps
-    → schema_admits a.doc.now (smaller_admits a.doc.now (room_at a)) (admits_within a.doc.now (room_at a) j n) (out-Json j) s ≡ admits_within a.doc.now (room_at a) j steps s
+    → schema_admits a.doc.now (smaller_admits a.doc.now (room_at a)) (admits_within a.doc.now (room_at a) j n) j (out-Json j) s ≡ admits_within a.doc.now (room_at a) j steps s
 one_step a j n steps s more = sym (admits-suc a.doc.now (room_at a) j n s) ∙ ap (λ (m : ℕ). admits_within a.doc.now (room_at a) j m s) more
 
 -- the steps of one value

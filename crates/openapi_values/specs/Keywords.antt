@@ -2,7 +2,7 @@
 use Rattle.std.specs.Prelude.{ℕ, Bool, ◌||◌, List, [], ◌∷◌, Option, Some, None, if◌then◌else◌, is_some, bytes_eq, nat_eq, codes}
 use Rattle.std.specs.List.{list_any}
 use Rattle.openapi_values.specs.declared.keywords.Keyword.{Keyword}
-use Rattle.openapi_values.specs.declared.keywords.Keyword.TheVariants.{Reference, Nullable, Annotation, OfType, Format, Minimum, Maximum, ExclusiveMinimum, ExclusiveMaximum, MinLength, MaxLength, Items, MinItems, MaxItems, Properties, Required, AdditionalProperties, MinProperties, MaxProperties, AllOf, AnyOf, OneOf, Not, Other}
+use Rattle.openapi_values.specs.declared.keywords.Keyword.TheVariants.{Reference, Nullable, Annotation, OfType, Format, Enum, Minimum, Maximum, ExclusiveMinimum, ExclusiveMaximum, MinLength, MaxLength, Items, MinItems, MaxItems, Properties, Required, AdditionalProperties, MinProperties, MaxProperties, AllOf, AnyOf, OneOf, Not, Other}
 
 -- what follows a prefix
 abbrev pub after : List ℕ → List ℕ → Option (List ℕ)
@@ -41,6 +41,7 @@ part_of name =
     (if bytes_eq name (codes "nullable") then Nullable else
     (if bytes_eq name (codes "type") then OfType else
     (if bytes_eq name (codes "format") then Format else
+    (if bytes_eq name (codes "enum") then Enum else
     (if bytes_eq name (codes "items") then Items else
     (if bytes_eq name (codes "properties") then Properties else
     (if bytes_eq name (codes "required") then Required else
@@ -49,7 +50,7 @@ part_of name =
     (if bytes_eq name (codes "anyOf") then AnyOf else
     (if bytes_eq name (codes "oneOf") then OneOf else
     (if bytes_eq name (codes "not") then Not else
-    Other)))))))))))
+    Other))))))))))))
 
 -- the keyword that a member's name stands for
 abbrev pub keyword_of : List ℕ → Keyword

@@ -1,9 +1,13 @@
 -- Which schemas are not written, and why: the first refusal, outer schemas before inner ones.
-use Rattle.std.specs.Prelude.{Bool, true, false, List, [], ◌∷◌, Option, Some, None, unwrap_or, option_and_then, if◌then◌else◌}
+use Rattle.std.specs.Prelude.{Bool, true, false, ◌==◌, List, [], ◌∷◌, Option, Some, None, is_some, unwrap_or, option_map, option_and_then, if◌then◌else◌, count_by}
+use Rattle.std.specs.List.{list_all}
 use Rattle.std.specs.Option.{option_map_or, option_or}
+use Rattle.schema_values.specs.declared.json_value.Json.{Json, out-Json}
+use Rattle.schema_values.specs.declared.json_value.Json.TheOpen.{Json-F}
+use Rattle.schema_values.specs.declared.json_value.Member.{Member}
 use Rattle.schema_values.specs.declared.schema.ArrayParts.{ArrayParts, ArrayParts-F, fold-ArrayParts}
 use Rattle.schema_values.specs.declared.schema.InstanceType.{InstanceType}
-use Rattle.schema_values.specs.declared.schema.InstanceType.TheVariants.{Object, Array}
+use Rattle.schema_values.specs.declared.schema.InstanceType.TheVariants.{Boolean, Object, Array, String, Integer}
 use Rattle.schema_values.specs.declared.schema.InstanceTypes.{InstanceTypes}
 use Rattle.schema_values.specs.declared.schema.InstanceTypes.TheVariants.{Single}
 use Rattle.schema_values.specs.declared.schema.Items.{Items, Items-F, fold-Items}
@@ -11,10 +15,10 @@ use Rattle.schema_values.specs.declared.schema.Items.TheOpen as open_types
 use Rattle.schema_values.specs.declared.schema.ObjectParts.{ObjectParts, ObjectParts-F, fold-ObjectParts}
 use Rattle.schema_values.specs.declared.schema.Property.{Property, Property-F, fold-Property}
 use Rattle.schema_values.specs.declared.schema.Schema.{Schema, Schema-F, fold-Schema}
-use Rattle.schema_values.specs.declared.schema.SchemaObject.{SchemaObject, SchemaObject-F, fold-SchemaObject}
+use Rattle.schema_values.specs.declared.schema.SchemaObject.{SchemaObject, SchemaObject-F, fold-SchemaObject, out-SchemaObject}
 use Rattle.schema_values.specs.declared.schema.Subschemas.{Subschemas, Subschemas-F, fold-Subschemas}
 use Rattle.openapi_values.specs.declared.j2oas.J2oasError.{J2oasError}
-use Rattle.openapi_values.specs.declared.j2oas.J2oasError.TheVariants.{NoItems, BadSubschema}
+use Rattle.openapi_values.specs.declared.j2oas.J2oasError.TheVariants.{NoItems, EnumWithoutType, BadEnumValue, BadSubschema}
 
 -- why a schema is not written, or none
 abbrev pub Refusal : Type 0
@@ -25,9 +29,9 @@ pub record Inner : Type 0 where
   pub one_kind : Bool
   pub refusal : Refusal
 
--- one level of each type, with the refusals of the smaller schemas
+-- one level of each type, with the refusals of the smaller schemas; of an array that of its items, where it has any
 abbrev pub Level : ((A B C D E F G : Type 0) → Type 0) → Type 0
-Level F = F Refusal Refusal Refusal Refusal Refusal Refusal Inner
+Level F = F Refusal Refusal (Option Refusal) Refusal Refusal Refusal Inner
 
 -- the first refusal of a list
 abbrev pub first_of : List Refusal → Refusal
@@ -43,9 +47,9 @@ schema_step (open_types.Object refusal) = refusal
 abbrev pub items_step : Level Items-F → Refusal
 items_step (open_types.One refusal) = refusal
 
--- an array has items
-abbrev pub array_step : Level ArrayParts-F → Refusal
-array_step array = unwrap_or array.items (Some NoItems)
+-- the refusal of the items
+abbrev pub array_step : Level ArrayParts-F → Option Refusal
+array_step array = array.items
 
 -- a property is refused as its schema is
 abbrev pub property_step : Level Property-F → Refusal
@@ -55,68 +59,122 @@ property_step property = property.schema
 abbrev pub object_parts_step : Level ObjectParts-F → Refusal
 object_parts_step object = option_or (first_of object.properties) (unwrap_or object.additional None)
 
--- whether exactly one of the two is given
-abbrev pub is_one_kind : {A B : Type 0} → Option A → Option B → Bool
-is_one_kind None None = false
-is_one_kind None (Some b) = true
-is_one_kind (Some a) None = true
-is_one_kind (Some a) (Some b) = false
+-- whether exactly one is given
+abbrev pub is_one_kind : List Bool → Bool
+is_one_kind given = count_by (λ b. b) given == 1
 
 -- the kinds of subschemas that are given, and the first refusal among them
 abbrev pub subschemas_step : Level Subschemas-F → Inner
 subschemas_step subschemas = record {
-  one_kind = is_one_kind subschemas.all_of subschemas.any_of;
-  refusal = option_or (first_of (unwrap_or subschemas.all_of [])) (first_of (unwrap_or subschemas.any_of []));
+  one_kind = is_one_kind (is_some subschemas.all_of ∷ is_some subschemas.any_of ∷ is_some subschemas.one_of ∷ is_some subschemas.not ∷ []);
+  refusal =
+      option_or (first_of (unwrap_or subschemas.all_of []))
+      (option_or (first_of (unwrap_or subschemas.any_of []))
+      (option_or (first_of (unwrap_or subschemas.one_of []))
+      (unwrap_or subschemas.not None)));
 }
 
--- the refusal of what a type has beside its name: an array has items, an object may have parts
-abbrev pub kind_refusal : InstanceType → Option Refusal → Option Refusal → Refusal
-kind_refusal Array array object = unwrap_or array (Some NoItems)
-kind_refusal Object array object = unwrap_or object None
-kind_refusal _ array object = None
+-- null, or a value of a type that is neither an object nor an array
+abbrev pub is_level_of : InstanceType → Json-F Json Member → Bool
+is_level_of type Json-F.Null = true
+is_level_of Boolean (Json-F.Bool b) = true
+is_level_of Integer (Json-F.Int n) = true
+is_level_of String (Json-F.Text t) = true
+is_level_of type level = false
+
+-- a value that stands in the `enum` of a type
+abbrev pub is_value_of : InstanceType → Json → Bool
+is_value_of type json = is_level_of type (out-Json json)
+
+-- the values of a type: none of an object or an array, else each null or of the type
+abbrev pub values_beside : InstanceType → List Json → Refusal
+values_beside Object values = Some EnumWithoutType
+values_beside Array values = Some EnumWithoutType
+values_beside type values = if list_all (is_value_of type) values then None else Some BadEnumValue
+
+-- where a schema has values, they stand beside a type
+abbrev pub values_refusal : Option InstanceTypes → List Json → Refusal
+values_refusal type [] = None
+values_refusal None (value ∷ values) = Some EnumWithoutType
+values_refusal (Some (Single type)) (value ∷ values) = values_beside type (value ∷ values)
+
+-- an array has items
+abbrev pub items_missing : Option InstanceTypes → Option Refusal → Refusal
+items_missing (Some (Single Array)) None = Some NoItems
+items_missing type items = None
 
 -- without a type, subschemas are of exactly one kind
-abbrev pub untyped_refusal : Option Inner → Refusal
-untyped_refusal None = None
-untyped_refusal (Some inner) = if inner.one_kind then inner.refusal else Some BadSubschema
+abbrev pub kinds_refusal : Option InstanceTypes → Option Inner → Refusal
+kinds_refusal None (Some inner) = if inner.one_kind then None else Some BadSubschema
+kinds_refusal type inner = None
 
--- the first refusal among subschemas, where there are any
-abbrev pub inner_refusal : Option Inner → Refusal
-inner_refusal inner = option_and_then (λ i. i.refusal) inner
+-- the first refusal inside the items of an array, or inside the members of an object
+abbrev pub type_refusal : Option InstanceTypes → Option Refusal → Option Refusal → Refusal
+type_refusal (Some (Single Array)) items object = unwrap_or items None
+type_refusal (Some (Single Object)) items object = unwrap_or object None
+type_refusal type items object = None
 
--- with a type, the refusal of what it has comes before that of the subschemas
-abbrev pub type_refusal : Option InstanceTypes → Option Refusal → Option Refusal → Option Inner → Refusal
-type_refusal None array object inner = untyped_refusal inner
-type_refusal (Some (Single type)) array object inner = option_or (kind_refusal type array object) (inner_refusal inner)
+-- the items of an array, where the schema has them
+abbrev pub items_of : Level SchemaObject-F → Option Refusal
+items_of schema = option_and_then (λ items. items) schema.array
 
--- a reference is written as it is
+-- the schema's own case: its items, its values, and then the kinds of its subschemas
+abbrev pub own_refusal : Level SchemaObject-F → Refusal
+own_refusal schema = first_of (
+    items_missing schema.instance_type (items_of schema)
+    ∷ values_refusal schema.instance_type (unwrap_or schema.enum_values [])
+    ∷ kinds_refusal schema.instance_type schema.subschemas
+    ∷ [])
+
+-- the first refusal inside: of what the type has, and then of the subschemas
+abbrev pub inner_refusal : Level SchemaObject-F → Refusal
+inner_refusal schema = option_or (type_refusal schema.instance_type (items_of schema) schema.object) (option_and_then (λ inner. inner.refusal) schema.subschemas)
+
+-- a reference is written as it is; else a schema's own case comes before those inside
 abbrev pub object_step : Level SchemaObject-F → Refusal
-object_step schema = option_map_or (λ reference. None) schema.reference (type_refusal schema.instance_type schema.array schema.object schema.subschemas)
+object_step schema = option_map_or (λ reference. None) schema.reference (option_or (own_refusal schema) (inner_refusal schema))
 
 -- the first refusal in a schema
 unfoldable pub refusal_of : Schema → Refusal
-refusal_of = fold-Schema Refusal Refusal Refusal Refusal Refusal Refusal Inner items_step schema_step array_step object_parts_step property_step object_step subschemas_step
+refusal_of = fold-Schema Refusal Refusal (Option Refusal) Refusal Refusal Refusal Inner items_step schema_step array_step object_parts_step property_step object_step subschemas_step
 
 -- the first refusal in items
 unfoldable pub items_refusal : Items → Refusal
-items_refusal = fold-Items Refusal Refusal Refusal Refusal Refusal Refusal Inner items_step schema_step array_step object_parts_step property_step object_step subschemas_step
+items_refusal = fold-Items Refusal Refusal (Option Refusal) Refusal Refusal Refusal Inner items_step schema_step array_step object_parts_step property_step object_step subschemas_step
 
--- the first refusal in what an array has
-unfoldable pub array_refusal : ArrayParts → Refusal
-array_refusal = fold-ArrayParts Refusal Refusal Refusal Refusal Refusal Refusal Inner items_step schema_step array_step object_parts_step property_step object_step subschemas_step
+-- the first refusal in the items of an array, where it has any
+unfoldable pub array_refusal : ArrayParts → Option Refusal
+array_refusal = fold-ArrayParts Refusal Refusal (Option Refusal) Refusal Refusal Refusal Inner items_step schema_step array_step object_parts_step property_step object_step subschemas_step
 
 -- the first refusal in what an object has
 unfoldable pub object_parts_refusal : ObjectParts → Refusal
-object_parts_refusal = fold-ObjectParts Refusal Refusal Refusal Refusal Refusal Refusal Inner items_step schema_step array_step object_parts_step property_step object_step subschemas_step
+object_parts_refusal = fold-ObjectParts Refusal Refusal (Option Refusal) Refusal Refusal Refusal Inner items_step schema_step array_step object_parts_step property_step object_step subschemas_step
 
 -- the first refusal in a property
 unfoldable pub property_refusal : Property → Refusal
-property_refusal = fold-Property Refusal Refusal Refusal Refusal Refusal Refusal Inner items_step schema_step array_step object_parts_step property_step object_step subschemas_step
+property_refusal = fold-Property Refusal Refusal (Option Refusal) Refusal Refusal Refusal Inner items_step schema_step array_step object_parts_step property_step object_step subschemas_step
 
 -- the first refusal in a schema object
 unfoldable pub object_refusal : SchemaObject → Refusal
-object_refusal = fold-SchemaObject Refusal Refusal Refusal Refusal Refusal Refusal Inner items_step schema_step array_step object_parts_step property_step object_step subschemas_step
+object_refusal = fold-SchemaObject Refusal Refusal (Option Refusal) Refusal Refusal Refusal Inner items_step schema_step array_step object_parts_step property_step object_step subschemas_step
 
 -- whether subschemas are of one kind, and the first refusal in them
 unfoldable pub subschemas_inner : Subschemas → Inner
-subschemas_inner = fold-Subschemas Refusal Refusal Refusal Refusal Refusal Refusal Inner items_step schema_step array_step object_parts_step property_step object_step subschemas_step
+subschemas_inner = fold-Subschemas Refusal Refusal (Option Refusal) Refusal Refusal Refusal Inner items_step schema_step array_step object_parts_step property_step object_step subschemas_step
+
+-- one level of a schema object, in which each part with schemas stands as its refusal
+abbrev pub object_level : SchemaObject → Level SchemaObject-F
+object_level schema = record {
+  title = (out-SchemaObject schema).title;
+  description = (out-SchemaObject schema).description;
+  nullable = (out-SchemaObject schema).nullable;
+  instance_type = (out-SchemaObject schema).instance_type;
+  format = (out-SchemaObject schema).format;
+  enum_values = (out-SchemaObject schema).enum_values;
+  subschemas = option_map subschemas_inner (out-SchemaObject schema).subschemas;
+  number = (out-SchemaObject schema).number;
+  string = (out-SchemaObject schema).string;
+  array = option_map array_refusal (out-SchemaObject schema).array;
+  object = option_map object_parts_refusal (out-SchemaObject schema).object;
+  reference = (out-SchemaObject schema).reference;
+}

@@ -4,8 +4,9 @@ use Rattle.std.specs.List.{list_all, list_any}
 use Rattle.schema_values.specs.declared.json_value.Json.{Json, out-Json}
 use Rattle.schema_values.specs.declared.json_value.Member.{Member}
 use Rattle.schema_values.specs.Get.{first_named}
+use Rattle.schema_values.specs.Same.{same_json}
 use Rattle.openapi_values.specs.declared.keywords.Keyword.{Keyword}
-use Rattle.openapi_values.specs.declared.keywords.Keyword.TheVariants.{Reference, Nullable, Annotation, OfType, Format, Minimum, Maximum, ExclusiveMinimum, ExclusiveMaximum, MinLength, MaxLength, Items, MinItems, MaxItems, Properties, Required, AdditionalProperties, MinProperties, MaxProperties, AllOf, AnyOf, OneOf, Not, Other}
+use Rattle.openapi_values.specs.declared.keywords.Keyword.TheVariants.{Reference, Nullable, Annotation, OfType, Format, Enum, Minimum, Maximum, ExclusiveMinimum, ExclusiveMaximum, MinLength, MaxLength, Items, MinItems, MaxItems, Properties, Required, AdditionalProperties, MinProperties, MaxProperties, AllOf, AnyOf, OneOf, Not, Other}
 use Rattle.openapi_values.specs.Keywords.{keyword_of}
 use Rattle.openapi_values.specs.Levels.{Named, Level, as_number, as_text, as_list, as_object, is_true, has_type, has_member}
 use Rattle.openapi_values.specs.Lookup.{is_set, is_integer}
@@ -80,13 +81,18 @@ some_admits next s = is_some_and (as_list (out-Json s)) (list_any next)
 abbrev pub one_admits : (Json → Bool) → Json → Bool
 one_admits next s = is_some_and (as_list (out-Json s)) (λ schemas. count_by next schemas == 1)
 
--- One row for each member of a schema: whether its value `s` holds of the value `j`. `smaller` says whether a smaller
--- value is admitted by a schema, and `next` whether `j` is admitted by one with one step less.
-module _ {X : Type 0} (smaller : X → Json → Bool) (next : Json → Bool) (j : Level X) (schema : List Member) where
+-- a value is one of those that a list holds
+abbrev pub is_listed : Json → Json → Bool
+is_listed json s = is_some_and (as_list (out-Json s)) (list_any (same_json json))
+
+-- One row for each member of a schema: whether its value `s` holds of the value `json`, of which `j` is one level.
+-- `smaller` says whether a smaller value is admitted by a schema, and `next` whether `json` is with one step less.
+module _ {X : Type 0} (smaller : X → Json → Bool) (next : Json → Bool) (json : Json) (j : Level X) (schema : List Member) where
   -- whether a member of a keyword, whose value is `s`, holds
   abbrev pub row : Keyword → Json → Bool
   row OfType s = is_some_and (as_text (out-Json s)) (λ name. has_type name j)
   row Format s = is_none_or (as_number j) (λ n. not (is_integer schema) || is_some_and (as_text (out-Json s)) (λ name. in_format name n))
+  row Enum s = is_listed json s
   row Minimum s = is_none_or (as_number j) (λ n. is_least (is_set (codes "exclusiveMinimum") schema) n s)
   row Maximum s = is_none_or (as_number j) (λ n. is_greatest (is_set (codes "exclusiveMaximum") schema) n s)
   row MinLength s = is_none_or (as_text j) (λ t. is_enough (length t) s)

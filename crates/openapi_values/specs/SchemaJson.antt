@@ -1,20 +1,20 @@
 -- How a schema is written (OpenAPI 3.0.3, Schema Object).
 use Rattle.std.specs.Prelude.{ℕ, pos, Bool, true, false, List, [], ◌∷◌, ◌++◌, map, Option, Some, None, option_map, option_and_then, unwrap_or, if◌then◌else◌, codes}
 use Rattle.std.specs.Option.{option_map_or, option_or}
-use Rattle.schema_values.specs.declared.json_value.Json.{Json, Bool as Truth, Int, Text, List as ListOf}
+use Rattle.schema_values.specs.declared.json_value.Json.{Json, Null as NullJson, Bool as Truth, Int, Text, List as ListOf}
 use Rattle.schema_values.specs.declared.schema.ArrayParts.{ArrayParts, ArrayParts-F, fold-ArrayParts}
 use Rattle.schema_values.specs.declared.schema.InstanceType.{InstanceType}
-use Rattle.schema_values.specs.declared.schema.InstanceType.TheVariants.{Boolean, Object, Array, String, Integer}
+use Rattle.schema_values.specs.declared.schema.InstanceType.TheVariants.{Null, Boolean, Object, Array, String, Integer}
 use Rattle.schema_values.specs.declared.schema.InstanceTypes.{InstanceTypes}
 use Rattle.schema_values.specs.declared.schema.InstanceTypes.TheVariants.{Single}
-use Rattle.schema_values.specs.declared.schema.Items.{Items, Items-F, One, fold-Items}
+use Rattle.schema_values.specs.declared.schema.Items.{Items, Items-F, fold-Items}
 use Rattle.schema_values.specs.declared.schema.Items.TheOpen as open_types
 use Rattle.schema_values.specs.declared.schema.LengthBounds.{LengthBounds}
 use Rattle.schema_values.specs.declared.schema.NumberBounds.{NumberBounds}
 use Rattle.schema_values.specs.declared.schema.ObjectParts.{ObjectParts, ObjectParts-F, fold-ObjectParts}
 use Rattle.schema_values.specs.declared.schema.Property.{Property, Property-F, fold-Property}
 use Rattle.schema_values.specs.declared.schema.Schema.{Schema, Schema-F, fold-Schema}
-use Rattle.schema_values.specs.declared.schema.SchemaObject.{SchemaObject, SchemaObject-F, fold-SchemaObject}
+use Rattle.schema_values.specs.declared.schema.SchemaObject.{SchemaObject, SchemaObject-F, fold-SchemaObject, out-SchemaObject}
 use Rattle.schema_values.specs.declared.schema.Subschemas.{Subschemas, Subschemas-F, fold-Subschemas}
 use Rattle.openapi_values.specs.IfTrue.{if_true}
 use Rattle.openapi_values.specs.Objects.{Entry, pair_member, object_of, reference_json, unless_empty}
@@ -32,10 +32,14 @@ untitled written = written.under None
 abbrev pub Level : ((A B C D E F G : Type 0) → Type 0) → Type 0
 Level F = F Json Written (List Entry) (List Entry) (List ℕ × Json) (Option (List ℕ) → Json) (List Entry)
 
+-- what admits nothing
+abbrev pub nothing_entries : List Entry
+nothing_entries = (codes "not", Some (object_of [])) ∷ []
+
 -- `{}` admits all, and `{"not":{}}` nothing
 abbrev pub truth_json : Bool → Json
 truth_json true = object_of []
-truth_json false = object_of ((codes "not", Some (object_of [])) ∷ [])
+truth_json false = object_of nothing_entries
 
 -- a truth value, or a schema object under a title
 abbrev pub schema_step : Level Schema-F → Written
@@ -79,12 +83,18 @@ object_parts_step object =
 abbrev pub schemas_json : Option (List Written) → Option Json
 schemas_json = option_map (λ schemas. ListOf (map untitled schemas))
 
--- `allOf` and `anyOf`
+-- `allOf`, `anyOf`, `oneOf` and `not`
 abbrev pub subschemas_step : Level Subschemas-F → List Entry
-subschemas_step subschemas = (codes "allOf", schemas_json subschemas.all_of) ∷ (codes "anyOf", schemas_json subschemas.any_of) ∷ []
+subschemas_step subschemas =
+    (codes "allOf", schemas_json subschemas.all_of)
+    ∷ (codes "anyOf", schemas_json subschemas.any_of)
+    ∷ (codes "oneOf", schemas_json subschemas.one_of)
+    ∷ (codes "not", option_map untitled subschemas.not)
+    ∷ []
 
--- the name of a type (OpenAPI 3.0.3, Data Types)
+-- the name of a type (OpenAPI 3.0.3, Data Types); null has none of its own, and stands among the values of a string
 abbrev pub type_name : InstanceType → List ℕ
+type_name Null = codes "string"
 type_name Boolean = codes "boolean"
 type_name Object = codes "object"
 type_name Array = codes "array"
@@ -96,43 +106,68 @@ abbrev pub annotations : Option (List ℕ) → Option (List ℕ) → Option (Lis
 annotations given title description nullable =
     (codes "nullable", if_true nullable) ∷ (codes "title", option_map Text (option_or given title)) ∷ (codes "description", option_map Text description) ∷ []
 
--- the format and the bounds of a number
-abbrev pub number_entries : Option (List ℕ) → Option NumberBounds → List Entry
-number_entries format bounds =
+-- the values as a list, left out where they are not given, and not where the list is empty
+abbrev pub values_json : Option (List Json) → Option Json
+values_json = option_map ListOf
+
+-- null as the one value
+abbrev pub null_entries : List Entry
+null_entries = (codes "enum", Some (ListOf (NullJson ∷ []))) ∷ []
+
+-- the values of a boolean
+abbrev pub boolean_entries : Option (List Json) → List Entry
+boolean_entries values = (codes "enum", values_json values) ∷ []
+
+-- the format, the bounds and the values of a number
+abbrev pub number_entries : Option (List ℕ) → Option NumberBounds → Option (List Json) → List Entry
+number_entries format bounds values =
     (codes "format", option_map Text format)
     ∷ (codes "minimum", option_map Int (option_and_then (λ b. b.minimum) bounds))
     ∷ (codes "maximum", option_map Int (option_and_then (λ b. b.maximum) bounds))
+    ∷ (codes "enum", values_json values)
     ∷ []
 
--- the format of a text and the bounds of its length
-abbrev pub text_entries : Option (List ℕ) → Option LengthBounds → List Entry
-text_entries format bounds =
+-- the format of a text, its values and the bounds of its length
+abbrev pub text_entries : Option (List ℕ) → Option LengthBounds → Option (List Json) → List Entry
+text_entries format bounds values =
     (codes "format", option_map Text format)
+    ∷ (codes "enum", values_json values)
     ∷ (codes "minLength", count_json (option_and_then (λ b. b.min) bounds))
     ∷ (codes "maxLength", count_json (option_and_then (λ b. b.max) bounds))
     ∷ []
 
--- the members that a type has beside its name
-abbrev pub kind_entries : InstanceType → Option (List ℕ) → Option NumberBounds → Option LengthBounds → Option (List Entry) → Option (List Entry) → List Entry
-kind_entries Boolean format number text array object = []
-kind_entries Object format number text array object = unwrap_or object []
-kind_entries Array format number text array object = unwrap_or array []
-kind_entries String format number text array object = text_entries format text
-kind_entries Integer format number text array object = number_entries format number
+-- the members that a type has beside its name; the type of null has null as its one value
+abbrev pub kind_entries : InstanceType → Level SchemaObject-F → List Entry
+kind_entries Null schema = null_entries
+kind_entries Boolean schema = boolean_entries schema.enum_values
+kind_entries Object schema = unwrap_or schema.object []
+kind_entries Array schema = unwrap_or schema.array []
+kind_entries String schema = text_entries schema.format schema.string schema.enum_values
+kind_entries Integer schema = number_entries schema.format schema.number schema.enum_values
 
--- the name of the type and what it has beside; nothing without a type
-abbrev pub type_entries : Option InstanceTypes → Option (List ℕ) → Option NumberBounds → Option LengthBounds → Option (List Entry) → Option (List Entry) → List Entry
-type_entries None format number text array object = []
-type_entries (Some (Single type)) format number text array object = (codes "type", Some (Text (type_name type))) ∷ kind_entries type format number text array object
+-- the name of a type and what it has beside; nothing without a type
+abbrev pub type_entries : Option InstanceTypes → Level SchemaObject-F → List Entry
+type_entries None schema = []
+type_entries (Some (Single type)) schema = (codes "type", Some (Text (type_name type))) ∷ kind_entries type schema
 
--- a reference stands alone; else annotations come first, then the members of the type, then the subschemas
+-- the members of the type, and then the subschemas
+abbrev pub own_entries : Level SchemaObject-F → List Entry
+own_entries schema = type_entries schema.instance_type schema ++ unwrap_or schema.subschemas []
+
+-- whether the values are given and there are none
+abbrev pub without_values : Option (List Json) → Bool
+without_values (Some []) = true
+without_values _ = false
+
+-- what stands behind the annotations: where the values are given and there are none, that nothing is admitted
+abbrev pub entries_behind : Level SchemaObject-F → List Entry
+entries_behind schema = if without_values schema.enum_values then nothing_entries else own_entries schema
+
+-- a reference stands alone; else annotations come first, then what the schema is
 abbrev pub object_step : Level SchemaObject-F → Option (List ℕ) → Json
 object_step schema given =
     option_map_or reference_json schema.reference
-    (object_of (
-    (annotations given schema.title schema.description schema.nullable
-    ++ type_entries schema.instance_type schema.format schema.number schema.string schema.array schema.object)
-    ++ unwrap_or schema.subschemas []))
+    (object_of (annotations given schema.title schema.description schema.nullable ++ entries_behind schema))
 
 -- a schema, as it is written: under each title, and beside it the truth value that it is
 unfoldable pub schema_written : Schema → Written
@@ -161,6 +196,23 @@ object_written = fold-SchemaObject Json Written (List Entry) (List Entry) (List 
 -- subschemas, as they are written
 unfoldable pub subschemas_written : Subschemas → List Entry
 subschemas_written = fold-Subschemas Json Written (List Entry) (List Entry) (List ℕ × Json) (Option (List ℕ) → Json) (List Entry) items_step schema_step array_step object_parts_step property_step object_step subschemas_step
+
+-- one level of a schema object, in which each part with schemas stands as it is written
+abbrev pub object_level : SchemaObject → Level SchemaObject-F
+object_level schema = record {
+  title = (out-SchemaObject schema).title;
+  description = (out-SchemaObject schema).description;
+  nullable = (out-SchemaObject schema).nullable;
+  instance_type = (out-SchemaObject schema).instance_type;
+  format = (out-SchemaObject schema).format;
+  enum_values = (out-SchemaObject schema).enum_values;
+  subschemas = option_map subschemas_written (out-SchemaObject schema).subschemas;
+  number = (out-SchemaObject schema).number;
+  string = (out-SchemaObject schema).string;
+  array = option_map array_written (out-SchemaObject schema).array;
+  object = option_map object_parts_written (out-SchemaObject schema).object;
+  reference = (out-SchemaObject schema).reference;
+}
 
 -- a schema, under a title where one is given
 abbrev pub schema_json : Option (List ℕ) → Schema → Json

@@ -70,8 +70,8 @@ impl Admitter<'_> {
         requires { left next.now ≤ left self.now.after_first.now }
         ensures { result ≡ schema_admits self.now.doc.now
             (smaller_admits self.now.doc.now (room_at self.now))
-            (admits_within self.now.doc.now (room_at self.now) value.now (left next.now)) (out-Json value.now)
-            schema.now }
+            (admits_within self.now.doc.now (room_at self.now) value.now (left next.now)) value.now
+            (out-Json value.now) schema.now }
     {
         match schema {
             Json::Object(members) => self.members_admit(next, members.as_slice(), value),
@@ -84,8 +84,8 @@ impl Admitter<'_> {
         requires { left next.now ≤ left self.now.after_first.now }
         ensures { result ≡ members_admit self.now.doc.now
             (smaller_admits self.now.doc.now (room_at self.now))
-            (admits_within self.now.doc.now (room_at self.now) value.now (left next.now)) (out-Json value.now)
-            schema.now }
+            (admits_within self.now.doc.now (room_at self.now) value.now (left next.now)) value.now
+            (out-Json value.now) schema.now }
     {
         match reference_of(schema) {
             Some(name) => match definition_named(self.doc, name) {
@@ -100,14 +100,20 @@ impl Admitter<'_> {
     fn object_admits(&self, next: &Steps, schema: &[Member], value: &Json) -> bool
         requires { left next.now ≤ left self.now.after_first.now }
         ensures { result ≡ object_admits (smaller_admits self.now.doc.now (room_at self.now))
-            (admits_within self.now.doc.now (room_at self.now) value.now (left next.now)) (out-Json value.now)
-            schema.now }
+            (admits_within self.now.doc.now (room_at self.now) value.now (left next.now)) value.now
+            (out-Json value.now) schema.now }
     {
         if !rows::all_read(schema) {
             return false;
         }
-        (is_set_true(schema, "nullable") && rows::is_null_value(value))
-            || self.members_hold(next, schema, value)
+        if is_set_true(schema, "nullable") && rows::is_null_value(value) {
+            return true;
+        }
+        if rows::has_null_form(schema) {
+            rows::is_null_value(value)
+        } else {
+            self.members_hold(next, schema, value)
+        }
     }
 
     // Whether each member of a schema holds.
@@ -115,8 +121,8 @@ impl Admitter<'_> {
     fn members_hold(&self, next: &Steps, schema: &[Member], value: &Json) -> bool
         requires { left next.now ≤ left self.now.after_first.now }
         ensures { result ≡ members_hold (smaller_admits self.now.doc.now (room_at self.now))
-            (admits_within self.now.doc.now (room_at self.now) value.now (left next.now)) (out-Json value.now)
-            schema.now }
+            (admits_within self.now.doc.now (room_at self.now) value.now (left next.now)) value.now
+            (out-Json value.now) schema.now }
     {
         for member in schema {
             if !self.member_holds(next, schema, member, value) {
@@ -131,8 +137,8 @@ impl Admitter<'_> {
     fn member_holds(&self, next: &Steps, schema: &[Member], member: &Member, value: &Json) -> bool
         requires { left next.now ≤ left self.now.after_first.now }
         ensures { result ≡ row (smaller_admits self.now.doc.now (room_at self.now))
-            (admits_within self.now.doc.now (room_at self.now) value.now (left next.now)) (out-Json value.now)
-            schema.now (keyword_of member.now.name) member.now.value }
+            (admits_within self.now.doc.now (room_at self.now) value.now (left next.now)) value.now
+            (out-Json value.now) schema.now (keyword_of member.now.name) member.now.value }
     {
         let asked = &member.value;
         match keyword_named(&member.name) {
@@ -141,6 +147,7 @@ impl Admitter<'_> {
             Keyword::ExclusiveMinimum | Keyword::ExclusiveMaximum => true,
             Keyword::OfType => rows::is_of_type(asked, value),
             Keyword::Format => rows::is_of_format(schema, asked, value),
+            Keyword::Enum => rows::is_in_list(asked, value),
             Keyword::Minimum => rows::is_at_least(
                 is_set_true(schema, "exclusiveMinimum"),
                 asked,

@@ -3,7 +3,7 @@ ghost use Rattle.std.specs.Str.{chars};
 ghost use Rattle.schema_values.specs.Ascii.{all_ascii};
 ghost use Rattle.schema_values.specs.Get.{first_named, get_of};
 ghost use Rattle.openapi_values.specs.Levels.{has_member};
-ghost use Rattle.openapi_values.specs.Lookup.{definition, reference_in, is_set, is_integer};
+ghost use Rattle.openapi_values.specs.Lookup.{definition, reference_in, is_set, is_of_type};
 
 use crate::keywords::{is_word, text_after};
 use schema_values::{Json, Member, Text};
@@ -94,12 +94,13 @@ pub fn is_set_true(schema: &[Member], name: &str) -> bool
     }
 }
 
-/// Whether a schema has the type integer.
-pub fn has_integer_type(schema: &[Member]) -> bool
-    ensures { result ≡ is_integer schema.now }
+/// Whether a schema has the type of a name that is an ASCII word.
+pub fn has_type_named(schema: &[Member], name: &str) -> bool
+    requires { IsTrue (all_ascii name.now) }
+    ensures { result ≡ is_of_type name.now schema.now }
 {
     match find_word(schema, "type") {
-        Some(Json::Text(name)) => is_word(name, "integer"),
+        Some(Json::Text(text)) => is_word(text, name),
         _ => false,
     }
 }

@@ -13,6 +13,10 @@ use std::alloc::{AllocError, Global};
 pub enum J2oasError {
     /// An array has no schema of its items.
     NoItems,
+    /// Values are given without a type, or beside an object or an array.
+    EnumWithoutType,
+    /// A value that is neither null nor of the type.
+    BadEnumValue,
     /// A schema without a type has subschemas of no kind, or of more than one.
     BadSubschema,
     OutOfMemory,

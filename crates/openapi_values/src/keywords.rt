@@ -13,6 +13,7 @@ pub enum Keyword {
     Annotation,
     OfType,
     Format,
+    Enum,
     Minimum,
     Maximum,
     ExclusiveMinimum,
@@ -105,6 +106,8 @@ fn part_named(name: &Text) -> Keyword
         Keyword::OfType
     } else if is_word(name, "format") {
         Keyword::Format
+    } else if is_word(name, "enum") {
+        Keyword::Enum
     } else if is_word(name, "items") {
         Keyword::Items
     } else if is_word(name, "properties") {

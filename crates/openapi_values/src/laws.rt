@@ -21,7 +21,7 @@ pub fn admits_by_steps()
         → admits_within doc room json 0 schema ≡ false }
     ensures step { (doc : JsonValue) (room : ℕ) (json : JsonValue) (steps : ℕ) (schema : JsonValue)
         → admits_within doc room json (suc steps) schema ≡ schema_admits doc (smaller_admits doc room)
-        (admits_within doc room json steps) (out-Json json) schema }
+        (admits_within doc room json steps) json (out-Json json) schema }
 {}
 
 /// A written document has the operations of its paths.

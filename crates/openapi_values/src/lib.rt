@@ -16,8 +16,6 @@ mod request;
 mod room;
 mod rows;
 mod schema_parts;
-#[cfg(test)]
-mod tests;
 mod written;
 
 pub use admits::json_admits;

@@ -1,9 +1,13 @@
-ghost use Rattle.std.specs.Prelude.{◌≡◌, [], map, option_map, unwrap_or, None};
-ghost use Rattle.schema_values.specs.declared.schema.ObjectParts.{out-ObjectParts};
+ghost use Rattle.std.specs.Prelude.{◌≡◌, [], is_some, map, option_map, unwrap_or, None};
+ghost use Rattle.std.specs.List.{list_all};
 ghost use Rattle.schema_values.specs.declared.schema.SchemaObject.{out-SchemaObject};
-ghost use Rattle.openapi_values.specs.Refusal.{first_of, is_one_kind, kind_refusal as refusal_of_kind};
-ghost use Rattle.openapi_values.specs.Refusal.{untyped_refusal as refusal_without_type};
-ghost use Rattle.openapi_values.specs.Refusal.{inner_refusal as refusal_inside, refusal_of};
+ghost use Rattle.openapi_values.specs.Refusal.{first_of, items_of, values_beside, object_level};
+ghost use Rattle.openapi_values.specs.Refusal.{is_value_of as is_value, items_missing as missing_items};
+ghost use Rattle.openapi_values.specs.Refusal.{values_refusal as refusal_of_values};
+ghost use Rattle.openapi_values.specs.Refusal.{kinds_refusal as refusal_of_kinds};
+ghost use Rattle.openapi_values.specs.Refusal.{own_refusal as own_refusal_of};
+ghost use Rattle.openapi_values.specs.Refusal.{type_refusal as refusal_of_type};
+ghost use Rattle.openapi_values.specs.Refusal.{inner_refusal as inner_refusal_of, refusal_of};
 ghost use Rattle.openapi_values.specs.Refusal.{items_refusal as refusal_of_items};
 ghost use Rattle.openapi_values.specs.Refusal.{array_refusal as refusal_of_array};
 ghost use Rattle.openapi_values.specs.Refusal.{object_parts_refusal as refusal_of_parts};
@@ -12,11 +16,11 @@ ghost use Rattle.openapi_values.specs.Refusal.{object_refusal as refusal_of_obje
 
 use crate::j2oas::J2oasError;
 use schema_values::{
-    ArrayParts, InstanceType, InstanceTypes, Items, ObjectParts, Property, Schema, SchemaObject,
-    Subschemas,
+    ArrayParts, InstanceType, InstanceTypes, Items, Json, List, ObjectParts, Property, Schema,
+    SchemaObject, Subschemas,
 };
 
-/// Why a schema is not written: the first refusal, depth first.
+/// Why a schema is not written: its own case, or else the first inside it.
 #[cycle(refusal)]
 pub fn refusal(schema: &Schema) -> Option<J2oasError>
     ensures { result ≡ refusal_of schema.now }
@@ -33,45 +37,138 @@ fn object_refusal(schema: &SchemaObject) -> Option<J2oasError>
 {
     match &schema.reference {
         Some(_) => None,
-        None => match &schema.instance_type {
-            None => untyped_refusal(schema),
-            Some(InstanceTypes::Single(kind)) => match kind_refusal(*kind, schema) {
-                Some(refusal) => Some(refusal),
-                None => inner_refusal(schema),
-            },
+        None => match own_refusal(schema) {
+            Some(refusal) => Some(refusal),
+            None => inner_refusal(schema),
         },
     }
 }
 
-#[cycle(refusal)]
-fn untyped_refusal(schema: &SchemaObject) -> Option<J2oasError>
-    ensures { result ≡ refusal_without_type (option_map subschemas_inner
-        (out-SchemaObject schema.now).subschemas) }
+fn own_refusal(schema: &SchemaObject) -> Option<J2oasError>
+    ensures { result ≡ own_refusal_of (object_level schema.now) }
 {
-    match &schema.subschemas {
+    items_missing(schema)
+        .or_else(|| values_refusal(schema))
+        .or_else(|| kinds_refusal(schema))
+}
+
+fn items_missing(schema: &SchemaObject) -> Option<J2oasError>
+    ensures { result ≡ missing_items (out-SchemaObject schema.now).instance_type
+        (items_of (object_level schema.now)) }
+{
+    match &schema.instance_type {
+        Some(InstanceTypes::Single(InstanceType::Array)) if !has_items(schema) => {
+            Some(J2oasError::NoItems)
+        }
+        _ => None,
+    }
+}
+
+fn has_items(schema: &SchemaObject) -> bool
+    ensures { result ≡ is_some (items_of (object_level schema.now)) }
+{
+    match &schema.array {
+        Some(array) => array.items.is_some(),
+        None => false,
+    }
+}
+
+fn values_refusal(schema: &SchemaObject) -> Option<J2oasError>
+    ensures { result ≡ refusal_of_values (out-SchemaObject schema.now).instance_type
+        (unwrap_or (out-SchemaObject schema.now).enum_values []) }
+{
+    match &schema.enum_values {
+        Some(values) => refusal_beside(&schema.instance_type, values.as_slice()),
         None => None,
-        Some(subschemas) if has_one_kind(subschemas) => subschemas_refusal(subschemas),
-        Some(_) => Some(J2oasError::BadSubschema),
+    }
+}
+
+fn refusal_beside(types: &Option<InstanceTypes>, values: &[Json]) -> Option<J2oasError>
+    ensures { result ≡ refusal_of_values types.now values.now }
+{
+    if values.is_empty() {
+        return None;
+    }
+    match types {
+        Some(InstanceTypes::Single(kind)) => refusal_beside_type(*kind, values),
+        None => Some(J2oasError::EnumWithoutType),
+    }
+}
+
+fn refusal_beside_type(kind: InstanceType, values: &[Json]) -> Option<J2oasError>
+    ensures { result ≡ values_beside kind values.now }
+{
+    match kind {
+        InstanceType::Object | InstanceType::Array => Some(J2oasError::EnumWithoutType),
+        _ if are_values_of(kind, values) => None,
+        _ => Some(J2oasError::BadEnumValue),
+    }
+}
+
+fn are_values_of(kind: InstanceType, values: &[Json]) -> bool
+    ensures { result ≡ list_all (is_value kind) values.now }
+{
+    values.iter().all(|value| is_value_of(kind, value))
+}
+
+fn is_value_of(kind: InstanceType, value: &Json) -> bool
+    ensures { result ≡ is_value kind value.now }
+{
+    match value {
+        Json::Null => true,
+        Json::Bool(_) => matches!(kind, InstanceType::Boolean),
+        Json::Int(_) => matches!(kind, InstanceType::Integer),
+        Json::Text(_) => matches!(kind, InstanceType::String),
+        Json::List(_) | Json::Object(_) => false,
+    }
+}
+
+fn kinds_refusal(schema: &SchemaObject) -> Option<J2oasError>
+    ensures { result ≡ refusal_of_kinds (out-SchemaObject schema.now).instance_type
+        (option_map subschemas_inner (out-SchemaObject schema.now).subschemas) }
+{
+    match (&schema.instance_type, &schema.subschemas) {
+        (None, Some(subschemas)) if !has_one_kind(subschemas) => Some(J2oasError::BadSubschema),
+        _ => None,
     }
 }
 
 fn has_one_kind(subschemas: &Subschemas) -> bool
-    ensures { result ≡ is_one_kind subschemas.now.all_of subschemas.now.any_of }
+    ensures { result ≡ (subschemas_inner subschemas.now).one_kind }
 {
-    subschemas.all_of.is_some() != subschemas.any_of.is_some()
+    let given = [
+        subschemas.all_of.is_some(),
+        subschemas.any_of.is_some(),
+        subschemas.one_of.is_some(),
+        subschemas.not.is_some(),
+    ];
+    given.iter().filter(|given| **given).count() == 1
 }
 
 #[cycle(refusal)]
-fn kind_refusal(kind: InstanceType, schema: &SchemaObject) -> Option<J2oasError>
-    ensures { result ≡ refusal_of_kind kind (option_map refusal_of_array (out-SchemaObject schema.now).array)
-        (option_map refusal_of_parts (out-SchemaObject schema.now).object) }
+fn inner_refusal(schema: &SchemaObject) -> Option<J2oasError>
+    ensures { result ≡ inner_refusal_of (object_level schema.now) }
 {
-    match kind {
-        InstanceType::Array => match &schema.array {
-            Some(array) => array_refusal(array),
-            None => Some(J2oasError::NoItems),
+    match type_refusal(schema) {
+        Some(refusal) => Some(refusal),
+        None => match &schema.subschemas {
+            Some(subschemas) => subschemas_refusal(subschemas),
+            None => None,
         },
-        InstanceType::Object => match &schema.object {
+    }
+}
+
+#[cycle(refusal)]
+fn type_refusal(schema: &SchemaObject) -> Option<J2oasError>
+    ensures { result ≡ refusal_of_type (out-SchemaObject schema.now).instance_type
+        (items_of (object_level schema.now)) (object_level schema.now).object }
+{
+    match &schema.instance_type {
+        Some(InstanceTypes::Single(InstanceType::Array)) => match &schema.array {
+            Some(array) => array_refusal(array),
+            None => None,
+        },
+        Some(InstanceTypes::Single(InstanceType::Object)) => match &schema.object {
             Some(object) => object_parts_refusal(object),
             None => None,
         },
@@ -80,22 +177,12 @@ fn kind_refusal(kind: InstanceType, schema: &SchemaObject) -> Option<J2oasError>
 }
 
 #[cycle(refusal)]
-fn inner_refusal(schema: &SchemaObject) -> Option<J2oasError>
-    ensures { result ≡ refusal_inside (option_map subschemas_inner (out-SchemaObject schema.now).subschemas) }
-{
-    match &schema.subschemas {
-        Some(subschemas) => subschemas_refusal(subschemas),
-        None => None,
-    }
-}
-
-#[cycle(refusal)]
 fn array_refusal(array: &ArrayParts) -> Option<J2oasError>
-    ensures { result ≡ refusal_of_array array.now }
+    ensures { result ≡ unwrap_or (refusal_of_array array.now) None }
 {
     match &array.items {
         Some(items) => items_refusal(items),
-        None => Some(J2oasError::NoItems),
+        None => None,
     }
 }
 
@@ -114,7 +201,7 @@ fn object_parts_refusal(object: &ObjectParts) -> Option<J2oasError>
 {
     match properties_refusal(object.properties.as_slice()) {
         Some(refusal) => Some(refusal),
-        None => additional_refusal(object),
+        None => schema_refusal(&object.additional),
     }
 }
 
@@ -138,10 +225,10 @@ fn property_refusal(property: &Property) -> Option<J2oasError>
 }
 
 #[cycle(refusal)]
-fn additional_refusal(object: &ObjectParts) -> Option<J2oasError>
-    ensures { result ≡ unwrap_or (option_map refusal_of (out-ObjectParts object.now).additional) None }
+fn schema_refusal(schema: &Option<Schema>) -> Option<J2oasError>
+    ensures { result ≡ unwrap_or (option_map refusal_of schema.now) None }
 {
-    match &object.additional {
+    match schema {
         Some(schema) => refusal(schema),
         None => None,
     }
@@ -151,27 +238,23 @@ fn additional_refusal(object: &ObjectParts) -> Option<J2oasError>
 fn subschemas_refusal(subschemas: &Subschemas) -> Option<J2oasError>
     ensures { result ≡ (subschemas_inner subschemas.now).refusal }
 {
-    match all_of_refusal(subschemas) {
-        Some(refusal) => Some(refusal),
-        None => any_of_refusal(subschemas),
+    if let Some(refusal) = schemas_refusal(&subschemas.all_of) {
+        return Some(refusal);
     }
+    if let Some(refusal) = schemas_refusal(&subschemas.any_of) {
+        return Some(refusal);
+    }
+    if let Some(refusal) = schemas_refusal(&subschemas.one_of) {
+        return Some(refusal);
+    }
+    schema_refusal(&subschemas.not)
 }
 
 #[cycle(refusal)]
-fn all_of_refusal(subschemas: &Subschemas) -> Option<J2oasError>
-    ensures { result ≡ first_of (unwrap_or (option_map (map refusal_of) subschemas.now.all_of) []) }
+fn schemas_refusal(schemas: &Option<List<Schema>>) -> Option<J2oasError>
+    ensures { result ≡ first_of (unwrap_or (option_map (map refusal_of) schemas.now) []) }
 {
-    match &subschemas.all_of {
-        Some(schemas) => list_refusal(schemas.as_slice()),
-        None => None,
-    }
-}
-
-#[cycle(refusal)]
-fn any_of_refusal(subschemas: &Subschemas) -> Option<J2oasError>
-    ensures { result ≡ first_of (unwrap_or (option_map (map refusal_of) subschemas.now.any_of) []) }
-{
-    match &subschemas.any_of {
+    match schemas {
         Some(schemas) => list_refusal(schemas.as_slice()),
         None => None,
     }

@@ -1,16 +1,18 @@
-ghost use Rattle.std.specs.Prelude.{◌≡◌, length, ◌||◌, not, List};
-ghost use Rattle.std.specs.List.{list_all};
+ghost use Rattle.std.specs.Prelude.{◌≡◌, length, ◌||◌, not, List, codes};
+ghost use Rattle.std.specs.List.{list_all, list_any};
 ghost use Rattle.schema_values.specs.declared.json_value.Json.{Json as JsonValue, out-Json};
+ghost use Rattle.schema_values.specs.Get.{first_named};
+ghost use Rattle.schema_values.specs.Same.{same_json};
 ghost use Rattle.openapi_values.specs.Keywords.{keyword_of};
 ghost use Rattle.openapi_values.specs.Levels.{is_null, is_true, has_type, has_member, as_number, as_text};
 ghost use Rattle.openapi_values.specs.Levels.{as_list, as_object};
-ghost use Rattle.openapi_values.specs.Lookup.{is_integer};
+ghost use Rattle.openapi_values.specs.Lookup.{is_integer, is_null_alone, is_null_form};
 ghost use Rattle.openapi_values.specs.Options.{is_some_and, is_none_or};
 ghost use Rattle.openapi_values.specs.Rows.{in_format, is_between, is_under, is_least, is_greatest};
 ghost use Rattle.openapi_values.specs.Rows.{is_enough, is_not_too_many, is_property, names_stand, is_read};
-ghost use Rattle.openapi_values.specs.Rows.{in_subset};
+ghost use Rattle.openapi_values.specs.Rows.{in_subset, is_listed};
 
-use crate::find::{find_word, has_integer_type, stands};
+use crate::find::{find_word, has_type_named, stands};
 use crate::keywords::{Keyword, is_word, keyword_named};
 use schema_values::{Json, Member, Text};
 
@@ -28,6 +30,32 @@ pub fn is_true_value(value: &Json) -> bool
 {
     match value {
         Json::Bool(truth) => *truth,
+        _ => false,
+    }
+}
+
+/// Whether a schema has the form that null alone is written in.
+pub fn has_null_form(schema: &[Member]) -> bool
+    ensures { result ≡ is_null_form schema.now }
+{
+    has_type_named(schema, "string") && lists_null_alone(schema)
+}
+
+fn lists_null_alone(schema: &[Member]) -> bool
+    ensures { result ≡ is_some_and (first_named (codes "enum") schema.now)
+        (λ s. is_some_and (as_list (out-Json s)) is_null_alone) }
+{
+    match find_word(schema, "enum") {
+        Some(Json::List(values)) => holds_null_alone(values.as_slice()),
+        _ => false,
+    }
+}
+
+fn holds_null_alone(values: &[Json]) -> bool
+    ensures { result ≡ is_null_alone values.now }
+{
+    match values {
+        [value] => is_null_value(value),
         _ => false,
     }
 }
@@ -91,7 +119,7 @@ pub fn is_of_format(schema: &[Member], format: &Json, value: &Json) -> bool
         (λ name. in_format name n)) }
 {
     match value {
-        Json::Int(number) => !has_integer_type(schema) || is_in_format(format, number),
+        Json::Int(number) => !has_type_named(schema, "integer") || is_in_format(format, number),
         _ => true,
     }
 }
@@ -138,6 +166,27 @@ fn lies_between(low: i128, high: i128, number: &i128) -> bool
     ensures { result ≡ is_between low high number.now }
 {
     low <= *number && *number <= high
+}
+
+/// Whether a value is one of those in a list.
+pub fn is_in_list(values: &Json, value: &Json) -> bool
+    ensures { result ≡ is_listed value.now values.now }
+{
+    match values {
+        Json::List(values) => is_one_of(values.as_slice(), value),
+        _ => false,
+    }
+}
+
+fn is_one_of(values: &[Json], value: &Json) -> bool
+    ensures { result ≡ list_any (same_json value.now) values.now }
+{
+    for listed in values {
+        if value.equals(listed) {
+            return true;
+        }
+    }
+    false
 }
 
 /// Whether a number is at least the least one, or above it.

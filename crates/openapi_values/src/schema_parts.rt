@@ -4,6 +4,8 @@ ghost use Rattle.schema_values.specs.declared.json_value.Json.{Text as TextOf, I
 ghost use Rattle.schema_values.specs.declared.schema.SchemaObject.{out-SchemaObject};
 ghost use Rattle.openapi_values.specs.Objects.{members_of};
 ghost use Rattle.openapi_values.specs.SchemaJson.{annotations, number_entries, text_entries};
+ghost use Rattle.openapi_values.specs.SchemaJson.{nothing_entries, null_entries, boolean_entries};
+ghost use Rattle.openapi_values.specs.SchemaJson.{values_json as json_of_values, without_values};
 ghost use Rattle.openapi_values.specs.SchemaJson.{count_json as count_of, names_json};
 ghost use Rattle.openapi_values.specs.SchemaJson.{truth_json as json_of_truth, type_name};
 
@@ -21,10 +23,17 @@ pub fn truth_json(alloc: Global, truth: bool) -> Result<Json, AllocError>
 {
     let mut members = List::new(alloc);
     if !truth {
-        let all = Json::Object(List::new(alloc));
-        add(alloc, &mut members, "not", Some(all))?;
+        add_nothing(alloc, &mut members)?;
     }
     Ok(Json::Object(members))
+}
+
+/// Adds what admits nothing.
+pub fn add_nothing(alloc: Global, members: &mut List<Member>) -> Result<(), AllocError>
+    ensures { OnOk result (members.new ≡ members.old ++ members_of nothing_entries) }
+{
+    let all = Json::Object(List::new(alloc));
+    add(alloc, members, "not", Some(all))
 }
 
 /// The name of a type.
@@ -32,6 +41,7 @@ pub fn type_text(alloc: Global, kind: InstanceType) -> Result<Json, AllocError>
     ensures { IfOk result (λ json. json ≡ TextOf (type_name kind)) }
 {
     let name = match kind {
+        InstanceType::Null => Text::from_ascii(alloc, "string")?,
         InstanceType::Boolean => Text::from_ascii(alloc, "boolean")?,
         InstanceType::Object => Text::from_ascii(alloc, "object")?,
         InstanceType::Array => Text::from_ascii(alloc, "array")?,
@@ -114,15 +124,23 @@ fn greatest(bounds: &Option<NumberBounds>) -> Option<i128>
 pub fn add_number(
     alloc: Global,
     members: &mut List<Member>,
-    format: &Option<Text>,
-    bounds: &Option<NumberBounds>,
+    schema: &SchemaObject,
 ) -> Result<(), AllocError>
-    ensures { OnOk result (members.new ≡ members.old ++ members_of (number_entries format.now bounds.now)) }
+    ensures { OnOk result (members.new ≡ members.old ++ members_of
+        (number_entries (out-SchemaObject schema.now).format (out-SchemaObject schema.now).number
+        (out-SchemaObject schema.now).enum_values)) }
 {
-    let format = option_json(alloc, format)?;
+    let format = option_json(alloc, &schema.format)?;
     add(alloc, members, "format", format)?;
-    add(alloc, members, "minimum", bound_json(least(bounds)))?;
-    add(alloc, members, "maximum", bound_json(greatest(bounds)))?;
+    add(alloc, members, "minimum", bound_json(least(&schema.number)))?;
+    add(
+        alloc,
+        members,
+        "maximum",
+        bound_json(greatest(&schema.number)),
+    )?;
+    let values = values_json(alloc, &schema.enum_values)?;
+    add(alloc, members, "enum", values)?;
     Ok(())
 }
 
@@ -148,16 +166,70 @@ fn longest(bounds: &Option<LengthBounds>) -> Option<u32>
 pub fn add_text(
     alloc: Global,
     members: &mut List<Member>,
-    format: &Option<Text>,
-    bounds: &Option<LengthBounds>,
+    schema: &SchemaObject,
 ) -> Result<(), AllocError>
-    ensures { OnOk result (members.new ≡ members.old ++ members_of (text_entries format.now bounds.now)) }
+    ensures { OnOk result (members.new ≡ members.old ++ members_of
+        (text_entries (out-SchemaObject schema.now).format (out-SchemaObject schema.now).string
+        (out-SchemaObject schema.now).enum_values)) }
 {
-    let format = option_json(alloc, format)?;
+    let format = option_json(alloc, &schema.format)?;
     add(alloc, members, "format", format)?;
-    add(alloc, members, "minLength", count_json(shortest(bounds)))?;
-    add(alloc, members, "maxLength", count_json(longest(bounds)))?;
+    let values = values_json(alloc, &schema.enum_values)?;
+    add(alloc, members, "enum", values)?;
+    add(
+        alloc,
+        members,
+        "minLength",
+        count_json(shortest(&schema.string)),
+    )?;
+    add(
+        alloc,
+        members,
+        "maxLength",
+        count_json(longest(&schema.string)),
+    )?;
     Ok(())
+}
+
+/// Adds the members of a boolean.
+pub fn add_boolean(
+    alloc: Global,
+    members: &mut List<Member>,
+    schema: &SchemaObject,
+) -> Result<(), AllocError>
+    ensures { OnOk result (members.new ≡ members.old ++ members_of
+        (boolean_entries (out-SchemaObject schema.now).enum_values)) }
+{
+    let values = values_json(alloc, &schema.enum_values)?;
+    add(alloc, members, "enum", values)
+}
+
+/// Adds null as the one value.
+pub fn add_null(alloc: Global, members: &mut List<Member>) -> Result<(), AllocError>
+    ensures { OnOk result (members.new ≡ members.old ++ members_of null_entries) }
+{
+    let mut values = List::new(alloc);
+    values.push(Json::Null)?;
+    add(alloc, members, "enum", Some(Json::List(values)))
+}
+
+fn values_json(alloc: Global, values: &Option<List<Json>>) -> Result<Option<Json>, AllocError>
+    ensures { IfOk result (λ json. json ≡ json_of_values values.now) }
+{
+    match values {
+        Some(values) => Ok(Some(Json::List(values.copy(alloc)?))),
+        None => Ok(None),
+    }
+}
+
+/// Whether the values are given and there are none.
+pub fn is_without_values(values: &Option<List<Json>>) -> bool
+    ensures { result ≡ without_values values.now }
+{
+    match values {
+        Some(values) => values.is_empty(),
+        None => false,
+    }
 }
 
 /// The list of names, unless there is none.

@@ -5,12 +5,14 @@ ghost use Rattle.openapi_values.specs.Objects.{members_of, unless_empty, pair_me
 ghost use Rattle.openapi_values.specs.SchemaJson.{untitled, additional_json as json_of_additional};
 ghost use Rattle.openapi_values.specs.SchemaJson.{schemas_json as json_of_schemas, kind_entries};
 ghost use Rattle.openapi_values.specs.SchemaJson.{type_entries, schema_json, schema_written, object_written};
+ghost use Rattle.openapi_values.specs.SchemaJson.{entries_behind, object_level};
 ghost use Rattle.openapi_values.specs.SchemaJson.{items_written, array_written, object_parts_written};
 ghost use Rattle.openapi_values.specs.SchemaJson.{property_written, subschemas_written};
 
 use crate::objects::{add, reference};
 use crate::schema_parts::{
-    add_annotations, add_number, add_text, count_json, names, truth_json, type_text,
+    add_annotations, add_boolean, add_nothing, add_null, add_number, add_text, count_json,
+    is_without_values, names, truth_json, type_text,
 };
 use schema_values::{
     ArrayParts, InstanceType, InstanceTypes, Items, Json, List, Member, ObjectParts, Property,
@@ -42,9 +44,25 @@ fn object_json(
     }
     let mut members = List::new(alloc);
     add_annotations(alloc, &mut members, title, schema)?;
-    add_type(alloc, &mut members, schema)?;
-    add_subschemas(alloc, &mut members, schema)?;
+    add_behind(alloc, &mut members, schema)?;
     Ok(Json::Object(members))
+}
+
+#[cycle(written)]
+fn add_behind(
+    alloc: Global,
+    members: &mut List<Member>,
+    schema: &SchemaObject,
+) -> Result<(), AllocError>
+    ensures { OnOk result (members.new ≡ members.old ++ members_of
+        (entries_behind (object_level schema.now))) }
+{
+    if is_without_values(&schema.enum_values) {
+        return add_nothing(alloc, members);
+    }
+    add_type(alloc, members, schema)?;
+    add_subschemas(alloc, members, schema)?;
+    Ok(())
 }
 
 #[cycle(written)]
@@ -54,10 +72,7 @@ fn add_type(
     schema: &SchemaObject,
 ) -> Result<(), AllocError>
     ensures { OnOk result (members.new ≡ members.old ++ members_of
-        (type_entries (out-SchemaObject schema.now).instance_type (out-SchemaObject schema.now).format
-        (out-SchemaObject schema.now).number (out-SchemaObject schema.now).string
-        (option_map array_written (out-SchemaObject schema.now).array)
-        (option_map object_parts_written (out-SchemaObject schema.now).object))) }
+        (type_entries (out-SchemaObject schema.now).instance_type (object_level schema.now))) }
 {
     match &schema.instance_type {
         None => Ok(()),
@@ -78,12 +93,11 @@ fn add_kind(
     schema: &SchemaObject,
 ) -> Result<(), AllocError>
     ensures { OnOk result (members.new ≡ members.old ++ members_of
-        (kind_entries kind (out-SchemaObject schema.now).format (out-SchemaObject schema.now).number
-        (out-SchemaObject schema.now).string (option_map array_written (out-SchemaObject schema.now).array)
-        (option_map object_parts_written (out-SchemaObject schema.now).object))) }
+        (kind_entries kind (object_level schema.now))) }
 {
     match kind {
-        InstanceType::Boolean => Ok(()),
+        InstanceType::Null => add_null(alloc, members),
+        InstanceType::Boolean => add_boolean(alloc, members, schema),
         InstanceType::Object => match &schema.object {
             Some(object) => add_object_parts(alloc, members, object),
             None => Ok(()),
@@ -92,8 +106,8 @@ fn add_kind(
             Some(array) => add_array(alloc, members, array),
             None => Ok(()),
         },
-        InstanceType::String => add_text(alloc, members, &schema.format, &schema.string),
-        InstanceType::Integer => add_number(alloc, members, &schema.format, &schema.number),
+        InstanceType::String => add_text(alloc, members, schema),
+        InstanceType::Integer => add_number(alloc, members, schema),
     }
 }
 
@@ -225,31 +239,33 @@ fn add_schemas(
 ) -> Result<(), AllocError>
     ensures { OnOk result (members.new ≡ members.old ++ members_of (subschemas_written subschemas.now)) }
 {
-    let all_of = all_of_json(alloc, subschemas)?;
+    let all_of = schemas_json(alloc, &subschemas.all_of)?;
     add(alloc, members, "allOf", all_of)?;
-    let any_of = any_of_json(alloc, subschemas)?;
+    let any_of = schemas_json(alloc, &subschemas.any_of)?;
     add(alloc, members, "anyOf", any_of)?;
+    let one_of = schemas_json(alloc, &subschemas.one_of)?;
+    add(alloc, members, "oneOf", one_of)?;
+    let not = not_json(alloc, &subschemas.not)?;
+    add(alloc, members, "not", not)?;
     Ok(())
 }
 
 #[cycle(written)]
-fn all_of_json(alloc: Global, subschemas: &Subschemas) -> Result<Option<Json>, AllocError>
-    ensures { IfOk result (λ json. json ≡ json_of_schemas
-        (option_map (map schema_written) subschemas.now.all_of)) }
+fn schemas_json(alloc: Global, schemas: &Option<List<Schema>>) -> Result<Option<Json>, AllocError>
+    ensures { IfOk result (λ json. json ≡ json_of_schemas (option_map (map schema_written) schemas.now)) }
 {
-    match &subschemas.all_of {
+    match schemas {
         Some(schemas) => Ok(Some(Json::List(list_json(alloc, schemas.as_slice())?))),
         None => Ok(None),
     }
 }
 
 #[cycle(written)]
-fn any_of_json(alloc: Global, subschemas: &Subschemas) -> Result<Option<Json>, AllocError>
-    ensures { IfOk result (λ json. json ≡ json_of_schemas
-        (option_map (map schema_written) subschemas.now.any_of)) }
+fn not_json(alloc: Global, schema: &Option<Schema>) -> Result<Option<Json>, AllocError>
+    ensures { IfOk result (λ json. json ≡ option_map untitled (option_map schema_written schema.now)) }
 {
-    match &subschemas.any_of {
-        Some(schemas) => Ok(Some(Json::List(list_json(alloc, schemas.as_slice())?))),
+    match schema {
+        Some(schema) => Ok(Some(written(alloc, &None, schema)?)),
         None => Ok(None),
     }
 }

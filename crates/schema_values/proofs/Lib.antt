@@ -23,3 +23,6 @@ pub mod ReadTokens
 pub mod ReadNumbers
 pub mod SoundReadings
 pub mod AscendingReadings
+pub mod SameLemmas
+pub mod SoundTests
+pub mod Besides

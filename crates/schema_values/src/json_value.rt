@@ -1,8 +1,9 @@
-ghost use Rattle.std.specs.Prelude.{◌≢◌, ◌↔◌, IsTrue, length, map};
+ghost use Rattle.std.specs.Prelude.{◌≡◌, ◌≢◌, ◌↔◌, IsTrue, length, map};
 ghost use Rattle.std.specs.List.{AllAdjacentBelow, AllByRecursion};
 ghost use Rattle.schema_values.specs.AscendingMembers.{Precedes};
 ghost use Rattle.schema_values.specs.Member.{name_of, value_of};
 ghost use Rattle.schema_values.specs.Sound.{IsSound, IsWhole, AreDistinct};
+ghost use Rattle.schema_values.specs.SoundTest.{is_sound};
 
 use crate::list::List;
 use crate::text::Text;
@@ -33,8 +34,10 @@ impl Json {
     /// Whether names are distinct in every object and every number lies from -2^63 to 2^64-1. Takes no
     /// memory.
     #[cycle(sound)]
+    #[tactic(auto, using(crate::proofs::SoundTests::sound_told))]
     pub fn sound(&self) -> bool
-        ensures { IsTrue result ↔ IsSound self.now }
+        ensures sound { IsTrue result ↔ IsSound self.now }
+        ensures test { result ≡ is_sound self.now }
     {
         match self {
             Json::Null | Json::Bool(_) | Json::Text(_) => true,

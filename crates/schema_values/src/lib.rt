@@ -3,6 +3,7 @@
 
 mod boxed;
 mod copy;
+mod equal;
 mod get;
 mod json_value;
 mod laws;
@@ -20,7 +21,8 @@ mod value;
 pub use boxed::Boxed;
 pub use json_value::{Json, Member, names_ascend};
 pub use laws::{
-    compact_reads_back, in_order_stays, pretty_reads_back, reads_sound, sorted_ascends,
+    bytes_in_order, compact_reads_back, in_order_stays, pretty_reads_back, reads_ascending,
+    reads_nested, reads_sound, same_decides, sorted_ascends, sound_decides,
 };
 pub use list::List;
 pub use read::ReadError;

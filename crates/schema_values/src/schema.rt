@@ -1,4 +1,5 @@
 use crate::boxed::Boxed;
+use crate::json_value::Json;
 use crate::list::List;
 use crate::text::Text;
 use indexmap::IndexMap;
@@ -30,6 +31,8 @@ pub struct SchemaObject {
     pub instance_type: Option<InstanceTypes>,
     /// The format's name, as `int64`.
     pub format: Option<Text>,
+    /// The only values, where they are given.
+    pub enum_values: Option<List<Json>>,
     pub subschemas: Option<Subschemas>,
     pub number: Option<NumberBounds>,
     pub string: Option<LengthBounds>,
@@ -49,6 +52,8 @@ pub enum InstanceTypes {
 /// A type of JSON values.
 #[derive(Clone, Copy, Debug, PartialEq, Eq)]
 pub enum InstanceType {
+    /// The type of null alone.
+    Null,
     Boolean,
     Object,
     Array,
@@ -64,6 +69,10 @@ pub struct Subschemas {
     pub all_of: Option<List<Schema>>,
     /// The value meets one of them at least.
     pub any_of: Option<List<Schema>>,
+    /// The value meets exactly one of them.
+    pub one_of: Option<List<Schema>>,
+    /// The value does not meet it.
+    pub not: Option<Schema>,
 }
 
 /// The least and the greatest number, both included.

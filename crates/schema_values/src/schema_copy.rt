@@ -1,6 +1,7 @@
 ghost use Rattle.std.specs.Prelude.{◌≡◌, IfOk};
 
 use crate::boxed::Boxed;
+use crate::json_value::Json;
 use crate::list::List;
 use crate::schema::{
     ArrayParts, InstanceTypes, Items, LengthBounds, NumberBounds, ObjectParts, Property, Schema,
@@ -37,6 +38,7 @@ impl SchemaObject {
             nullable: self.nullable,
             instance_type: copy_types(alloc, &self.instance_type)?,
             format: copy_text(alloc, &self.format)?,
+            enum_values: copy_values(alloc, &self.enum_values)?,
             subschemas: copy_subschemas(alloc, &self.subschemas)?,
             number: copy_numbers(alloc, &self.number)?,
             string: copy_lengths(alloc, &self.string)?,
@@ -67,6 +69,8 @@ impl Subschemas {
         Ok(Subschemas {
             all_of: copy_schemas(alloc, &self.all_of)?,
             any_of: copy_schemas(alloc, &self.any_of)?,
+            one_of: copy_schemas(alloc, &self.one_of)?,
+            not: copy_schema(alloc, &self.not)?,
         })
     }
 }
@@ -165,6 +169,15 @@ fn copy_texts(alloc: Global, texts: &[Text]) -> Result<List<Text>, AllocError>
         copies.push(text.copy(alloc)?)?;
     }
     Ok(copies)
+}
+
+fn copy_values(alloc: Global, values: &Option<List<Json>>) -> Result<Option<List<Json>>, AllocError>
+    ensures { IfOk result (λ copy. copy ≡ values.now) }
+{
+    match values {
+        None => Ok(None),
+        Some(values) => Ok(Some(values.copy(alloc)?)),
+    }
 }
 
 fn copy_types(

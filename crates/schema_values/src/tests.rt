@@ -85,6 +85,18 @@ fn sound_objects_repeat_no_name_in_any_order(rt: HostRuntime) -> Result<(), Fail
 }
 
 #[test]
+fn equal_values_have_their_members_in_one_order(rt: HostRuntime) -> Result<(), Fail> {
+    let object = object_of(rt.alloc(), &["a", "b"])?;
+    assert!(rt; object.equals(&object_of(rt.alloc(), &["a", "b"])?));
+    assert!(rt; !object.equals(&object_of(rt.alloc(), &["b", "a"])?));
+    assert!(rt; !object.equals(&object_of(rt.alloc(), &["a"])?));
+    let text = b"[null, true, -1, \"x\", {\"a\": []}]";
+    let value = Json::read(rt.alloc(), text)?;
+    assert!(rt; value.equals(&value.copy(rt.alloc())?) && !value.equals(&object));
+    Ok(())
+}
+
+#[test]
 fn a_float_of_the_pack_is_told(rt: HostRuntime) -> Result<(), Fail> {
     let value = serde_json::Value::from_str(rt.alloc(), "[1e3]")?;
     let found = Json::of_value(rt.alloc(), &value);
@@ -119,6 +131,7 @@ fn schema_of(alloc: Global) -> Result<Schema, AllocError> {
         nullable: true,
         instance_type: Some(InstanceTypes::Single(InstanceType::Object)),
         format: None,
+        enum_values: None,
         subschemas: None,
         number: None,
         string: None,

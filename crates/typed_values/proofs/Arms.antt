@@ -1,25 +1,31 @@
 -- What each arm of the decoder needs: its row, and that the descriptors that it goes on to are parts.
-use Rattle.std.proofs.Common.{◌≡◌, ℕ, zero, suc, ℤ, List, Option, Some, None, Bool, refl, sym, ◌∙◌, ap, subst, MatchOption}
-use Rattle.std.specs.declared.result.Result.TheVariants.{Ok}
+use Rattle.std.proofs.Common.{◌≡◌, ℕ, zero, suc, ℤ, List, Option, Some, None, Bool, false, refl, sym, ◌∙◌, ap, subst, MatchOption}
+use Rattle.std.specs.declared.result.Result.TheVariants.{Ok, Err}
 use Rattle.schema_values.specs.declared.json_value.Json.{Json, out-Json}
 use Rattle.schema_values.specs.declared.json_value.Json.TheOpen.{Json-F}
-use Rattle.schema_values.specs.declared.json_value.Json.TheVariants as json
-use Rattle.schema_values.specs.declared.json_value.Json.TheViews.{roll-out-Json, roll-Json}
 use Rattle.schema_values.specs.declared.json_value.Member.{Member}
 use Rattle.typed_values.specs.declared.desc.Desc.{Desc, out-Desc}
 use Rattle.typed_values.specs.declared.desc.Desc.TheOpen.{Desc-F}
 use Rattle.typed_values.specs.declared.desc.Desc.TheVariants as desc
 use Rattle.typed_values.specs.declared.desc.Field.{Field}
 use Rattle.typed_values.specs.declared.desc.IntKind.{IntKind}
-use Rattle.typed_values.specs.declared.fault.FaultKind.TheVariants.{WrongKind}
-use Rattle.typed_values.specs.declared.tree.Tree.{None as Nothing}
+use Rattle.typed_values.specs.declared.desc.Named.{Named}
+use Rattle.typed_values.specs.declared.desc.TaggedVariant.{TaggedVariant}
+use Rattle.typed_values.specs.declared.desc.Variant.{Variant}
+use Rattle.typed_values.specs.declared.fault.FaultKind.TheVariants.{WrongKind, NotListed}
+use Rattle.typed_values.specs.declared.fault.Place.TheVariants.{Name}
+use Rattle.typed_values.specs.declared.fault.Stop.{Stop}
+use Rattle.typed_values.specs.declared.fault.Stop.TheVariants as stop
+use Rattle.typed_values.specs.declared.tree.Tree.{Any as Whole}
 use Rattle.typed_values.specs.declared.table.Definition.{Definition}
-use Rattle.typed_values.specs.Definitions.{definition}
-use Rattle.typed_values.specs.Denotes.{Told, told, refused, room, truth, number, words, optional, just, items_told, first_told, at_definition}
+use Rattle.typed_values.specs.Answer.{Tells}
+use Rattle.typed_values.specs.Definitions.{definition, tagged_name, variant_name}
+use Rattle.typed_values.specs.Denotes.{Told, told, below, refused, where_found, named_from, bare, without_payload, with_payload, chosen, at_tag, room, nought, truth, character, number, words, one_of_names, optional, just, external, tagged, first_told, at_definition}
 use Rattle.typed_values.specs.Sound.{Rests, RestsBy}
 use Rattle.typed_values.specs.Parts.{IsPart, of_table, StandsIn, the_whole}
-use Rattle.typed_values.specs.Rows.{told_item, told_struct, list_row, struct_row}
+use Rattle.typed_values.specs.Rows.{list_row, map_row, struct_row}
 use Rattle.typed_values.proofs.Found.{entry_found}
+use Rattle.typed_values.proofs.Listed.{found_named}
 use Rattle.typed_values.proofs.Rows.{row_at}
 
 pub not_null : (x : Json-F Json Member) (told : Told) → (x ≡ Json-F.Null → ⊥) → optional x told ≡ just told
@@ -30,35 +36,21 @@ not_null (Json-F.Text s) told other = refl
 not_null (Json-F.List js) told other = refl
 not_null (Json-F.Object ms) told other = refl
 
-module _ (j : Json) where
-  optional_other : (t : Told) → (j ≡ json.Null → ⊥) → optional (out-Json j) t ≡ just t
-  optional_other t other = not_null (out-Json j) t (λ e. other (sym (roll-out-Json j) ∙ ap roll-Json e ∙ json.rolls-Null))
-
-  list_row_other : (table : List Definition) (whole d : Desc) (min max : Option ℕ) → ((js : List Json) → j ≡ json.List js → ⊥) → list_row table whole d min max (out-Json j) ≡ refused WrongKind
-  list_row_other table whole d min max other = go (out-Json j) refl
-    where
-      go : (x : Json-F Json Member) → out-Json j ≡ x → list_row table whole d min max x ≡ refused WrongKind
-      go Json-F.Null e = refl
-      go (Json-F.Bool b) e = refl
-      go (Json-F.Int i) e = refl
-      go (Json-F.Text s) e = refl
-      go (Json-F.List js) e = absurd (other js (sym (roll-out-Json j) ∙ ap roll-Json e ∙ json.rolls-List js))
-      go (Json-F.Object ms) e = refl
-
-  struct_row_other : (table : List Definition) (whole : Desc) (fs : List Field) (deny : Bool) → ((ms : List Member) → j ≡ json.Object ms → ⊥) → struct_row table whole fs deny (out-Json j) ≡ refused WrongKind
-  struct_row_other table whole fs deny other = go (out-Json j) refl
-    where
-      go : (x : Json-F Json Member) → out-Json j ≡ x → struct_row table whole fs deny x ≡ refused WrongKind
-      go Json-F.Null e = refl
-      go (Json-F.Bool b) e = refl
-      go (Json-F.Int i) e = refl
-      go (Json-F.Text s) e = refl
-      go (Json-F.List js) e = refl
-      go (Json-F.Object ms) e = absurd (other ms (sym (roll-out-Json j) ∙ ap roll-Json e ∙ json.rolls-Object ms))
-
 module _ (table : List Definition) (whole : Desc) (j : Json) (d : Desc) (h : Rests table (room table whole) d) where
+  pub row_any : d ≡ desc.Any → told table whole j d ≡ Ok (Whole j)
+  row_any e = row_at table whole j d (out-Json j) Desc-F.Any h refl (ap out-Desc e ∙ desc.outs-Any)
+
+  pub row_never : d ≡ desc.Never → told table whole j d ≡ refused WrongKind
+  row_never e = row_at table whole j d (out-Json j) Desc-F.Never h refl (ap out-Desc e ∙ desc.outs-Never)
+
+  pub row_nought : d ≡ desc.Null → told table whole j d ≡ nought (out-Json j)
+  row_nought e = row_at table whole j d (out-Json j) Desc-F.Null h refl (ap out-Desc e ∙ desc.outs-Null)
+
   pub row_bool : d ≡ desc.Bool → told table whole j d ≡ truth (out-Json j)
   row_bool e = row_at table whole j d (out-Json j) Desc-F.Bool h refl (ap out-Desc e ∙ desc.outs-Bool)
+
+  pub row_char : d ≡ desc.Char → told table whole j d ≡ character (out-Json j)
+  row_char e = row_at table whole j d (out-Json j) Desc-F.Char h refl (ap out-Desc e ∙ desc.outs-Char)
 
   pub row_int : (kind : IntKind) (min max : Option ℤ) → d ≡ desc.Int kind min max → told table whole j d ≡ number kind min max (out-Json j)
   row_int kind min max e = row_at table whole j d (out-Json j) (Desc-F.Int kind min max) h refl (ap out-Desc e ∙ desc.outs-Int kind min max)
@@ -66,23 +58,26 @@ module _ (table : List Definition) (whole : Desc) (j : Json) (d : Desc) (h : Res
   pub row_text : (min max : Option ℕ) (format : Option (List ℕ)) → d ≡ desc.Text min max format → told table whole j d ≡ words min max (out-Json j)
   row_text min max format e = row_at table whole j d (out-Json j) (Desc-F.Text min max format) h refl (ap out-Desc e ∙ desc.outs-Text min max format)
 
-  pub row_null : (x : Desc) → d ≡ desc.Option x → j ≡ json.Null → told table whole j d ≡ Ok Nothing
-  row_null x e f = row_at table whole j d Json-F.Null (Desc-F.Option x) h (ap out-Json f ∙ json.outs-Null) (ap out-Desc e ∙ desc.outs-Option x)
+  pub row_enumeration : (ns : List Named) → d ≡ desc.Enumeration ns → told table whole j d ≡ one_of_names ns (out-Json j)
+  row_enumeration ns e = row_at table whole j d (out-Json j) (Desc-F.Enumeration ns) h refl (ap out-Desc e ∙ desc.outs-Enumeration ns)
 
-  pub row_option : (x : Desc) → d ≡ desc.Option x → (j ≡ json.Null → ⊥) → told table whole j d ≡ just (told table whole j x)
-  row_option x e n = row_at table whole j d (out-Json j) (Desc-F.Option x) h refl (ap out-Desc e ∙ desc.outs-Option x) ∙ optional_other j (told table whole j x) n
+  pub row_option : (x : Desc) → d ≡ desc.Option x → told table whole j d ≡ optional (out-Json j) (told table whole j x)
+  row_option x e = row_at table whole j d (out-Json j) (Desc-F.Option x) h refl (ap out-Desc e ∙ desc.outs-Option x)
 
-  pub row_list : (x : Desc) (min max : Option ℕ) (js : List Json) → d ≡ desc.List x min max → j ≡ json.List js → told table whole j d ≡ items_told (told_item table whole x) min max js
-  row_list x min max js e f = row_at table whole j d (Json-F.List js) (Desc-F.List x min max) h (ap out-Json f ∙ json.outs-List js) (ap out-Desc e ∙ desc.outs-List x min max)
+  pub row_list : (x : Desc) (min max : Option ℕ) → d ≡ desc.List x min max → told table whole j d ≡ list_row table whole x min max (out-Json j)
+  row_list x min max e = row_at table whole j d (out-Json j) (Desc-F.List x min max) h refl (ap out-Desc e ∙ desc.outs-List x min max)
 
-  pub row_no_list : (x : Desc) (min max : Option ℕ) → d ≡ desc.List x min max → ((js : List Json) → j ≡ json.List js → ⊥) → told table whole j d ≡ refused WrongKind
-  row_no_list x min max e other = row_at table whole j d (out-Json j) (Desc-F.List x min max) h refl (ap out-Desc e ∙ desc.outs-List x min max) ∙ list_row_other j table whole x min max other
+  pub row_map : (x : Desc) → d ≡ desc.Map x → told table whole j d ≡ map_row table whole x (out-Json j)
+  row_map x e = row_at table whole j d (out-Json j) (Desc-F.Map x) h refl (ap out-Desc e ∙ desc.outs-Map x)
 
-  pub row_struct : (fs : List Field) (deny : Bool) (ms : List Member) → d ≡ desc.Struct fs deny → j ≡ json.Object ms → told table whole j d ≡ told_struct table whole fs deny ms
-  row_struct fs deny ms e f = row_at table whole j d (Json-F.Object ms) (Desc-F.Struct fs deny) h (ap out-Json f ∙ json.outs-Object ms) (ap out-Desc e ∙ desc.outs-Struct fs deny)
+  pub row_struct : (fs : List Field) (deny : Bool) → d ≡ desc.Struct fs deny → told table whole j d ≡ struct_row table whole fs deny (out-Json j)
+  row_struct fs deny e = row_at table whole j d (out-Json j) (Desc-F.Struct fs deny) h refl (ap out-Desc e ∙ desc.outs-Struct fs deny)
 
-  pub row_no_struct : (fs : List Field) (deny : Bool) → d ≡ desc.Struct fs deny → ((ms : List Member) → j ≡ json.Object ms → ⊥) → told table whole j d ≡ refused WrongKind
-  row_no_struct fs deny e other = row_at table whole j d (out-Json j) (Desc-F.Struct fs deny) h refl (ap out-Desc e ∙ desc.outs-Struct fs deny) ∙ struct_row_other j table whole fs deny other
+  pub row_external : (vs : List Variant) → d ≡ desc.External vs → told table whole j d ≡ external (told table whole) vs (out-Json j)
+  row_external vs e = row_at table whole j d (out-Json j) (Desc-F.External vs) h refl (ap out-Desc e ∙ desc.outs-External vs)
+
+  pub row_tagged : (tag : List ℕ) (vs : List TaggedVariant) → d ≡ desc.Tagged tag vs → told table whole j d ≡ tagged (λ json. json) (λ fs. struct_row table whole fs false (out-Json j)) tag vs (out-Json j)
+  row_tagged tag vs e = row_at table whole j d (out-Json j) (Desc-F.Tagged tag vs) h refl (ap out-Desc e ∙ desc.outs-Tagged tag vs)
 
   pub row_untagged : (ds : List Desc) → d ≡ desc.Untagged ds → told table whole j d ≡ first_told 0 (told table whole j) ds
   row_untagged ds e = row_at table whole j d (out-Json j) (Desc-F.Untagged ds) h refl (ap out-Desc e ∙ desc.outs-Untagged ds)
@@ -103,3 +98,44 @@ no_dangling table zero d name h e f = h
 no_dangling table (suc n) d name h e f =
     let a : RestsBy table (Rests table n) (Desc-F.Ref name) = subst (RestsBy table (Rests table n)) (ap out-Desc e ∙ desc.outs-Ref name) h in
     subst (λ o. MatchOption o ⊥ (Rests table n)) (sym f) a
+
+-- ---- variants
+
+module _ (k : ℕ) (v : Variant) where
+  pub bare_told : v.payload ≡ None → without_payload k v ≡ bare k v
+  bare_told e = rw e refl
+
+  pub not_bare : (d : Desc) → v.payload ≡ Some d → without_payload k v ≡ refused NotListed
+  not_bare d e = rw e refl
+
+  module _ (told : Desc → Told) where
+    pub payload_told : (d : Desc) → v.payload ≡ Some d → with_payload told k v ≡ chosen k (below (Name v.name) (told d))
+    payload_told d e = rw e refl
+
+    pub no_payload : v.payload ≡ None → with_payload told k v ≡ refused NotListed
+    no_payload e = rw e refl
+
+-- the payload of the variant of a name
+pub payload_at : (told : Desc → Told) (vs : List Variant) (name : List ℕ) (k : ℕ) (v : Variant) (d : Desc) → named_from variant_name 0 vs name ≡ Some (k, v) → v.payload ≡ Some d
+    → where_found (refused NotListed) (with_payload told) (named_from variant_name 0 vs name) ≡ chosen k (below (Name name) (told d))
+payload_at told vs name k v d found e =
+    ap (where_found (refused NotListed) (with_payload told)) found
+    ∙ payload_told k v told d e
+    ∙ ap (λ (n : List ℕ). chosen k (below (Name n) (told d))) (found_named variant_name vs name (k, v) found)
+
+-- a fault that is told of a payload is told of the variant
+pub chosen_err : (k : ℕ) (told : Told) (end : Stop) → Tells (Err end) told → Tells (Err end) (chosen k told)
+chosen_err k told (stop.Misfit m) bad = ap (chosen k) bad
+chosen_err k told stop.OutOfMemory bad = tt
+
+module _ (tag : List ℕ) (told : ℕ → TaggedVariant → Told) (vs : List TaggedVariant) (j : Json) where
+  pub at_tag_text : (name : List ℕ) → out-Json j ≡ Json-F.Text name → at_tag tag told vs j ≡ where_found (below (Name tag) (refused NotListed)) told (named_from tagged_name 0 vs name)
+  at_tag_text name e = rw e refl
+
+  pub at_tag_other : (x : Json-F Json Member) → out-Json j ≡ x → ((name : List ℕ) → x ≡ Json-F.Text name → ⊥) → at_tag tag told vs j ≡ below (Name tag) (refused WrongKind)
+  at_tag_other Json-F.Null e other = rw e refl
+  at_tag_other (Json-F.Bool b) e other = rw e refl
+  at_tag_other (Json-F.Int n) e other = rw e refl
+  at_tag_other (Json-F.Text name) e other = absurd (other name refl)
+  at_tag_other (Json-F.List js) e other = rw e refl
+  at_tag_other (Json-F.Object ms) e other = rw e refl

@@ -4,14 +4,17 @@ use Rattle.std.proofs.Math.Bool.{and-true, and-false}
 use Rattle.std.specs.List.{list_all, list_any}
 use Rattle.std.specs.declared.result.Result.{Result}
 use Rattle.std.specs.declared.result.Result.TheVariants.{Ok, Err}
+use Rattle.schema_values.specs.declared.json_value.Json.{Json}
 use Rattle.schema_values.specs.declared.json_value.Member.{Member}
 use Rattle.typed_values.specs.declared.desc.Desc.{Desc}
 use Rattle.typed_values.specs.declared.desc.Field.{Field}
-use Rattle.typed_values.specs.declared.tree.Tree.{Tree, List as Items, Fields as Parts}
+use Rattle.typed_values.specs.declared.tree.Tree.{Tree, List as Items, Map as Entries, Fields as Parts}
 use Rattle.typed_values.specs.declared.fault.FaultKind.TheVariants.{BadLength}
+use Rattle.typed_values.specs.declared.fault.Place.TheVariants.{Name}
 use Rattle.typed_values.specs.Bounds.{is_length_within}
 use Rattle.typed_values.specs.Faults.{Trouble}
-use Rattle.typed_values.specs.Denotes.{Told, below, just, and_rest, and_then, all_told, as_tree, if_holds, is_declared, least_with, least_name, denied_name, member_name, unless_denied, or_else, first_told, items_told}
+use Rattle.typed_values.specs.Denotes.{Told, below, just, and_rest, and_then, all_told, as_tree, as_pair, entries_told, if_holds, is_declared, least_with, least_name, denied_name, member_name, unless_denied, or_else, first_told, items_told}
+use Rattle.typed_values.specs.Order.{sorted_by}
 
 pub ok_below : (place : _) (told : Told) → is_ok (below place told) ≡ is_ok told
 ok_below place (Ok tree) = refl
@@ -21,29 +24,41 @@ pub ok_just : (told : Told) → is_ok (just told) ≡ is_ok told
 ok_just (Ok tree) = refl
 ok_just (Err trouble) = refl
 
-ok_rest : (tree : Tree) (rest : Result (List Tree) Trouble) → is_ok (and_rest tree rest) ≡ is_ok rest
-ok_rest tree (Ok trees) = refl
-ok_rest tree (Err trouble) = refl
+ok_pair : (key : List ℕ) (told : Told) → is_ok (as_pair key told) ≡ is_ok told
+ok_pair key (Ok tree) = refl
+ok_pair key (Err trouble) = refl
 
-ok_then : (told : Told) (rest : Result (List Tree) Trouble) → is_ok (and_then told rest) ≡ (is_ok told && is_ok rest)
-ok_then (Ok tree) rest = ok_rest tree rest
-ok_then (Err trouble) rest = refl
+module _ {T : Type 0} where
+  ok_rest : (part : T) (rest : Result (List T) Trouble) → is_ok (and_rest part rest) ≡ is_ok rest
+  ok_rest part (Ok parts) = refl
+  ok_rest part (Err trouble) = refl
 
-ok_tree : (node : List Tree → Tree) (trees : Result (List Tree) Trouble) → is_ok (as_tree node trees) ≡ is_ok trees
-ok_tree node (Ok trees) = refl
-ok_tree node (Err trouble) = refl
+  ok_then : (told : Result T Trouble) (rest : Result (List T) Trouble) → is_ok (and_then told rest) ≡ (is_ok told && is_ok rest)
+  ok_then (Ok part) rest = ok_rest part rest
+  ok_then (Err trouble) rest = refl
 
-module _ {X : Type 0} (told : ℕ → X → Told) (denotes : X → Bool) (same : (i : ℕ) (x : X) → is_ok (told i x) ≡ denotes x) where
+  ok_tree : (node : List T → Tree) (parts : Result (List T) Trouble) → is_ok (as_tree node parts) ≡ is_ok parts
+  ok_tree node (Ok parts) = refl
+  ok_tree node (Err trouble) = refl
+
+module _ {X T : Type 0} (told : ℕ → X → Result T Trouble) (denotes : X → Bool) (same : (i : ℕ) (x : X) → is_ok (told i x) ≡ denotes x) where
   pub ok_all : (i : ℕ) (xs : List X) → is_ok (all_told told i xs) ≡ list_all denotes xs
   ok_all i [] = refl
   ok_all i (x ∷ xs) = ok_then (told i x) (all_told told (i + 1) xs) ∙ ap (λ (b : Bool). b && is_ok (all_told told (i + 1) xs)) (same i x) ∙ ap (λ (b : Bool). denotes x && b) (ok_all (i + 1) xs)
 
+module _ {X : Type 0} (told : ℕ → X → Told) (denotes : X → Bool) (same : (i : ℕ) (x : X) → is_ok (told i x) ≡ denotes x) where
   pub ok_items : (min max : Option ℕ) (xs : List X) → is_ok (items_told told min max xs) ≡ (list_all denotes xs && is_length_within min max (length xs))
-  ok_items min max xs = by_length (is_length_within min max (length xs)) ∙ ap (λ (b : Bool). b && is_length_within min max (length xs)) (ok_tree _ (all_told told 0 xs) ∙ ok_all 0 xs)
+  ok_items min max xs = by_length (is_length_within min max (length xs)) ∙ ap (λ (b : Bool). b && is_length_within min max (length xs)) (ok_tree _ (all_told told 0 xs) ∙ ok_all told denotes same 0 xs)
     where
       by_length : (b : Bool) → is_ok (if_holds b BadLength (as_tree Items (all_told told 0 xs))) ≡ (is_ok (as_tree Items (all_told told 0 xs)) && b)
       by_length true = sym (and-true _)
       by_length false = sym (and-false _)
+
+-- a map denotes something where each value does
+pub ok_entries : (told : Json → Told) (ms : List Member) → is_ok (entries_told told ms) ≡ list_all (λ m. is_ok (told m.value)) (sorted_by member_name ms)
+ok_entries told ms =
+    ok_tree Entries (all_told (λ i m. as_pair m.name (below (Name m.name) (told m.value))) 0 (sorted_by member_name ms))
+    ∙ ok_all (λ i m. as_pair m.name (below (Name m.name) (told m.value))) (λ m. is_ok (told m.value)) (λ i m. ok_pair m.name (below (Name m.name) (told m.value)) ∙ ok_below (Name m.name) (told m.value)) 0 (sorted_by member_name ms)
 
 module _ (told : Desc → Told) where
   ok_else : (i : ℕ) (first rest : Told) → is_ok (or_else i first rest) ≡ (is_ok first || is_ok rest)

@@ -2,20 +2,24 @@
 use Rattle.std.proofs.Common.{rules, ◌≡◌, ℕ, zero, suc, ◌+◌, Bool, List, [], ◌∷◌, map, Option, Some, None, refl, sym, ◌∙◌, ap, MatchOption}
 use Rattle.schema_values.specs.declared.json_value.Json.{Json, List as Items, Object}
 use Rattle.schema_values.specs.Member.{member}
-use Rattle.typed_values.specs.declared.desc.Desc.{Desc, Option as OptionOf, out-Desc}
+use Rattle.typed_values.specs.declared.desc.Desc.{Desc, Option as OptionOf, Struct as StructOf, out-Desc}
 use Rattle.typed_values.specs.declared.desc.Desc.TheOpen.{Desc-F}
-use Rattle.typed_values.specs.declared.desc.Desc.TheVariants.{outs-Option}
+use Rattle.typed_values.specs.declared.desc.Desc.TheVariants.{outs-Option, outs-Struct}
 use Rattle.typed_values.specs.declared.desc.Field.{Field}
+use Rattle.typed_values.specs.declared.desc.Named.{Named}
+use Rattle.typed_values.specs.declared.desc.TaggedVariant.{TaggedVariant}
+use Rattle.typed_values.specs.declared.desc.Variant.{Variant}
 use Rattle.typed_values.specs.declared.tree.Tree.{Tree, out-Tree}
 use Rattle.typed_values.specs.declared.tree.Tree.TheOpen.{Tree-F}
-use Rattle.typed_values.specs.declared.tree.Tree.TheFolds.{fold_out-Tree, map-Tree}
 use Rattle.typed_values.specs.declared.table.Definition.{Definition}
 use Rattle.typed_values.specs.Definitions.{definition}
 use Rattle.typed_values.specs.Denotes.{room, nodes, nodes_of_table}
-use Rattle.typed_values.specs.Encoding.{Writing, is_left_out, unless, members_written, written_if_there, scalar_written, option_written, items_written, parts_written, choice_written, written_by, is_none_written, written_at, is_none_level, writing_step, writing, written_under}
+use Rattle.typed_values.specs.Encoding.{Writing, is_left_out, unless, members_written, written_if_there, scalar_written, whole_written, listed_written, option_written, items_written, pair_written, entries_written, parts_written, choice_written, external_written, tagged_written, written_by, is_none_written, written_at, is_none_level, writing_step, writing, written_under}
 use Rattle.typed_values.specs.Fits.{field_desc}
+use Rattle.typed_values.specs.Levels.{DescLevel, TreeOf}
 use Rattle.typed_values.specs.Sound.{RestsBy, Rests}
 use Rattle.typed_values.proofs.Rows.{two_maps}
+use Rattle.typed_values.proofs.TreeLevels.{pair_with, level_with, folded_level}
 
 -- a row of smaller trees is that of what they stand for
 module _ {X Y : Type 0} (g : X → Y) where
@@ -27,45 +31,57 @@ module _ {X Y : Type 0} (g : X → Y) where
       ap (λ (b : Bool). unless (is_left_out f.presence b) (member f.name (written (g x) (field_desc f))) (members_written is_none written fs (map g xs))) (same x)
       ∙ ap (unless (is_left_out f.presence (none x)) (member f.name (written (g x) (field_desc f)))) (members_written-map is_none none written same fs xs)
 
-  scalar_written-map : (x : Tree-F X) → scalar_written (map-Tree X Y g x) ≡ scalar_written x
+  scalar_written-map : (x : TreeOf X) → scalar_written (level_with g x) ≡ scalar_written x
   scalar_written-map x = search rules
 
-  is_none_level-map : (x : Tree-F X) → is_none_level (map-Tree X Y g x) ≡ is_none_level x
+  whole_written-map : (x : TreeOf X) → whole_written (level_with g x) ≡ whole_written x
+  whole_written-map x = search rules
+
+  is_none_level-map : (x : TreeOf X) → is_none_level (level_with g x) ≡ is_none_level x
   is_none_level-map x = search rules
 
-  option_written-map : (written : Y → Json) (x : Tree-F X) → option_written written (map-Tree X Y g x) ≡ option_written (λ x. written (g x)) x
+  listed_written-map : (ns : List Named) (x : TreeOf X) → listed_written ns (level_with g x) ≡ listed_written ns x
+  listed_written-map ns x = search rules
+
+  option_written-map : (written : Y → Json) (x : TreeOf X) → option_written written (level_with g x) ≡ option_written (λ x. written (g x)) x
   option_written-map written x = search rules
 
-  items_written-map : (written : Y → Json) (x : Tree-F X) → items_written written (map-Tree X Y g x) ≡ items_written (λ x. written (g x)) x
-  items_written-map written Tree-F.None = refl
-  items_written-map written (Tree-F.Bool b) = refl
-  items_written-map written (Tree-F.Int n) = refl
-  items_written-map written (Tree-F.Text t) = refl
-  items_written-map written (Tree-F.Some x) = refl
+  items_written-map : (written : Y → Json) (x : TreeOf X) → items_written written (level_with g x) ≡ items_written (λ x. written (g x)) x
   items_written-map written (Tree-F.List xs) = ap Items (two_maps written g (λ x. written (g x)) (λ x. refl) xs)
-  items_written-map written (Tree-F.Fields xs) = refl
-  items_written-map written (Tree-F.Variant i x) = refl
+  items_written-map written _ = refl
 
-  parts_written-map : (is_none : Y → Bool) (none : X → Bool) (written : Y → Desc → Json) → ((x : X) → is_none (g x) ≡ none x) → (fs : List Field) (x : Tree-F X) → parts_written is_none written fs (map-Tree X Y g x) ≡ parts_written none (λ x d. written (g x) d) fs x
-  parts_written-map is_none none written same fs Tree-F.None = refl
-  parts_written-map is_none none written same fs (Tree-F.Bool b) = refl
-  parts_written-map is_none none written same fs (Tree-F.Int n) = refl
-  parts_written-map is_none none written same fs (Tree-F.Text t) = refl
-  parts_written-map is_none none written same fs (Tree-F.Some x) = refl
-  parts_written-map is_none none written same fs (Tree-F.List xs) = refl
+  entries_written-map : (written : Y → Json) (x : TreeOf X) → entries_written written (level_with g x) ≡ entries_written (λ x. written (g x)) x
+  entries_written-map written (Tree-F.Map ps) = ap Object (two_maps (pair_written written) (pair_with g) (pair_written (λ x. written (g x))) (λ p. refl) ps)
+  entries_written-map written _ = refl
+
+  parts_written-map : (is_none : Y → Bool) (none : X → Bool) (written : Y → Desc → Json) → ((x : X) → is_none (g x) ≡ none x) → (fs : List Field) (x : TreeOf X) → parts_written is_none written fs (level_with g x) ≡ parts_written none (λ x d. written (g x) d) fs x
   parts_written-map is_none none written same fs (Tree-F.Fields xs) = ap Object (members_written-map is_none none written same fs xs)
-  parts_written-map is_none none written same fs (Tree-F.Variant i x) = refl
+  parts_written-map is_none none written same fs _ = refl
 
-  choice_written-map : (written : Y → Desc → Json) (ds : List Desc) (x : Tree-F X) → choice_written written ds (map-Tree X Y g x) ≡ choice_written (λ x d. written (g x) d) ds x
+  choice_written-map : (written : Y → Desc → Json) (ds : List Desc) (x : TreeOf X) → choice_written written ds (level_with g x) ≡ choice_written (λ x d. written (g x) d) ds x
   choice_written-map written ds x = search rules
 
-  written_by-map : (table : List Definition) (is_none : Y → Bool) (none : X → Bool) (written : Y → Desc → Json) (next : Desc → Json) → ((x : X) → is_none (g x) ≡ none x) → (y : Desc-F Desc Field) (x : Tree-F X) → written_by table is_none written next y (map-Tree X Y g x) ≡ written_by table none (λ x d. written (g x) d) next y x
+  external_written-map : (written : Y → Desc → Json) (vs : List Variant) (x : TreeOf X) → external_written written vs (level_with g x) ≡ external_written (λ x d. written (g x) d) vs x
+  external_written-map written vs x = search rules
+
+  tagged_written-map : (written : Y → Desc → Json) (tag : List ℕ) (vs : List TaggedVariant) (x : TreeOf X) → tagged_written written tag vs (level_with g x) ≡ tagged_written (λ x d. written (g x) d) tag vs x
+  tagged_written-map written tag vs x = search rules
+
+  written_by-map : (table : List Definition) (is_none : Y → Bool) (none : X → Bool) (written : Y → Desc → Json) (next : Desc → Json) → ((x : X) → is_none (g x) ≡ none x) → (y : DescLevel) (x : TreeOf X) → written_by table is_none written next y (level_with g x) ≡ written_by table none (λ x d. written (g x) d) next y x
+  written_by-map table is_none none written next same Desc-F.Any x = whole_written-map x
+  written_by-map table is_none none written next same Desc-F.Never x = refl
+  written_by-map table is_none none written next same Desc-F.Null x = refl
   written_by-map table is_none none written next same Desc-F.Bool x = scalar_written-map x
+  written_by-map table is_none none written next same Desc-F.Char x = scalar_written-map x
   written_by-map table is_none none written next same (Desc-F.Int kind min max) x = scalar_written-map x
   written_by-map table is_none none written next same (Desc-F.Text min max format) x = scalar_written-map x
+  written_by-map table is_none none written next same (Desc-F.Enumeration ns) x = listed_written-map ns x
   written_by-map table is_none none written next same (Desc-F.Option d) x = option_written-map (λ y. written y d) x
   written_by-map table is_none none written next same (Desc-F.List d min max) x = items_written-map (λ y. written y d) x
+  written_by-map table is_none none written next same (Desc-F.Map d) x = entries_written-map (λ y. written y d) x
   written_by-map table is_none none written next same (Desc-F.Struct fs deny) x = parts_written-map is_none none written same fs x
+  written_by-map table is_none none written next same (Desc-F.External vs) x = external_written-map written vs x
+  written_by-map table is_none none written next same (Desc-F.Tagged tag vs) x = tagged_written-map written tag vs x
   written_by-map table is_none none written next same (Desc-F.Untagged ds) x = choice_written-map written ds x
   written_by-map table is_none none written next same (Desc-F.Ref name) x = refl
 
@@ -74,13 +90,21 @@ written_if_there_same Next f g same None h = absurd h
 written_if_there_same Next f g same (Some d) h = same d h
 
 -- what follows a step matters only where that step is one
-written_by_same : (table : List Definition) (written : Writing → Desc → Json) (t : Tree-F Writing) (Next : Desc → Type 0) (f g : Desc → Json) → ((d : Desc) → Next d → f d ≡ g d) → (y : Desc-F Desc Field) → RestsBy table Next y → written_by table is_none_written written f y t ≡ written_by table is_none_written written g y t
+written_by_same : (table : List Definition) (written : Writing → Desc → Json) (t : TreeOf Writing) (Next : Desc → Type 0) (f g : Desc → Json) → ((d : Desc) → Next d → f d ≡ g d) → (y : DescLevel) → RestsBy table Next y → written_by table is_none_written written f y t ≡ written_by table is_none_written written g y t
+written_by_same table written t Next f g same Desc-F.Any h = refl
+written_by_same table written t Next f g same Desc-F.Never h = refl
+written_by_same table written t Next f g same Desc-F.Null h = refl
 written_by_same table written t Next f g same Desc-F.Bool h = refl
+written_by_same table written t Next f g same Desc-F.Char h = refl
 written_by_same table written t Next f g same (Desc-F.Int kind min max) h = refl
 written_by_same table written t Next f g same (Desc-F.Text min max format) h = refl
+written_by_same table written t Next f g same (Desc-F.Enumeration ns) h = refl
 written_by_same table written t Next f g same (Desc-F.Option d) h = refl
 written_by_same table written t Next f g same (Desc-F.List d min max) h = refl
+written_by_same table written t Next f g same (Desc-F.Map d) h = refl
 written_by_same table written t Next f g same (Desc-F.Struct fs deny) h = refl
+written_by_same table written t Next f g same (Desc-F.External vs) h = refl
+written_by_same table written t Next f g same (Desc-F.Tagged tag vs) h = refl
 written_by_same table written t Next f g same (Desc-F.Untagged ds) h = refl
 written_by_same table written t Next f g same (Desc-F.Ref name) h = written_if_there_same Next f g same (definition table name) h
 
@@ -88,7 +112,7 @@ abbrev with_room : ℕ → Writing → Desc → Json
 with_room r x d = x.json r d
 
 -- a descriptor that rests after n steps needs no more
-written_at_enough : (table : List Definition) (r : ℕ) (t : Tree-F Writing) (n : ℕ) (d : Desc) → Rests table n d → written_at table r t (suc n) d ≡ written_at table r t n d
+written_at_enough : (table : List Definition) (r : ℕ) (t : TreeOf Writing) (n : ℕ) (d : Desc) → Rests table n d → written_at table r t (suc n) d ≡ written_at table r t n d
 unfolding Rests written_at
 written_at_enough table r t zero d h = absurd h
 written_at_enough table r t (suc n) d h = written_by_same table (with_room r) t (Rests table n) (written_at table r t (suc n)) (written_at table r t n) (written_at_enough table r t n) (out-Desc d) h
@@ -97,15 +121,15 @@ abbrev pub is_none_tree : Tree → Bool
 is_none_tree t = is_none_level (out-Tree t)
 
 module _ (table : List Definition) (whole : Desc) (t : Tree) where
-  abbrev tree_written : Tree-F Writing
-  tree_written = map-Tree Tree Writing (writing table (room table whole)) (out-Tree t)
+  abbrev tree_written : TreeOf Writing
+  tree_written = level_with (writing table (room table whole)) (out-Tree t)
 
   written_level : (d : Desc) → written_under table whole t d ≡ written_at table (room table whole) tree_written (room table whole) d
   unfolding written_under
-  written_level d = ap (λ (w : Writing). w.json (room table whole) d) (fold_out-Tree Writing (writing_step table (room table whole)) t)
+  written_level d = ap (λ (w : Writing). w.json (room table whole) d) (folded_level (writing_step table (room table whole)) t)
 
   pub none_written : (writing table (room table whole) t).is_none ≡ is_none_tree t
-  none_written = ap (λ (w : Writing). w.is_none) (fold_out-Tree Writing (writing_step table (room table whole)) t) ∙ is_none_level-map (writing table (room table whole)) (out-Tree t)
+  none_written = ap (λ (w : Writing). w.is_none) (folded_level (writing_step table (room table whole)) t) ∙ is_none_level-map (writing table (room table whole)) (out-Tree t)
 
   written_more : (m : ℕ) → room table whole ≡ suc m → (d : Desc) → Rests table m d → written_at table (room table whole) tree_written m d ≡ written_under table whole t d
   written_more m e d h =
@@ -137,5 +161,13 @@ module _ (table : List Definition) (whole : Desc) (t : Tree) where
   unfolding written_at written_under room
   skipped_written d =
       written_level table whole t (OptionOf d)
-      ∙ ap (λ (y : Desc-F Desc Field). written_by table is_none_written (with_room (room table whole)) (written_at table (room table whole) (tree_written table whole t) (nodes_of_table table + nodes whole)) y (tree_written table whole t)) (outs-Option d)
+      ∙ ap (λ (y : DescLevel). written_by table is_none_written (with_room (room table whole)) (written_at table (room table whole) (tree_written table whole t) (nodes_of_table table + nodes whole)) y (tree_written table whole t)) (outs-Option d)
       ∙ option_written-map (writing table (room table whole)) (λ x. x.json (room table whole) d) (out-Tree t)
+
+  -- the tree of a tagged variant, whose struct is one of no table
+  pub struct_written : (fs : List Field) (deny : Bool) → written_under table whole t (StructOf fs deny) ≡ parts_written is_none_tree (written_under table whole) fs (out-Tree t)
+  unfolding written_at written_under room
+  struct_written fs deny =
+      written_level table whole t (StructOf fs deny)
+      ∙ ap (λ (y : DescLevel). written_by table is_none_written (with_room (room table whole)) (written_at table (room table whole) (tree_written table whole t) (nodes_of_table table + nodes whole)) y (tree_written table whole t)) (outs-Struct fs deny)
+      ∙ parts_written-map (writing table (room table whole)) is_none_written is_none_tree (with_room (room table whole)) (none_written table whole) fs (out-Tree t)

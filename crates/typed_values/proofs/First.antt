@@ -4,7 +4,7 @@ use Rattle.std.proofs.lemmas.Option.{slice_get_within, get_or_from_slice_get}
 use Rattle.std.specs.Prelude.{Contains}
 use Rattle.schema_values.specs.Sound.{AreDistinct}
 use Rattle.typed_values.specs.declared.check.TableError.{TableError}
-use Rattle.typed_values.specs.declared.check.TableError.TheVariants.{DoubledName, BadName, Dangling, Unguarded, EmptyEnumeration, NullOfNull, BadRange, BadPresence}
+use Rattle.typed_values.specs.declared.check.TableError.TheVariants.{DoubledName, BadName, Dangling, Unguarded, EmptyEnumeration, NullOfNull, TagClash, BadRange, BadPresence}
 use Rattle.typed_values.specs.declared.desc.Desc.{Desc}
 use Rattle.typed_values.specs.declared.table.Definition.{Definition}
 use Rattle.typed_values.specs.Definitions.{definition_name}
@@ -17,24 +17,25 @@ module _ (A : TableError → Type 0) where
   NoneBefore n = (other : TableError) → order other < n → A other → ⊥
 
   -- where those told before do not apply
-  none_before : (n : ℕ) → n ≤ 7 → (0 < n → A DoubledName → ⊥) → (1 < n → A BadName → ⊥) → (2 < n → A Dangling → ⊥) → ((name : _) → 3 < n → A (Unguarded name) → ⊥)
-      → (4 < n → A EmptyEnumeration → ⊥) → (5 < n → A NullOfNull → ⊥) → (6 < n → A BadRange → ⊥) → NoneBefore n
+  none_before : (n : ℕ) → n ≤ 8 → (0 < n → A DoubledName → ⊥) → (1 < n → A BadName → ⊥) → (2 < n → A Dangling → ⊥) → ((name : _) → 3 < n → A (Unguarded name) → ⊥)
+      → (4 < n → A EmptyEnumeration → ⊥) → (5 < n → A NullOfNull → ⊥) → (6 < n → A TagClash → ⊥) → (7 < n → A BadRange → ⊥) → NoneBefore n
   unfolding NoneBefore
-  none_before n le doubled bad dangling unguarded empty null range DoubledName lt = doubled lt
-  none_before n le doubled bad dangling unguarded empty null range BadName lt = bad lt
-  none_before n le doubled bad dangling unguarded empty null range Dangling lt = dangling lt
-  none_before n le doubled bad dangling unguarded empty null range (Unguarded name) lt = unguarded name lt
-  none_before n le doubled bad dangling unguarded empty null range EmptyEnumeration lt = empty lt
-  none_before n le doubled bad dangling unguarded empty null range NullOfNull lt = null lt
-  none_before n le doubled bad dangling unguarded empty null range BadRange lt = range lt
-  none_before n le doubled bad dangling unguarded empty null range BadPresence lt = absurd (omega arith)
+  none_before n le doubled bad dangling unguarded empty null clash range DoubledName lt = doubled lt
+  none_before n le doubled bad dangling unguarded empty null clash range BadName lt = bad lt
+  none_before n le doubled bad dangling unguarded empty null clash range Dangling lt = dangling lt
+  none_before n le doubled bad dangling unguarded empty null clash range (Unguarded name) lt = unguarded name lt
+  none_before n le doubled bad dangling unguarded empty null clash range EmptyEnumeration lt = empty lt
+  none_before n le doubled bad dangling unguarded empty null clash range NullOfNull lt = null lt
+  none_before n le doubled bad dangling unguarded empty null clash range TagClash lt = clash lt
+  none_before n le doubled bad dangling unguarded empty null clash range BadRange lt = range lt
+  none_before n le doubled bad dangling unguarded empty null clash range BadPresence lt = absurd (omega arith)
 
   module _ (doubled : A DoubledName → ⊥) (bad : A BadName → ⊥) where
     pub first_dangling : A Dangling → IsFirst A Dangling
     unfolding NoneBefore
     first_dangling applies = record {
       applies = applies;
-      none_before = none_before 2 (omega arith) (λ lt. doubled) (λ lt. bad) (λ lt. absurd (omega arith)) (λ name lt. absurd (omega arith)) (λ lt. absurd (omega arith)) (λ lt. absurd (omega arith)) (λ lt. absurd (omega arith));
+      none_before = none_before 2 (omega arith) (λ lt. doubled) (λ lt. bad) (λ lt. absurd (omega arith)) (λ name lt. absurd (omega arith)) (λ lt. absurd (omega arith)) (λ lt. absurd (omega arith)) (λ lt. absurd (omega arith)) (λ lt. absurd (omega arith));
     }
 
     module _ (dangling : A Dangling → ⊥) where
@@ -42,7 +43,7 @@ module _ (A : TableError → Type 0) where
       unfolding NoneBefore
       first_unguarded name applies = record {
         applies = applies;
-        none_before = none_before 3 (omega arith) (λ lt. doubled) (λ lt. bad) (λ lt. dangling) (λ name lt. absurd (omega arith)) (λ lt. absurd (omega arith)) (λ lt. absurd (omega arith)) (λ lt. absurd (omega arith));
+        none_before = none_before 3 (omega arith) (λ lt. doubled) (λ lt. bad) (λ lt. dangling) (λ name lt. absurd (omega arith)) (λ lt. absurd (omega arith)) (λ lt. absurd (omega arith)) (λ lt. absurd (omega arith)) (λ lt. absurd (omega arith));
       }
 
       module _ (unguarded : (name : _) → A (Unguarded name) → ⊥) where
@@ -50,7 +51,7 @@ module _ (A : TableError → Type 0) where
         unfolding NoneBefore
         first_empty applies = record {
           applies = applies;
-          none_before = none_before 4 (omega arith) (λ lt. doubled) (λ lt. bad) (λ lt. dangling) (λ name lt. unguarded name) (λ lt. absurd (omega arith)) (λ lt. absurd (omega arith)) (λ lt. absurd (omega arith));
+          none_before = none_before 4 (omega arith) (λ lt. doubled) (λ lt. bad) (λ lt. dangling) (λ name lt. unguarded name) (λ lt. absurd (omega arith)) (λ lt. absurd (omega arith)) (λ lt. absurd (omega arith)) (λ lt. absurd (omega arith));
         }
 
         module _ (empty : A EmptyEnumeration → ⊥) where
@@ -58,32 +59,41 @@ module _ (A : TableError → Type 0) where
           unfolding NoneBefore
           first_null applies = record {
             applies = applies;
-            none_before = none_before 5 (omega arith) (λ lt. doubled) (λ lt. bad) (λ lt. dangling) (λ name lt. unguarded name) (λ lt. empty) (λ lt. absurd (omega arith)) (λ lt. absurd (omega arith));
+            none_before = none_before 5 (omega arith) (λ lt. doubled) (λ lt. bad) (λ lt. dangling) (λ name lt. unguarded name) (λ lt. empty) (λ lt. absurd (omega arith)) (λ lt. absurd (omega arith)) (λ lt. absurd (omega arith));
           }
 
           module _ (null : A NullOfNull → ⊥) where
-            pub first_range : A BadRange → IsFirst A BadRange
+            pub first_clash : A TagClash → IsFirst A TagClash
             unfolding NoneBefore
-            first_range applies = record {
+            first_clash applies = record {
               applies = applies;
-              none_before = none_before 6 (omega arith) (λ lt. doubled) (λ lt. bad) (λ lt. dangling) (λ name lt. unguarded name) (λ lt. empty) (λ lt. null) (λ lt. absurd (omega arith));
+              none_before = none_before 6 (omega arith) (λ lt. doubled) (λ lt. bad) (λ lt. dangling) (λ name lt. unguarded name) (λ lt. empty) (λ lt. null) (λ lt. absurd (omega arith)) (λ lt. absurd (omega arith));
             }
 
-            pub first_presence : (A BadRange → ⊥) → A BadPresence → IsFirst A BadPresence
-            unfolding NoneBefore
-            first_presence range applies = record {
-              applies = applies;
-              none_before = none_before 7 (omega arith) (λ lt. doubled) (λ lt. bad) (λ lt. dangling) (λ name lt. unguarded name) (λ lt. empty) (λ lt. null) (λ lt. range);
-            }
+            module _ (clash : A TagClash → ⊥) where
+              pub first_range : A BadRange → IsFirst A BadRange
+              unfolding NoneBefore
+              first_range applies = record {
+                applies = applies;
+                none_before = none_before 7 (omega arith) (λ lt. doubled) (λ lt. bad) (λ lt. dangling) (λ name lt. unguarded name) (λ lt. empty) (λ lt. null) (λ lt. clash) (λ lt. absurd (omega arith));
+              }
+
+              pub first_presence : (A BadRange → ⊥) → A BadPresence → IsFirst A BadPresence
+              unfolding NoneBefore
+              first_presence range applies = record {
+                applies = applies;
+                none_before = none_before 8 (omega arith) (λ lt. doubled) (λ lt. bad) (λ lt. dangling) (λ name lt. unguarded name) (λ lt. empty) (λ lt. null) (λ lt. clash) (λ lt. range);
+              }
 
 -- a descriptor to which none applies passes
 pub desc_passes : (table : List Definition) (desc : Desc) → (AppliesToDesc table desc DoubledName → ⊥) → (AppliesToDesc table desc Dangling → ⊥) → (AppliesToDesc table desc EmptyEnumeration → ⊥)
-    → (AppliesToDesc table desc NullOfNull → ⊥) → (AppliesToDesc table desc BadRange → ⊥) → (AppliesToDesc table desc BadPresence → ⊥) → DescPasses table desc
-desc_passes table desc doubled dangling empty null range presence d s = record {
+    → (AppliesToDesc table desc NullOfNull → ⊥) → (AppliesToDesc table desc TagClash → ⊥) → (AppliesToDesc table desc BadRange → ⊥) → (AppliesToDesc table desc BadPresence → ⊥) → DescPasses table desc
+desc_passes table desc doubled dangling empty null clash range presence d s = record {
   names_distinct = λ h. doubled (d, s, h);
   defined = λ h. dangling (d, s, h);
   some_alternative = λ h. empty (d, s, h);
   null_once = λ h. null (d, s, h);
+  tags = λ h. clash (d, s, h);
   ranges = λ h. range (d, s, h);
   presences = λ h. presence (d, s, h);
 }
@@ -95,12 +105,12 @@ AppliesSomewhere table error = (e : Definition) × Contains table e × AppliesTo
 -- a table to which none applies passes
 pub table_passes : (table : List Definition) → AreDistinct (map definition_name table) → ((e : Definition) → Contains table e → IsName e.name) → IsGuarded table
     → (AppliesSomewhere table DoubledName → ⊥) → (AppliesSomewhere table Dangling → ⊥) → (AppliesSomewhere table EmptyEnumeration → ⊥)
-    → (AppliesSomewhere table NullOfNull → ⊥) → (AppliesSomewhere table BadRange → ⊥) → (AppliesSomewhere table BadPresence → ⊥) → TablePasses table
-table_passes table once named guarded doubled dangling empty null range presence = record {
+    → (AppliesSomewhere table NullOfNull → ⊥) → (AppliesSomewhere table TagClash → ⊥) → (AppliesSomewhere table BadRange → ⊥) → (AppliesSomewhere table BadPresence → ⊥) → TablePasses table
+table_passes table once named guarded doubled dangling empty null clash range presence = record {
   once = once;
   named = named;
   guarded = guarded;
-  each = λ e c. desc_passes table e.desc (λ h. doubled (e, c, h)) (λ h. dangling (e, c, h)) (λ h. empty (e, c, h)) (λ h. null (e, c, h)) (λ h. range (e, c, h)) (λ h. presence (e, c, h));
+  each = λ e c. desc_passes table e.desc (λ h. doubled (e, c, h)) (λ h. dangling (e, c, h)) (λ h. empty (e, c, h)) (λ h. null (e, c, h)) (λ h. clash (e, c, h)) (λ h. range (e, c, h)) (λ h. presence (e, c, h));
 }
 
 -- where the first on a cycle is found, the table is not guarded

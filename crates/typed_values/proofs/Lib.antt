@@ -1,6 +1,11 @@
 pub mod Found
 pub mod Tops
 pub mod Soundness
+pub mod SortedLemmas
+pub mod Stable
+pub mod FirstNamed
+pub mod Ordered
+pub mod Listed
 pub mod Steps
 pub mod Rows
 pub mod Inside
@@ -8,8 +13,11 @@ pub mod Arms
 pub mod Measure
 pub mod JsonSizes
 pub mod TreeSizes
+pub mod TreeLevels
+pub mod AscendingKeys
 pub mod FitSteps
 pub mod FitRows
+pub mod DenotedRows
 pub mod DenotedFits
 pub mod EncodeSteps
 pub mod EncodeRows
@@ -18,6 +26,7 @@ pub mod NullTaken
 pub mod TreeParts
 pub mod ToldTrees
 pub mod ScalarsBack
+pub mod VariantsBack
 pub mod Denoted
 pub mod WrittenMembers
 pub mod WrittenBack

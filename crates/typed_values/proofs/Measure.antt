@@ -9,12 +9,13 @@ use Rattle.typed_values.specs.declared.table.Definition.{Definition}
 use Rattle.typed_values.specs.Definitions.{definition}
 use Rattle.typed_values.specs.Denotes.{room}
 use Rattle.typed_values.specs.Sound.{EachRests, RestsBy, Rests}
+use Rattle.typed_values.specs.Levels.{DescLevel}
 
 abbrev pub steps_after : (Desc → ℕ) → Option Desc → ℕ
 steps_after next None = 0
 steps_after next (Some d) = suc (next d)
 
-abbrev pub steps_by : List Definition → (Desc → ℕ) → Desc-F Desc Field → ℕ
+abbrev pub steps_by : List Definition → (Desc → ℕ) → DescLevel → ℕ
 steps_by table next (Desc-F.Option d) = suc (next d)
 steps_by table next (Desc-F.Ref name) = steps_after next (definition table name)
 steps_by table next (Desc-F.Untagged ds) = suc (most next ds)
@@ -34,13 +35,21 @@ module _ (n : ℕ) (next : Desc → ℕ) (h : (d : Desc) → next d ≤ n) where
   most_at_most [] = omega arith
   most_at_most (d ∷ ds) = omega (arith, h d, most_at_most ds)
 
-  steps_by_at_most : (table : List Definition) (x : Desc-F Desc Field) → steps_by table next x ≤ suc n
+  steps_by_at_most : (table : List Definition) (x : DescLevel) → steps_by table next x ≤ suc n
+  steps_by_at_most table Desc-F.Any = omega arith
+  steps_by_at_most table Desc-F.Never = omega arith
+  steps_by_at_most table Desc-F.Null = omega arith
   steps_by_at_most table Desc-F.Bool = omega arith
+  steps_by_at_most table Desc-F.Char = omega arith
   steps_by_at_most table (Desc-F.Int kind min max) = omega arith
   steps_by_at_most table (Desc-F.Text min max format) = omega arith
+  steps_by_at_most table (Desc-F.Enumeration ns) = omega arith
   steps_by_at_most table (Desc-F.Option d) = omega (arith, h d)
   steps_by_at_most table (Desc-F.List d min max) = omega arith
+  steps_by_at_most table (Desc-F.Map d) = omega arith
   steps_by_at_most table (Desc-F.Struct fs deny) = omega arith
+  steps_by_at_most table (Desc-F.External vs) = omega arith
+  steps_by_at_most table (Desc-F.Tagged tag vs) = omega arith
   steps_by_at_most table (Desc-F.Untagged ds) = omega (arith, most_at_most ds)
   steps_by_at_most table (Desc-F.Ref name) = steps_after_at_most (definition table name)
 
@@ -58,13 +67,21 @@ module _ (Next : Desc → Type 0) (f g : Desc → ℕ) (same : (d : Desc) → Ne
   most_same [] h = refl
   most_same (d ∷ ds) h = omega (arith, same d h.0, most_same ds h.1)
 
-  steps_by_same : (table : List Definition) (x : Desc-F Desc Field) → RestsBy table Next x → steps_by table f x ≡ steps_by table g x
+  steps_by_same : (table : List Definition) (x : DescLevel) → RestsBy table Next x → steps_by table f x ≡ steps_by table g x
+  steps_by_same table Desc-F.Any h = refl
+  steps_by_same table Desc-F.Never h = refl
+  steps_by_same table Desc-F.Null h = refl
   steps_by_same table Desc-F.Bool h = refl
+  steps_by_same table Desc-F.Char h = refl
   steps_by_same table (Desc-F.Int kind min max) h = refl
   steps_by_same table (Desc-F.Text min max format) h = refl
+  steps_by_same table (Desc-F.Enumeration ns) h = refl
   steps_by_same table (Desc-F.Option d) h = ap suc (same d h)
   steps_by_same table (Desc-F.List d min max) h = refl
+  steps_by_same table (Desc-F.Map d) h = refl
   steps_by_same table (Desc-F.Struct fs deny) h = refl
+  steps_by_same table (Desc-F.External vs) h = refl
+  steps_by_same table (Desc-F.Tagged tag vs) h = refl
   steps_by_same table (Desc-F.Untagged ds) h = ap suc (most_same ds h)
   steps_by_same table (Desc-F.Ref name) h = steps_after_same (definition table name) h
 
@@ -109,6 +126,9 @@ module _ (table : List Definition) (whole : Desc) where
   unfoldable pub size_alone : ℕ → ℕ
   size_alone n = n * stride table whole
 
+no_more_strides : (a b k : ℕ) → a ≤ b → a * k ≤ b * k
+no_more_strides a b k p = grind arith
+
 below_stride : (a b k r : ℕ) → a < b → r < k → a * k + r < b * k
 below_stride a b k r p q = grind arith
 
@@ -132,12 +152,16 @@ module _ (table : List Definition) (whole : Desc) where
   pub at-lt-alone : (n m : ℕ) (d : Desc) → n < m → at_size table whole n d < size_alone table whole m
   at-lt-alone n m d h = omega (arith, at-lt-any n d, any-lt-alone n m h)
 
+  pub alone-le-alone : (n m : ℕ) → n ≤ m → size_alone table whole n ≤ size_alone table whole m
+  unfolding size_alone
+  alone-le-alone n m h = no_more_strides n m (stride table whole) h
+
   pub alone-lt-next : (n : ℕ) → suc (suc (size_alone table whole n)) < size_alone table whole (suc n)
   unfolding size_alone
   alone-lt-next n = omega arith
 
   module _ (n : ℕ) (d : Desc) (h : Rests table (room table whole) d) where
-    pub option-lt : (x : Desc) → d ≡ DescOption x → at_size table whole n x < at_size table whole n d
+    pub option-lt : (x : Desc) → d ≡ DescOption x → suc (at_size table whole n x) < at_size table whole n d
     unfolding at_size
     option-lt x e = omega (arith, option_steps table (room table whole) d h x e)
 

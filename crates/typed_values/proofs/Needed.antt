@@ -4,9 +4,11 @@ use Rattle.std.specs.Prelude.{Contains}
 use Rattle.typed_values.specs.declared.desc.Desc.{Desc, out-Desc}
 use Rattle.typed_values.specs.declared.desc.Desc.TheOpen.{Desc-F}
 use Rattle.typed_values.specs.declared.desc.Field.{Field}
+use Rattle.typed_values.specs.declared.desc.TaggedVariant.{TaggedVariant}
+use Rattle.typed_values.specs.declared.desc.Variant.{Variant}
 use Rattle.typed_values.specs.declared.table.Definition.{Definition}
-use Rattle.typed_values.specs.Definitions.{definition, entry_of}
-use Rattle.typed_values.specs.Parts.{StandsIn, the_whole, in_option, in_list, in_field, in_alternative, IsPart, of_whole as part_of_whole, of_table}
+use Rattle.typed_values.specs.Definitions.{definition, entry_of, tagged_fields}
+use Rattle.typed_values.specs.Parts.{StandsIn, the_whole, in_option, in_list, in_map, in_field, in_payload, in_variant, in_alternative, IsPart, of_whole as part_of_whole, of_table}
 use Rattle.typed_values.specs.Reached.{IsReached, directly, through}
 use Rattle.typed_values.proofs.Found.{contains_first, contains_later, definition_is}
 
@@ -36,9 +38,21 @@ module _ (table : List Definition) (whole d : Desc) where
   list_needed x min max e (of_whole s) = of_whole (in_list x min max s e)
   list_needed x min max e (of_reached name y r f s) = of_reached name y r f (in_list x min max s e)
 
+  pub map_needed : (x : Desc) → out-Desc d ≡ Desc-F.Map x → IsNeeded table whole d → IsNeeded table whole x
+  map_needed x e (of_whole s) = of_whole (in_map x s e)
+  map_needed x e (of_reached name y r f s) = of_reached name y r f (in_map x s e)
+
   pub field_needed : (fs : List Field) (deny : Bool) (g : Field) → out-Desc d ≡ Desc-F.Struct fs deny → Contains fs g → IsNeeded table whole d → IsNeeded table whole g.desc
   field_needed fs deny g e c (of_whole s) = of_whole (in_field fs deny g s e c)
   field_needed fs deny g e c (of_reached name y r f s) = of_reached name y r f (in_field fs deny g s e c)
+
+  pub payload_needed : (vs : List Variant) (v : Variant) (x : Desc) → out-Desc d ≡ Desc-F.External vs → Contains vs v → v.payload ≡ Some x → IsNeeded table whole d → IsNeeded table whole x
+  payload_needed vs v x e c p (of_whole s) = of_whole (in_payload vs v x s e c p)
+  payload_needed vs v x e c p (of_reached name y r f s) = of_reached name y r f (in_payload vs v x s e c p)
+
+  pub variant_needed : (tag : List ℕ) (vs : List TaggedVariant) (v : TaggedVariant) (g : Field) → out-Desc d ≡ Desc-F.Tagged tag vs → Contains vs v → Contains (tagged_fields v) g → IsNeeded table whole d → IsNeeded table whole g.desc
+  variant_needed tag vs v g e c k (of_whole s) = of_whole (in_variant tag vs v g s e c k)
+  variant_needed tag vs v g e c k (of_reached name y r f s) = of_reached name y r f (in_variant tag vs v g s e c k)
 
   pub alternative_needed : (ds : List Desc) (x : Desc) → out-Desc d ≡ Desc-F.Untagged ds → Contains ds x → IsNeeded table whole d → IsNeeded table whole x
   alternative_needed ds x e c (of_whole s) = of_whole (in_alternative ds x s e c)

@@ -9,11 +9,12 @@ use Rattle.typed_values.specs.declared.desc.Desc.TheOpen.{Desc-F}
 use Rattle.typed_values.specs.declared.desc.Field.{Field}
 use Rattle.typed_values.specs.declared.table.Definition.{Definition}
 use Rattle.typed_values.specs.declared.tree.Tree.{Tree}
-use Rattle.typed_values.specs.Checks.{TakesNull, an_option, a_reference, an_alternative}
+use Rattle.typed_values.specs.Checks.{TakesNull, any_value, null_itself, an_option, a_reference, an_alternative}
 use Rattle.typed_values.specs.Definitions.{definition}
 use Rattle.typed_values.specs.Denotes.{Told, room, told, or_else, first_told, at_definition}
 use Rattle.typed_values.specs.Rows.{row}
 use Rattle.typed_values.specs.Sound.{RestsBy, Rests, IsSound}
+use Rattle.typed_values.specs.Levels.{DescLevel}
 use Rattle.typed_values.proofs.Found.{contains_first, contains_later}
 use Rattle.typed_values.proofs.Needed.{IsNeeded, needed_part, alternative_needed, definition_needed}
 use Rattle.typed_values.proofs.Rows.{row_at}
@@ -40,14 +41,22 @@ module _ (table : List Definition) (whole : Desc) (sound : IsSound table whole) 
   taken_behind n next d name need e None f rests t is = absurd rests
   taken_behind n next d name need e (Some y) f rests t is = a_reference name y e f (next y rests (definition_needed table whole d name y e f need) t is)
 
-  taken_by : (n : ℕ) → ((d : Desc) → Rests table n d → IsNeeded table whole d → TakesWhere d) → (d : Desc) → IsNeeded table whole d → (y : Desc-F Desc Field) → out-Desc d ≡ y → RestsBy table (Rests table n) y
+  taken_by : (n : ℕ) → ((d : Desc) → Rests table n d → IsNeeded table whole d → TakesWhere d) → (d : Desc) → IsNeeded table whole d → (y : DescLevel) → out-Desc d ≡ y → RestsBy table (Rests table n) y
       → (t : Tree) → row table whole j Json-F.Null y ≡ Ok t → TakesNull table d
+  taken_by n next d need Desc-F.Any e rests t is = any_value e
+  taken_by n next d need Desc-F.Never e rests t is = absurd (cc is)
+  taken_by n next d need Desc-F.Null e rests t is = null_itself e
   taken_by n next d need Desc-F.Bool e rests t is = absurd (cc is)
+  taken_by n next d need Desc-F.Char e rests t is = absurd (cc is)
   taken_by n next d need (Desc-F.Int kind min max) e rests t is = absurd (cc is)
   taken_by n next d need (Desc-F.Text min max format) e rests t is = absurd (cc is)
+  taken_by n next d need (Desc-F.Enumeration ns) e rests t is = absurd (cc is)
   taken_by n next d need (Desc-F.Option x) e rests t is = an_option x e
   taken_by n next d need (Desc-F.List x min max) e rests t is = absurd (cc is)
+  taken_by n next d need (Desc-F.Map x) e rests t is = absurd (cc is)
   taken_by n next d need (Desc-F.Struct fs deny) e rests t is = absurd (cc is)
+  taken_by n next d need (Desc-F.External vs) e rests t is = absurd (cc is)
+  taken_by n next d need (Desc-F.Tagged tag vs) e rests t is = absurd (cc is)
   taken_by n next d need (Desc-F.Untagged ds) e rests t is =
       let (x, c, s, h) = teller (told table whole j) 0 ds t is in
       an_alternative ds x e c (next x (each_of (Rests table n) ds x rests c) (alternative_needed table whole d ds x e c need) s h)

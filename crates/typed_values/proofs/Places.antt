@@ -1,26 +1,20 @@
--- A name among members whose names are distinct stands at one place at most, and a search by halves finds it.
-use Rattle.std.proofs.Common.{◌≡◌, ◌≢◌, ℕ, zero, suc, ◌+◌, ◌-◌, ◌<◌, ◌≤◌, Bool, true, false, List, [], ◌∷◌, length, map, Some, None, bytes_eq, Ordering, Less, Equal, Greater, nat_cmp, refl, sym, ◌∙◌, ap, ap₂, arith, get_or, set, drop, replicate, ⊎_elim}
-use Rattle.std.proofs.lemmas.Bool.{cases_lt}
+-- The order of names, and where a search by halves finds a name among things in the order of their names.
+use Rattle.std.proofs.Common.{◌≡◌, ◌≢◌, ℕ, zero, suc, ◌+◌, ◌<◌, ◌≤◌, Bool, true, false, List, [], ◌∷◌, length, map, Some, None, option_map, bytes_eq, cond, Less, Equal, Greater, nat_cmp, is_lt, refl, sym, ◌∙◌, ap, ap₂, arith, get_or, inl, inr, ⊎_elim}
+use Rattle.std.proofs.lemmas.Bool.{cases_Bool, cases_lt, cond-true, cond-false}
 use Rattle.std.proofs.lemmas.Cmp.{nat_list_cmp_total, ranked, tied_itself}
-use Rattle.std.proofs.lemmas.List.{drop_more}
-use Rattle.std.proofs.lemmas.List.Sorted.{searchable_from_sorted}
+use Rattle.std.proofs.lemmas.List.{length-map}
+use Rattle.std.proofs.lemmas.List.Sorted.{ranks_by, sorted_far}
+use Rattle.std.proofs.lemmas.Slice.Eq.{bytes_eq-Decides}
+use Rattle.std.proofs.Math.ListN.{get_or-map}
 use Rattle.std.specs.Cmp.Lexicographic.{slice_cmp}
-use Rattle.std.specs.List.{All, AllByRecursion}
-use Rattle.std.specs.List.Sorted.{IsNonDecreasingBy, IsPartitionPoint}
-use Rattle.std.specs.Ordering.{is_lt, ordering_index, ordering_reverse, ordering_then}
-use Rattle.schema_values.specs.declared.json_value.Member.{Member}
-use Rattle.schema_values.specs.Member.{name_of}
-use Rattle.schema_values.specs.Sound.{AreDistinct}
-use Rattle.schema_values.proofs.DistinctLemmas.{AreDistinct-sorted, sorted_from_adjacent}
-use Rattle.typed_values.specs.declared.desc.Field.{Field}
-use Rattle.typed_values.specs.Denotes.{value_named, denied_name}
-use Rattle.typed_values.specs.Members.{AreAscending, IsNamedAt, are_declared}
-use Rattle.typed_values.proofs.Found.{other_name, same_name}
+use Rattle.std.specs.declared.cmp.Ordering.{Ordering}
+use Rattle.std.specs.List.{All, AllWithin, find}
+use Rattle.std.specs.List.Sorted.{IsPartitionedBy, IsPartitionPoint, IsSortedByKey}
+use Rattle.std.specs.Ordering.{ordering_reverse, ordering_then}
+use Rattle.typed_values.specs.Order.{first_by}
+use Rattle.typed_values.proofs.Found.{other_name}
 
 -- ---- the order of names
-
-abbrev pub by_name : List ℕ → Member → Ordering
-by_name name m = slice_cmp nat_cmp (name_of m) name
 
 same_number : (a b : ℕ) → nat_cmp a b ≡ Equal → a ≡ b
 same_number a b e = ranked a b Equal (sym e)
@@ -45,77 +39,86 @@ apart k l other e = other (ap (λ (n : List ℕ). slice_cmp nat_cmp n l) e ∙ t
 pub not_below : (k l : List ℕ) → slice_cmp nat_cmp k l ≡ Less → is_lt (slice_cmp nat_cmp l k) ≡ false
 not_below k l e = ap is_lt (nat_list_cmp_total.antisymm l k ∙ ap ordering_reverse e)
 
--- what a search by halves asks
-pub searchable : (ms : List Member) (name : List ℕ) → AreAscending ms → IsNonDecreasingBy (λ m. ordering_index (by_name name m)) ms
-searchable ms name h = searchable_from_sorted nat_list_cmp_total name_of ms name (λ k d low less. not_below (name_of (get_or ms k d)) (name_of (get_or ms (k + 1) d)) (h k d less))
+-- names of which neither is before the other are one
+same_unless : (k l : List ℕ) (o : Ordering) → slice_cmp nat_cmp k l ≡ o → is_lt o ≡ false → is_lt (ordering_reverse o) ≡ false → k ≡ l
+same_unless k l Less e low high = absurd (cc low)
+same_unless k l Equal e low high = same_text k l e
+same_unless k l Greater e low high = absurd (cc high)
 
--- where it ends, no member has the name
-pub absent_at : (ms : List Member) (name : List ℕ) (i : ℕ) → IsPartitionPoint (λ m. by_name name m ≡ Less) (λ m. by_name name m ≡ Greater) ms i → All (λ m. name_of m ≢ name) ms
-absent_at ms name i h k d less =
-    ⊎_elim (λ l. apart (name_of (get_or ms k d)) name (λ e. let o : by_name name (get_or ms k d) ≡ Less = h.0 k d (omega arith) l in absurd (cc (e, o))))
-    (λ l. apart (name_of (get_or ms k d)) name (λ e. let o : by_name name (get_or ms k d) ≡ Greater = h.1 k d l less in absurd (cc (e, o))))
-    (cases_lt k i)
+-- ---- a search by halves
 
-pub names_distinct : (ms : List Member) → AreAscending ms → AreDistinct (map name_of ms)
-names_distinct ms h = AreDistinct-sorted (map name_of ms) (sorted_from_adjacent ms h)
+find_none : {X : Type 0} (p : X → Bool) (xs : List X) → All (λ x. p x ≡ false) xs → find p xs ≡ None
+find_none p [] h = refl
+find_none p (x ∷ xs) h = cond-false _ _ _ (h 0 x (omega arith)) ∙ find_none p xs (λ k d low. h (suc k) d (omega (arith, low)))
 
--- ---- values by name
+-- the first that passes, where none ahead of it does
+find_here : {X : Type 0} (p : X → Bool) (xs : List X) (i : ℕ) (d : X) → i < length xs → AllWithin (λ x. p x ≡ false) xs 0 i → p (get_or xs i d) ≡ true → find p xs ≡ Some (get_or xs i d)
+find_here p [] i d low ahead here = absurd (omega (arith, low))
+find_here p (x ∷ xs) zero d low ahead here = cond-true _ _ _ here
+find_here p (x ∷ xs) (suc i) d low ahead here =
+    cond-false _ _ _ (ahead 0 d (omega arith) (omega arith)) ∙ find_here p xs i d (omega (arith, low)) (λ k e from to. ahead (suc k) e (omega arith) (omega (arith, to))) here
 
-other_at : (name : List ℕ) (ms : List Member) (k : ℕ) (d : Member) → AllByRecursion (λ other. name ≢ other) (map name_of ms) → k < length ms → name ≢ name_of (get_or ms k d)
-other_at name [] k d all h = absurd (omega (arith, h))
-other_at name (m ∷ ms) zero d all h = all.0
-other_at name (m ∷ ms) (suc k) d all h = other_at name ms k d all.1 (omega (arith, h))
+module _ {X : Type 0} (key : X → List ℕ) (name : List ℕ) where
+  abbrev pub is_before : X → Bool
+  is_before x = is_lt (slice_cmp nat_cmp (key x) name)
 
-pub value_at : (ms : List Member) (name : List ℕ) (k : ℕ) (d : Member) → AreDistinct (map name_of ms) → k < length ms → name_of (get_or ms k d) ≡ name → value_named ms name ≡ Some (get_or ms k d).value
-value_at [] name k d once h e = absurd (omega (arith, h))
-value_at (m ∷ ms) name zero d once h e = rw (e, same_name name) refl
-value_at (m ∷ ms) name (suc k) d once h e =
-    let less : k < length ms = omega (arith, h) in
-    rw (other_name m.name name (λ q. other_at m.name ms k d once.0 less (q ∙ sym e))) (value_at ms name k d once.1 less e)
+  abbrev is_named : X → Bool
+  is_named x = bytes_eq (key x) name
 
-pub no_value : (ms : List Member) (name : List ℕ) → All (λ m. name_of m ≢ name) ms → value_named ms name ≡ None
-no_value [] name h = refl
-no_value (m ∷ ms) name h = rw (other_name m.name name (h 0 m (omega arith))) (no_value ms name (λ k d less. h (suc k) d (omega (arith, less))))
+  before_other : (x : X) → is_before x ≡ true → is_named x ≡ false
+  before_other x low = other_name (key x) name (λ same. let is_not : is_before x ≡ false = ap (λ (k : List ℕ). is_lt (slice_cmp nat_cmp k name)) same ∙ ap is_lt (tied_itself nat_list_cmp_total name) in absurd (cc (low, is_not)))
 
--- ---- marks on members
+  module _ (xs : List X) (sorted : IsSortedByKey key (slice_cmp nat_cmp) xs) where
+    far : (i j : ℕ) (d : X) → i ≤ j → j < length xs → is_lt (slice_cmp nat_cmp (key (get_or xs j d)) (key (get_or xs i d))) ≡ false
+    far = sorted_far (λ x y. is_lt (slice_cmp nat_cmp (key x) (key y))) (ranks_by nat_list_cmp_total key) xs sorted
 
-pub unmarked : (ms : List Member) → are_declared [] ms ≡ replicate (length ms) false
-unmarked [] = refl
-unmarked (m ∷ ms) = ap (λ (bs : List Bool). false ∷ bs) (unmarked ms)
+    -- what a search by halves asks
+    pub halved : IsPartitionedBy is_before xs
+    halved i j d from low before = elim (cases_Bool (is_before (get_or xs i d))) [
+      | inl is ↦ is
+      | inr behind ↦
+          let is_not : is_before (get_or xs j d) ≡ false = (ranks_by nat_list_cmp_total (λ (k : List ℕ). k)).chain (key (get_or xs j d)) (key (get_or xs i d)) name (far i j d from low) behind in
+          absurd (cc (before, is_not))
+    ]
 
--- a field that no member names adds no mark
-pub marks_stay : (f : Field) (fs : List Field) (ms : List Member) → All (λ m. name_of m ≢ f.name) ms → are_declared (f ∷ fs) ms ≡ are_declared fs ms
-marks_stay f fs [] h = refl
-marks_stay f fs (m ∷ ms) h =
-    let other : bytes_eq f.name m.name ≡ false = other_name f.name m.name (λ q. h 0 m (omega arith) (sym q)) in
-    ap₂ (λ (b : Bool) (bs : List Bool). b ∷ bs) (rw other refl) (marks_stay f fs ms (λ k d less. h (suc k) d (omega (arith, less))))
+    module _ (i : ℕ) (at : IsPartitionPoint (λ x. is_before x ≡ true) (λ x. is_before x ≡ false) xs i) where
+      -- the first of the name stands where the search ends
+      pub first_here : (d : X) → i < length xs → key (get_or xs i d) ≡ name → first_by key xs name ≡ Some (get_or xs i d)
+      first_here d low same =
+          find_here is_named xs i d low (λ k e from to. before_other (get_or xs k e) (at.0 k e from to)) ((bytes_eq-Decides (key (get_or xs i d)) name).1 same)
 
--- a field adds a mark on the member of its name
-pub mark_more : (f : Field) (fs : List Field) (ms : List Member) (k : ℕ) → AreDistinct (map name_of ms) → IsNamedAt ms f.name k → are_declared (f ∷ fs) ms ≡ set (are_declared fs ms) k true
-mark_more f fs [] k once h = absurd (omega (arith, h.0))
-mark_more f fs (m ∷ ms) zero once h =
-    let named : m.name ≡ f.name = h.1 m in
-    ap₂ (λ (b : Bool) (bs : List Bool). b ∷ bs) (rw (named, same_name f.name) refl) (marks_stay f fs ms (λ k d less q. other_at m.name ms k d once.0 less (named ∙ sym q)))
-mark_more f fs (m ∷ ms) (suc k) once h =
-    let less : k < length ms = omega (arith, h.0) in
-    let other : bytes_eq f.name m.name ≡ false = other_name f.name m.name (λ q. other_at m.name ms k m once.0 less (sym q ∙ sym (h.1 m))) in
-    ap₂ (λ (b : Bool) (bs : List Bool). b ∷ bs) (rw other refl) (mark_more f fs ms k once.1 (less, λ d. h.1 d))
+      none_behind : ((d : X) → i < length xs → key (get_or xs i d) ≢ name) → (k : ℕ) (d : X) → i ≤ k → k < length xs → key (get_or xs k d) ≢ name
+      none_behind other k d from low same =
+          let here : i < length xs = omega arith in
+          let high : is_lt (slice_cmp nat_cmp name (key (get_or xs i d))) ≡ false = ap (λ (n : List ℕ). is_lt (slice_cmp nat_cmp n (key (get_or xs i d)))) (sym same) ∙ far i k d from low in
+          let turned = ap is_lt (sym (nat_list_cmp_total.antisymm name (key (get_or xs i d)))) ∙ high in
+          other d here (same_unless (key (get_or xs i d)) name (slice_cmp nat_cmp (key (get_or xs i d)) name) refl (at.1 i d (omega arith) here) turned)
 
--- the fields from the one before a place on
-pub fields_before : (fs : List Field) (i : ℕ) (d : Field) → 0 < i → i ≤ length fs → drop (i - 1) fs ≡ get_or fs (i - 1) d ∷ drop i fs
-fields_before fs i d some within =
-    let next : i - 1 + 1 ≡ i = omega arith in
-    drop_more fs (i - 1) d (omega arith) ∙ ap (λ (n : ℕ). get_or fs (i - 1) d ∷ drop n fs) next
+      -- nothing has the name, where what stands there has another
+      pub none_here : ((d : X) → i < length xs → key (get_or xs i d) ≢ name) → first_by key xs name ≡ None
+      none_here other = find_none is_named xs (λ k d low.
+          ⊎_elim (λ ahead. before_other (get_or xs k d) (at.0 k d (omega arith) ahead))
+          (λ behind. other_name (key (get_or xs k d)) name (none_behind other k d behind low)) (cases_lt k i))
 
-skips : (fs : List Field) (ms : List Member) (k : ℕ) (d : Bool) → k < length ms → get_or (are_declared fs ms) k d ≡ true → denied_name true fs (drop k ms) ≡ denied_name true fs (drop (suc k) ms)
-skips fs [] k d less h = absurd (omega (arith, less))
-skips fs (m ∷ ms) zero d less h = rw h refl
-skips fs (m ∷ ms) (suc k) d less h = skips fs ms k d (omega (arith, less)) h
+-- ---- the same among references
 
--- a member with a mark is not denied
-pub denied_skips : (deny : Bool) (fs : List Field) (ms : List Member) (i : ℕ) (d : Bool) → 0 < i → i ≤ length ms → get_or (are_declared fs ms) (i - 1) d ≡ true
-    → denied_name deny fs (drop i ms) ≡ denied_name deny fs (drop (i - 1) ms)
-denied_skips false fs ms i d some within h = refl
-denied_skips true fs ms i d some within h =
-    let next : i ≡ suc (i - 1) = omega arith in
-    ap (λ (n : ℕ). denied_name true fs (drop n ms)) next ∙ sym (skips fs ms (i - 1) d (omega arith) h)
+module _ {X Y : Type 0} (f : Y → X) where
+  pub taken_behind : (ys : List Y) (xs : List X) → map f ys ≡ xs → (i : ℕ) (y : Y) → i < length ys → y ≡ get_or ys i y → (i < length xs) × (f y ≡ get_or xs i (f y))
+  taken_behind ys xs same i y low is =
+      let n : length xs ≡ length ys = ap length (sym same) ∙ length-map ys f in
+      (omega (arith, low, n), ap f is ∙ sym (get_or-map f ys i y) ∙ ap (λ (some : List X). get_or some i (f y)) same)
+
+module _ {X Y : Type 0} (f : Y → X) (key : X → List ℕ) where
+  pub sorted_behind : (ys : List Y) → IsSortedByKey key (slice_cmp nat_cmp) (map f ys) → IsSortedByKey (λ y. key (f y)) (slice_cmp nat_cmp) ys
+  sorted_behind ys sorted k d from low =
+      let n : length (map f ys) ≡ length ys = length-map ys f in
+      ap₂ (λ (x y : X). is_lt (slice_cmp nat_cmp (key x) (key y))) (sym (get_or-map f ys (k + 1) d)) (sym (get_or-map f ys k d)) ∙ sorted k (f d) from (omega (arith, low, n))
+
+  pub first_behind : (ys : List Y) (name : List ℕ) → first_by key (map f ys) name ≡ option_map f (first_by (λ y. key (f y)) ys name)
+  first_behind [] name = refl
+  first_behind (y ∷ ys) name = by (bytes_eq (key (f y)) name) (first_behind ys name)
+    where
+      by : (b : Bool) → first_by key (map f ys) name ≡ option_map f (first_by (λ y. key (f y)) ys name)
+          → cond b (Some (f y)) (first_by key (map f ys) name) ≡ option_map f (cond b (Some y) (first_by (λ y. key (f y)) ys name))
+      by true e = refl
+      by false e = e

@@ -16,9 +16,9 @@ use Rattle.typed_values.specs.declared.search.Path.TheViews.{roll-Path}
 use Rattle.typed_values.specs.declared.search.Sought.{Sought}
 use Rattle.typed_values.specs.declared.search.Sought.TheVariants.{Name, Null}
 use Rattle.typed_values.specs.Definitions.{definition}
-use Rattle.typed_values.specs.Checks.{TakesNull, an_option, a_reference, an_alternative}
+use Rattle.typed_values.specs.Checks.{TakesNull, any_value, null_itself, an_option, a_reference, an_alternative}
 use Rattle.typed_values.specs.Guarded.{Names, named_here, named_in_option, named_in_alternative, Reaches, at_once, through}
-use Rattle.typed_values.specs.Search.{HoldsOption, held_here, held_in_alternative, Meets, Leads, it_meets, it_names, all_met, with_met, on_path, with_path, IsMet, IsDone, IsNext, IsSearch, SomeLeads}
+use Rattle.typed_values.specs.Search.{HoldsNull, any_held, null_held, held_here, held_in_alternative, Meets, Leads, it_meets, it_names, all_met, with_met, on_path, with_path, IsMet, IsDone, IsNext, IsSearch, SomeLeads}
 use Rattle.typed_values.proofs.Found.{contains_first, contains_later, contains_cases, eq_false, entry_found}
 
 -- the measure: the definitions of a table that are not met
@@ -202,9 +202,11 @@ module _ (table : List Definition) (name : Bor (List ℕ)) where
   pub leads_back : (d : Desc) → Leads table (Name name) d ↔ Reaches table name.now d
   leads_back d = (to_reaches, from_reaches)
 
--- what leads to an option takes null
+-- what leads to what takes null at once takes null
 module _ (table : List Definition) where
-  held_takes : {d : Desc} → HoldsOption d → TakesNull table d
+  held_takes : {d : Desc} → HoldsNull d → TakesNull table d
+  held_takes (any_held e) = any_value e
+  held_takes (null_held e) = null_itself e
   held_takes (held_here x e) = an_option x e
   held_takes (held_in_alternative ds x e c h) = an_alternative ds x e c (held_takes h)
 
@@ -222,6 +224,8 @@ module _ (table : List Definition) where
   through_alternative ds x e c (it_names name y n f r) = it_names name y (named_in_alternative ds x e c n) f r
 
   from_takes : {d : Desc} → TakesNull table d → Leads table Null d
+  from_takes (any_value e) = it_meets (any_held e)
+  from_takes (null_itself e) = it_meets (null_held e)
   from_takes (an_option x e) = it_meets (held_here x e)
   from_takes (a_reference name y e f t) = it_names name y (named_here e) f (from_takes t)
   from_takes (an_alternative ds x e c t) = through_alternative ds x e c (from_takes t)

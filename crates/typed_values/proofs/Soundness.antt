@@ -12,6 +12,7 @@ use Rattle.typed_values.specs.Guarded.{named_here, Reaches, at_once, through}
 use Rattle.typed_values.specs.Parts.{the_whole, in_option, in_alternative, IsPart, of_whole, of_table}
 use Rattle.typed_values.specs.Sound.{EachRests, RestsBy, Rests, IsSound}
 use Rattle.typed_values.specs.Checks.{IsPlainlyRight, TablePasses, DescPasses}
+use Rattle.typed_values.specs.Levels.{DescLevel}
 use Rattle.typed_values.proofs.Found.{contains_first, contains_later, contains_cases, other_name, same_or_not, entry_found, definition_found}
 use Rattle.typed_values.proofs.Tops.{top, tops, top_at, top_positive, top_fits, tops_fit, other_tops_fit, map_sum, through_option, through_alternative, stands_inside}
 
@@ -111,13 +112,21 @@ module _ (table : List Definition) (whole : Desc) (passes : TablePasses table) (
       ]
 
   rests_by : (n : ℕ) → Budget n → (left : List Definition) (d : Desc) → IsPart table whole d → top d + tops left ≤ suc n → AreLeft table left d
-      → (z : Desc-F Desc Field) → out-Desc d ≡ z → RestsBy table (Rests table n) z
+      → (z : DescLevel) → out-Desc d ≡ z → RestsBy table (Rests table n) z
   unfolding Budget
+  rests_by n budget left d part le inv Desc-F.Any e = tt
+  rests_by n budget left d part le inv Desc-F.Never e = tt
+  rests_by n budget left d part le inv Desc-F.Null e = tt
   rests_by n budget left d part le inv Desc-F.Bool e = tt
+  rests_by n budget left d part le inv Desc-F.Char e = tt
   rests_by n budget left d part le inv (Desc-F.Int kind min max) e = tt
   rests_by n budget left d part le inv (Desc-F.Text min max format) e = tt
+  rests_by n budget left d part le inv (Desc-F.Enumeration ns) e = tt
   rests_by n budget left d part le inv (Desc-F.List x min max) e = tt
+  rests_by n budget left d part le inv (Desc-F.Map x) e = tt
   rests_by n budget left d part le inv (Desc-F.Struct fs deny) e = tt
+  rests_by n budget left d part le inv (Desc-F.External vs) e = tt
+  rests_by n budget left d part le inv (Desc-F.Tagged tag vs) e = tt
   rests_by n budget left d part le inv (Desc-F.Option x) e =
       budget left x (option_part table whole d x e part) (omega (arith, le, top_at d _ e)) (go_on table left d x (through_option table x e) inv)
   rests_by n budget left d part le inv (Desc-F.Untagged ds) e =

@@ -4,16 +4,13 @@ use Rattle.std.specs.declared.result.Result.{Result}
 use Rattle.std.specs.declared.result.Result.TheVariants.{Ok, Err}
 use Rattle.typed_values.specs.declared.desc.Desc.{Desc}
 use Rattle.typed_values.specs.declared.tree.Tree.{Tree, Some as Just}
-use Rattle.typed_values.specs.Denotes.{Told, below, just, and_rest, and_then, as_tree, or_else, first_told}
+use Rattle.typed_values.specs.Denotes.{Told, below, just, and_rest, and_then, as_tree, pair, as_pair, or_else, first_told}
 use Rattle.typed_values.specs.Faults.{Trouble}
 use Rattle.typed_values.specs.Fits.{alternative_at}
 
 module _ (Exact : Type 0) where
-  abbrev pub Gives : Told → Tree → Type 0
-  Gives told tree = (read : Tree) × (told ≡ Ok read) × (Exact → read ≡ tree)
-
-  abbrev pub GivesAll : Result (List Tree) Trouble → List Tree → Type 0
-  GivesAll told trees = (read : List Tree) × (told ≡ Ok read) × (Exact → read ≡ trees)
+  abbrev pub Gives : {T : Type 0} → Result T Trouble → T → Type 0
+  Gives {T} told tree = (read : T) × (told ≡ Ok read) × (Exact → read ≡ tree)
 
   pub gives_below : (place : _) (told : Told) (tree : Tree) → Gives told tree → Gives (below place told) tree
   gives_below place told tree (read, is, same) = (read, ap (below place) is, same)
@@ -21,11 +18,14 @@ module _ (Exact : Type 0) where
   pub gives_just : (told : Told) (tree : Tree) → Gives told tree → Gives (just told) (Just tree)
   gives_just told tree (read, is, same) = (Just read, ap just is, λ h. ap Just (same h))
 
-  pub gives_then : (told : Told) (rest : Result (List Tree) Trouble) (tree : Tree) (trees : List Tree) → Gives told tree → GivesAll rest trees → GivesAll (and_then told rest) (tree ∷ trees)
-  gives_then told rest tree trees (read, is, same) (others, are, alike) =
-      (read ∷ others, ap (λ (o : Told). and_then o rest) is ∙ ap (and_rest read) are, λ h. ap (λ (t : Tree). t ∷ others) (same h) ∙ ap (λ (ts : List Tree). tree ∷ ts) (alike h))
+  pub gives_pair : (key : List ℕ) (told : Told) (tree : Tree) → Gives told tree → Gives (as_pair key told) (pair key tree)
+  gives_pair key told tree (read, is, same) = (pair key read, ap (as_pair key) is, λ h. ap (pair key) (same h))
 
-  pub gives_tree : (node : List Tree → Tree) (told : Result (List Tree) Trouble) (trees : List Tree) → GivesAll told trees → Gives (as_tree node told) (node trees)
+  pub gives_then : {T : Type 0} (told : Result T Trouble) (rest : Result (List T) Trouble) (tree : T) (trees : List T) → Gives told tree → Gives rest trees → Gives (and_then told rest) (tree ∷ trees)
+  gives_then {T} told rest tree trees (read, is, same) (others, are, alike) =
+      (read ∷ others, ap (λ (o : Result T Trouble). and_then o rest) is ∙ ap (and_rest read) are, λ h. ap (λ (t : T). t ∷ others) (same h) ∙ ap (λ (ts : List T). tree ∷ ts) (alike h))
+
+  pub gives_tree : {T : Type 0} (node : List T → Tree) (told : Result (List T) Trouble) (trees : List T) → Gives told trees → Gives (as_tree node told) (node trees)
   gives_tree node told trees (read, is, same) = (node read, ap (as_tree node) is, λ h. ap node (same h))
 
 -- where an alternative tells a tree, a choice does: that of the first that tells any

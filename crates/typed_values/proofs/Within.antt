@@ -1,32 +1,47 @@
 -- What stands in a descriptor: itself, and what stands in those that it is made of.
-use Rattle.std.proofs.Common.{◌≡◌, ◌↔◌, Bool, true, false, IsTrue, sym, ◌∙◌, ap, subst, refl, ◌⊎◌, inl, inr}
+use Rattle.std.proofs.Common.{◌≡◌, ◌↔◌, Some, Bool, true, false, IsTrue, sym, ◌∙◌, ap, subst, refl, ◌⊎◌, inl, inr}
 use Rattle.std.specs.Prelude.{Contains}
 use Rattle.typed_values.specs.declared.desc.Desc.TheVariants as desc
 use Rattle.typed_values.specs.declared.desc.Desc.TheViews.{roll-out-Desc, roll-Desc}
 use Rattle.typed_values.specs.declared.desc.Desc.{Desc, out-Desc}
 use Rattle.typed_values.specs.declared.desc.Desc.TheOpen.{Desc-F}
 use Rattle.typed_values.specs.declared.desc.Field.{Field}
-use Rattle.typed_values.specs.Parts.{StandsIn, the_whole, in_option, in_list, in_field, in_alternative}
+use Rattle.typed_values.specs.declared.desc.TaggedVariant.{TaggedVariant}
+use Rattle.typed_values.specs.declared.desc.Variant.{Variant}
+use Rattle.typed_values.specs.Definitions.{tagged_fields}
+use Rattle.typed_values.specs.Parts.{StandsIn, the_whole, in_option, in_list, in_map, in_field, in_payload, in_variant, in_alternative}
 use Rattle.typed_values.specs.Causes.{SomePart}
+use Rattle.typed_values.specs.Levels.{DescLevel}
 
 pub untrue : {P : Type 0} {b : Bool} → IsTrue b ↔ P → b ≡ false → P → ⊥
 untrue i e p = let q : false ≡ true = sym e ∙ i.1 p in cc q
 
 -- a fact holds of one of those that a level is made of
-abbrev pub SomeChild : (Desc → Type 0) → Desc-F Desc Field → Type 0
+abbrev pub SomeChild : (Desc → Type 0) → DescLevel → Type 0
 SomeChild Q (Desc-F.Option x) = Q x
 SomeChild Q (Desc-F.List x min max) = Q x
+SomeChild Q (Desc-F.Map x) = Q x
 SomeChild Q (Desc-F.Struct fs deny) = (f : Field) × Contains fs f × Q f.desc
+SomeChild Q (Desc-F.External vs) = (v : Variant) × (x : Desc) × Contains vs v × (v.payload ≡ Some x) × Q x
+SomeChild Q (Desc-F.Tagged tag vs) = (v : TaggedVariant) × (f : Field) × Contains vs v × Contains (tagged_fields v) f × Q f.desc
 SomeChild Q (Desc-F.Untagged ds) = (d : Desc) × Contains ds d × Q d
 SomeChild Q _ = ⊥
 
-child_map : (Q R : Desc → Type 0) → ((x : Desc) → Q x → R x) → (z : Desc-F Desc Field) → SomeChild Q z → SomeChild R z
+child_map : (Q R : Desc → Type 0) → ((x : Desc) → Q x → R x) → (z : DescLevel) → SomeChild Q z → SomeChild R z
+child_map Q R f Desc-F.Any c = c
+child_map Q R f Desc-F.Never c = c
+child_map Q R f Desc-F.Null c = c
 child_map Q R f Desc-F.Bool c = c
+child_map Q R f Desc-F.Char c = c
 child_map Q R f (Desc-F.Int kind min max) c = c
 child_map Q R f (Desc-F.Text min max format) c = c
+child_map Q R f (Desc-F.Enumeration ns) c = c
 child_map Q R f (Desc-F.Option x) c = f x c
 child_map Q R f (Desc-F.List x min max) c = f x c
+child_map Q R f (Desc-F.Map x) c = f x c
 child_map Q R f (Desc-F.Struct fs deny) c = (c.0, c.1, f c.0.desc c.2)
+child_map Q R f (Desc-F.External vs) c = (c.0, c.1, c.2, c.3, f c.1 c.4)
+child_map Q R f (Desc-F.Tagged tag vs) c = (c.0, c.1, c.2, c.3, f c.1.desc c.4)
 child_map Q R f (Desc-F.Untagged ds) c = (c.0, c.1, f c.0 c.2)
 child_map Q R f (Desc-F.Ref name) c = c
 
@@ -34,14 +49,17 @@ stands_through : {a b c : Desc} → StandsIn a b → StandsIn b c → StandsIn a
 stands_through s the_whole = s
 stands_through s (in_option x t e) = in_option x (stands_through s t) e
 stands_through s (in_list x min max t e) = in_list x min max (stands_through s t) e
+stands_through s (in_map x t e) = in_map x (stands_through s t) e
 stands_through s (in_field fs deny f t e c) = in_field fs deny f (stands_through s t) e c
+stands_through s (in_payload vs v x t e c p) = in_payload vs v x (stands_through s t) e c p
+stands_through s (in_variant tag vs v f t e c k) = in_variant tag vs v f (stands_through s t) e c k
 stands_through s (in_alternative ds x t e c) = in_alternative ds x (stands_through s t) e c
 
 -- the first step on the way
 Step : Desc → Desc → Type 0
 Step whole d = (whole ≡ d) ⊎ SomeChild (λ x. StandsIn x d) (out-Desc whole)
 
-one_step : (whole p d : Desc) → ((x : Desc) → StandsIn x p → StandsIn x d) → ((z : Desc-F Desc Field) → out-Desc p ≡ z → SomeChild (λ x. StandsIn x d) z) → Step whole p → Step whole d
+one_step : (whole p d : Desc) → ((x : Desc) → StandsIn x p → StandsIn x d) → ((z : DescLevel) → out-Desc p ≡ z → SomeChild (λ x. StandsIn x d) z) → Step whole p → Step whole d
 unfolding Step
 one_step whole p d further here (inl q) = inr (here (out-Desc whole) (ap out-Desc (sym q)))
 one_step whole p d further here (inr c) = inr (child_map (λ x. StandsIn x p) (λ x. StandsIn x d) further (out-Desc whole) c)
@@ -53,22 +71,46 @@ first_step whole d (in_option {d = p} x s e) =
     one_step whole p x (λ y t. in_option x t e) (λ z q. subst (SomeChild (λ y. StandsIn y x)) (sym e ∙ q) the_whole) (first_step whole p s)
 first_step whole d (in_list {d = p} x min max s e) =
     one_step whole p x (λ y t. in_list x min max t e) (λ z q. subst (SomeChild (λ y. StandsIn y x)) (sym e ∙ q) the_whole) (first_step whole p s)
+first_step whole d (in_map {d = p} x s e) =
+    one_step whole p x (λ y t. in_map x t e) (λ z q. subst (SomeChild (λ y. StandsIn y x)) (sym e ∙ q) the_whole) (first_step whole p s)
 first_step whole d (in_field {d = p} fs deny f s e c) =
     one_step whole p f.desc (λ y t. in_field fs deny f t e c) (λ z q. subst (SomeChild (λ y. StandsIn y f.desc)) (sym e ∙ q) (f, c, the_whole)) (first_step whole p s)
+first_step whole d (in_payload {d = p} vs v x s e c q) =
+    one_step whole p x (λ y t. in_payload vs v x t e c q) (λ z h. subst (SomeChild (λ y. StandsIn y x)) (sym e ∙ h) (v, x, c, q, the_whole)) (first_step whole p s)
+first_step whole d (in_variant {d = p} tag vs v f s e c k) =
+    one_step whole p f.desc (λ y t. in_variant tag vs v f t e c k) (λ z q. subst (SomeChild (λ y. StandsIn y f.desc)) (sym e ∙ q) (v, f, c, k, the_whole)) (first_step whole p s)
 first_step whole d (in_alternative {d = p} ds x s e c) =
     one_step whole p x (λ y t. in_alternative ds x t e c) (λ z q. subst (SomeChild (λ y. StandsIn y x)) (sym e ∙ q) (x, c, the_whole)) (first_step whole p s)
+
+-- it is none of the forms that are made of others
+pub record IsAlone (d : Desc) : Type 0 where
+  pub no_option : (x : _) → d ≡ desc.Option x → ⊥
+  pub no_list : (x min max : _) → d ≡ desc.List x min max → ⊥
+  pub no_map : (x : _) → d ≡ desc.Map x → ⊥
+  pub no_struct : (fs deny : _) → d ≡ desc.Struct fs deny → ⊥
+  pub no_external : (vs : _) → d ≡ desc.External vs → ⊥
+  pub no_tagged : (tag vs : _) → d ≡ desc.Tagged tag vs → ⊥
+  pub no_untagged : (ds : _) → d ≡ desc.Untagged ds → ⊥
 
 module _ (P : Desc → Type 0) (d : Desc) where
   pub part_here : P d → SomePart P d
   part_here p = (d, the_whole, p)
 
-  part_above : (z : Desc-F Desc Field) → out-Desc d ≡ z → SomeChild (SomePart P) z → SomePart P d
+  part_above : (z : DescLevel) → out-Desc d ≡ z → SomeChild (SomePart P) z → SomePart P d
+  part_above Desc-F.Any e c = absurd c
+  part_above Desc-F.Never e c = absurd c
+  part_above Desc-F.Null e c = absurd c
   part_above Desc-F.Bool e c = absurd c
+  part_above Desc-F.Char e c = absurd c
   part_above (Desc-F.Int kind min max) e c = absurd c
   part_above (Desc-F.Text min max format) e c = absurd c
+  part_above (Desc-F.Enumeration ns) e c = absurd c
   part_above (Desc-F.Option x) e c = (c.0, stands_through (in_option x the_whole e) c.1, c.2)
   part_above (Desc-F.List x min max) e c = (c.0, stands_through (in_list x min max the_whole e) c.1, c.2)
+  part_above (Desc-F.Map x) e c = (c.0, stands_through (in_map x the_whole e) c.1, c.2)
   part_above (Desc-F.Struct fs deny) e c = (c.2.0, stands_through (in_field fs deny c.0 the_whole e c.1) c.2.1, c.2.2)
+  part_above (Desc-F.External vs) e c = (c.4.0, stands_through (in_payload vs c.0 c.1 the_whole e c.2 c.3) c.4.1, c.4.2)
+  part_above (Desc-F.Tagged tag vs) e c = (c.4.0, stands_through (in_variant tag vs c.0 c.1 the_whole e c.2 c.3) c.4.1, c.4.2)
   part_above (Desc-F.Untagged ds) e c = (c.2.0, stands_through (in_alternative ds c.0 the_whole e c.1) c.2.1, c.2.2)
   part_above (Desc-F.Ref name) e c = absurd c
 
@@ -80,22 +122,29 @@ module _ (P : Desc → Type 0) (d : Desc) where
   part_below : (P d → ⊥) → SomePart P d → SomeChild (SomePart P) (out-Desc d)
   part_below never h = part_below_by h.0 h.2 never (first_step d h.0 h.1)
 
-  pub parts_at : (z : Desc-F Desc Field) → out-Desc d ≡ z → (P d → ⊥) → SomePart P d ↔ SomeChild (SomePart P) z
+  pub parts_at : (z : DescLevel) → out-Desc d ≡ z → (P d → ⊥) → SomePart P d ↔ SomeChild (SomePart P) z
   parts_at z e never = (λ h. subst (SomeChild (SomePart P)) e (part_below never h), part_above z e)
 
-  rolled : (z : Desc-F Desc Field) → out-Desc d ≡ z → d ≡ roll-Desc z
+  rolled : (z : DescLevel) → out-Desc d ≡ z → d ≡ roll-Desc z
   rolled z e = sym (roll-out-Desc d) ∙ ap roll-Desc e
 
-  no_child : ((x : _) → d ≡ desc.Option x → ⊥) → ((x min max : _) → d ≡ desc.List x min max → ⊥) → ((fs deny : _) → d ≡ desc.Struct fs deny → ⊥) → ((ds : _) → d ≡ desc.Untagged ds → ⊥)
-      → (z : Desc-F Desc Field) → out-Desc d ≡ z → SomeChild (SomePart P) z → ⊥
-  no_child o l s u Desc-F.Bool e c = c
-  no_child o l s u (Desc-F.Int kind min max) e c = c
-  no_child o l s u (Desc-F.Text min max format) e c = c
-  no_child o l s u (Desc-F.Option x) e c = o x (rolled (Desc-F.Option x) e ∙ desc.rolls-Option x)
-  no_child o l s u (Desc-F.List x min max) e c = l x min max (rolled (Desc-F.List x min max) e ∙ desc.rolls-List x min max)
-  no_child o l s u (Desc-F.Struct fs deny) e c = s fs deny (rolled (Desc-F.Struct fs deny) e ∙ desc.rolls-Struct fs deny)
-  no_child o l s u (Desc-F.Untagged ds) e c = u ds (rolled (Desc-F.Untagged ds) e ∙ desc.rolls-Untagged ds)
-  no_child o l s u (Desc-F.Ref name) e c = c
+  no_child : IsAlone d → (z : DescLevel) → out-Desc d ≡ z → SomeChild (SomePart P) z → ⊥
+  no_child a Desc-F.Any e c = c
+  no_child a Desc-F.Never e c = c
+  no_child a Desc-F.Null e c = c
+  no_child a Desc-F.Bool e c = c
+  no_child a Desc-F.Char e c = c
+  no_child a (Desc-F.Int kind min max) e c = c
+  no_child a (Desc-F.Text min max format) e c = c
+  no_child a (Desc-F.Enumeration ns) e c = c
+  no_child a (Desc-F.Option x) e c = a.no_option x (rolled (Desc-F.Option x) e ∙ desc.rolls-Option x)
+  no_child a (Desc-F.List x min max) e c = a.no_list x min max (rolled (Desc-F.List x min max) e ∙ desc.rolls-List x min max)
+  no_child a (Desc-F.Map x) e c = a.no_map x (rolled (Desc-F.Map x) e ∙ desc.rolls-Map x)
+  no_child a (Desc-F.Struct fs deny) e c = a.no_struct fs deny (rolled (Desc-F.Struct fs deny) e ∙ desc.rolls-Struct fs deny)
+  no_child a (Desc-F.External vs) e c = a.no_external vs (rolled (Desc-F.External vs) e ∙ desc.rolls-External vs)
+  no_child a (Desc-F.Tagged tag vs) e c = a.no_tagged tag vs (rolled (Desc-F.Tagged tag vs) e ∙ desc.rolls-Tagged tag vs)
+  no_child a (Desc-F.Untagged ds) e c = a.no_untagged ds (rolled (Desc-F.Untagged ds) e ∙ desc.rolls-Untagged ds)
+  no_child a (Desc-F.Ref name) e c = c
 
-  pub none_within : (P d → ⊥) → ((x : _) → d ≡ desc.Option x → ⊥) → ((x min max : _) → d ≡ desc.List x min max → ⊥) → ((fs deny : _) → d ≡ desc.Struct fs deny → ⊥) → ((ds : _) → d ≡ desc.Untagged ds → ⊥) → SomePart P d → ⊥
-  none_within never o l s u h = no_child o l s u (out-Desc d) refl (part_below never h)
+  pub none_within : (P d → ⊥) → IsAlone d → SomePart P d → ⊥
+  none_within never a h = no_child a (out-Desc d) refl (part_below never h)

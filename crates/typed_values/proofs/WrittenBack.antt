@@ -4,52 +4,62 @@ use Rattle.std.proofs.lemmas.Bool.{and_parts}
 use Rattle.std.proofs.lemmas.List.{length-map}
 use Rattle.std.proofs.Math.Bool.{or-true}
 use Rattle.std.specs.List.{AllByRecursion}
-use Rattle.std.specs.Prelude.{Contains}
+use Rattle.std.specs.Prelude.{Contains, slice_get}
 use Rattle.std.specs.declared.result.Result.TheVariants.{Ok}
-use Rattle.schema_values.specs.declared.json_value.Json.{Json, Null, out-Json, List as ItemsJson, Object}
+use Rattle.schema_values.specs.declared.json_value.Json.{Json, Null, Text as WordsJson, out-Json, List as ItemsJson, Object}
 use Rattle.schema_values.specs.declared.json_value.Json.TheOpen.{Json-F}
 use Rattle.schema_values.specs.declared.json_value.Json.TheVariants as json
 use Rattle.schema_values.specs.declared.json_value.Member.{Member}
 use Rattle.schema_values.specs.Sound.{AreDistinct, IsSound as IsSoundValue}
 use Rattle.schema_values.specs.SoundMembers.{HasSoundValue}
+use Rattle.schema_values.proofs.DistinctLemmas.{AreDistinct-sorted}
 use Rattle.schema_values.proofs.SoundLemmas.{IsSound-List, IsSound-Object}
-use Rattle.schema_values.specs.Member.{member}
-use Rattle.typed_values.specs.declared.desc.Desc.{Desc, out-Desc}
+use Rattle.schema_values.specs.Member.{member, name_of}
+use Rattle.typed_values.specs.declared.desc.Desc.{Desc, Null as NullDesc, out-Desc}
 use Rattle.typed_values.specs.declared.desc.Desc.TheOpen.{Desc-F}
 use Rattle.typed_values.specs.declared.desc.Field.{Field}
 use Rattle.typed_values.specs.declared.desc.Presence.{Presence}
 use Rattle.typed_values.specs.declared.desc.Presence.TheVariants.{Required, Nullable, Skipped}
+use Rattle.typed_values.specs.declared.desc.TaggedVariant.{TaggedVariant}
+use Rattle.typed_values.specs.declared.desc.Variant.{Variant}
 use Rattle.typed_values.specs.declared.fault.FaultKind.TheVariants.{BadLength}
 use Rattle.typed_values.specs.declared.table.Definition.{Definition}
-use Rattle.typed_values.specs.declared.tree.Tree.{Tree, None as Nothing, List as Items, Fields as Parts, out-Tree}
+use Rattle.typed_values.specs.declared.fault.Place.TheVariants.{Name}
+use Rattle.typed_values.specs.declared.tree.Pair.{Pair}
+use Rattle.typed_values.specs.declared.tree.Tree.{Tree, Unit as Nought, None as Nothing, List as Items, Map as Entries, Fields as Parts, Variant as Choice, out-Tree}
 use Rattle.typed_values.specs.declared.tree.Tree.TheOpen.{Tree-F}
 use Rattle.typed_values.specs.declared.tree.Tree.TheVariants as tree
 use Rattle.typed_values.specs.declared.tree.Tree.TheViews.{roll-Tree, roll-out-Tree}
 use Rattle.typed_values.specs.Bounds.{is_length_within}
-use Rattle.typed_values.specs.Checks.{TablePasses, DescPasses}
-use Rattle.typed_values.specs.Definitions.{definition, field_name}
-use Rattle.typed_values.specs.Denotes.{Told, told, room, below, just, all_told, as_tree, if_holds, optional, by_presence, unless_denied, denied_name, at_definition, first_told}
-use Rattle.typed_values.specs.Encoding.{unless, members_written, written_if_there, option_written, items_written, parts_written, choice_written, written_by, is_none_level, written_under, json_of_tree}
-use Rattle.typed_values.specs.Fits.{option_fits, each_fits, items_fit, field_desc, fields_fit, parts_fit, alternative_at, if_there, choice_fits, fits_by, fits_under, Fits}
+use Rattle.typed_values.specs.Checks.{names_of_fields, TablePasses, DescPasses}
+use Rattle.typed_values.specs.Definitions.{definition, field_name, tagged_name, tagged_fields}
+use Rattle.typed_values.specs.Denotes.{Told, told, room, below, just, all_told, as_tree, as_pair, member_name, if_holds, optional, by_presence, unless_denied, denied_name, chosen, external, tagged, at_definition, first_told}
+use Rattle.typed_values.specs.Encoding.{unless, members_written, written_if_there, option_written, items_written, pair_written, entries_written, parts_written, choice_written, at_place, variant_written, external_written, with_tag, tagged_written, written_by, is_none_level, written_under, json_of_tree}
+use Rattle.typed_values.specs.Fits.{option_fits, each_fits, items_fit, are_ascending, key_of, entries_fit, field_desc, fields_fit, parts_fit, alternative_at, if_there, choice_fits, payload_or_null, payload_of, struct_of, fits_by, fits_under, Fits}
+use Rattle.typed_values.specs.Levels.{DescLevel, TreeOf}
 use Rattle.typed_values.specs.Parts.{the_whole}
-use Rattle.typed_values.specs.Rows.{told_item, value_denotes, told_field, told_fields, list_row, struct_row, row}
+use Rattle.typed_values.specs.Rows.{told_item, told_entry, value_denotes, told_field, told_fields, list_row, map_row, struct_row, row}
 use Rattle.typed_values.specs.Sound.{RestsBy, Rests}
 use Rattle.typed_values.specs.Reached.{IsUntagged, ReachesNoUntagged}
 use Rattle.typed_values.proofs.Arms.{not_null}
+use Rattle.typed_values.proofs.AscendingKeys.{keys_sorted}
 use Rattle.typed_values.proofs.Denoted.{denied_is}
-use Rattle.typed_values.proofs.EncodeSteps.{is_none_tree, written_row, skipped_written}
+use Rattle.typed_values.proofs.EncodeRows.{tag_before}
+use Rattle.typed_values.proofs.EncodeSteps.{is_none_tree, written_row, skipped_written, struct_written}
 use Rattle.typed_values.proofs.FitRows.{skipped_desc}
-use Rattle.typed_values.proofs.FitSteps.{fits_row, skipped_row}
+use Rattle.typed_values.proofs.FitSteps.{fits_row, nought_row, skipped_row, struct_row as struct_fits_row}
 use Rattle.typed_values.proofs.Found.{contains_first, contains_later}
-use Rattle.typed_values.proofs.Needed.{IsNeeded, of_whole, of_reached, needed_part, option_needed, list_needed, field_needed, alternative_needed, definition_needed}
-use Rattle.typed_values.proofs.Rows.{row_at}
+use Rattle.typed_values.proofs.Needed.{IsNeeded, of_whole, of_reached, needed_part, option_needed, list_needed, map_needed, field_needed, payload_needed, variant_needed, alternative_needed, definition_needed}
+use Rattle.typed_values.proofs.Ordered.{Ascends, sorted_stays}
+use Rattle.typed_values.proofs.Rows.{two_maps, row_at}
 use Rattle.typed_values.proofs.Soundness.{is_right, passes_is_sound}
-use Rattle.typed_values.proofs.Fields.{fields_distinct}
+use Rattle.typed_values.proofs.Fields.{names_apart, fields_distinct, distinct_at}
 use Rattle.typed_values.proofs.NullTaken.{null_taken}
-use Rattle.typed_values.proofs.ScalarsBack.{ReadsBack, truth_back, number_back, words_back}
-use Rattle.typed_values.proofs.ToldTrees.{Gives, GivesAll, gives_below, gives_just, gives_then, gives_tree, first_tells}
-use Rattle.typed_values.proofs.TreeParts.{OfParts, by_parts}
-use Rattle.typed_values.proofs.WrittenMembers.{Beside, is_left, unless_left, distinct_written, written_declared, IsFound, all_found}
+use Rattle.typed_values.proofs.ScalarsBack.{ReadsBack, nought_is, whole_back, nought_back, truth_back, character_back, number_back, words_back, name_back}
+use Rattle.typed_values.proofs.ToldTrees.{Gives, gives_below, gives_just, gives_pair, gives_then, gives_tree, first_tells}
+use Rattle.typed_values.proofs.TreeParts.{OfParts, by_parts, parts_weaker}
+use Rattle.typed_values.proofs.VariantsBack.{at_place_inside, given_at, gives_chosen, PayloadBack, variant_back, tag_told}
+use Rattle.typed_values.proofs.WrittenMembers.{Beside, IsNew, is_left, new_name, unless_left, new_written, distinct_written, written_declared, IsFound, found_behind, all_found}
 
 no_name : (name : Option (List ℕ)) (told : Told) → is_none name ≡ true → unless_denied name told ≡ told
 no_name None told e = refl
@@ -79,6 +89,13 @@ module _ (table : List Definition) (whole : Desc) (passes : TablePasses table) (
   abbrev BackInside : Tree → Type 0
   BackInside t = Back t × OfParts Back (out-Tree t)
 
+  -- and what stands in that: the fields of a tagged variant stand one level below it
+  abbrev BackBelow : Tree → Type 0
+  BackBelow t = Back t × OfParts BackInside (out-Tree t)
+
+  inside_of : (t : Tree) → BackBelow t → BackInside t
+  inside_of t h = (h.0, parts_weaker {P = BackInside} {Q = Back} (λ s k. k.0) (out-Tree t) h.1)
+
   rests : (d : Desc) → IsNeeded table whole d → Rests table (room table whole) d
   rests d need = passes_is_sound table whole passes right d (needed_part table whole d need)
 
@@ -93,7 +110,7 @@ module _ (table : List Definition) (whole : Desc) (passes : TablePasses table) (
 
   -- ---- row by row
 
-  option_back : (d i : Desc) → IsNeeded table whole d → out-Desc d ≡ Desc-F.Option i → (x : Tree-F Tree) (t : Tree) → roll-Tree x ≡ t → OfParts BackInside x → option_fits (λ s. fits_under table whole s i) x ≡ true
+  option_back : (d i : Desc) → IsNeeded table whole d → out-Desc d ≡ Desc-F.Option i → (x : TreeOf Tree) (t : Tree) → roll-Tree x ≡ t → OfParts BackInside x → option_fits (λ s. fits_under table whole s i) x ≡ true
       → ReadsBack Exact (option_written (λ s. written s i) x) (optional (out-Json (option_written (λ s. written s i) x)) (told table whole (option_written (λ s. written s i) x) i)) t
   option_back d i need e Tree-F.None t is parts fit = (tt, (Nothing, ap (λ (z : Json-F Json Member). optional z (told table whole Null i)) json.outs-Null, λ h. sym tree.rolls-None ∙ is))
   option_back d i need e (Tree-F.Some s) t is parts fit =
@@ -111,14 +128,14 @@ module _ (table : List Definition) (whole : Desc) (passes : TablePasses table) (
       ((parts.0.0 i need first).0, items_sound i need ts parts.1 rest)
 
   items_told_back : (i : Desc) → IsNeeded table whole i → (ts : List Tree) → AllByRecursion BackInside ts → each_fits (λ s. fits_under table whole s i) ts ≡ true
-      → (k : ℕ) → GivesAll Exact (all_told (told_item table whole i) k (map (λ s. written s i) ts)) ts
+      → (k : ℕ) → Gives Exact (all_told (told_item table whole i) k (map (λ s. written s i) ts)) ts
   items_told_back i need [] parts fit k = ([], refl, λ h. refl)
   items_told_back i need (t ∷ ts) parts fit k =
       let (first, rest) = and_parts (fits_under table whole t i) (each_fits (λ s. fits_under table whole s i) ts) fit in
       gives_then Exact (told_item table whole i k (written t i)) (all_told (told_item table whole i) (k + 1) (map (λ s. written s i) ts)) t ts
       (gives_below Exact _ (told table whole (written t i) i) t (parts.0.0 i need first).1) (items_told_back i need ts parts.1 rest (k + 1))
 
-  items_back : (i : Desc) (min max : Option ℕ) → IsNeeded table whole i → (x : Tree-F Tree) (t : Tree) → roll-Tree x ≡ t → OfParts BackInside x → items_fit (λ s. fits_under table whole s i) min max x ≡ true
+  items_back : (i : Desc) (min max : Option ℕ) → IsNeeded table whole i → (x : TreeOf Tree) (t : Tree) → roll-Tree x ≡ t → OfParts BackInside x → items_fit (λ s. fits_under table whole s i) min max x ≡ true
       → ReadsBack Exact (items_written (λ s. written s i) x) (list_row table whole i min max (out-Json (items_written (λ s. written s i) x))) t
   items_back i min max need (Tree-F.List ts) t is parts fit =
       let js : List Json = map (λ s. written s i) ts in
@@ -133,6 +150,39 @@ module _ (table : List Definition) (whole : Desc) (passes : TablePasses table) (
       )
   items_back i min max need _ t is parts fit = absurd (cc fit)
 
+  entries_sound : (i : Desc) → IsNeeded table whole i → (ps : List Pair) → AllByRecursion (λ p. BackInside p.value) ps → each_fits (λ p. fits_under table whole p.value i) ps ≡ true → AllByRecursion HasSoundValue (map (pair_written (λ s. written s i)) ps)
+  entries_sound i need [] parts fit = tt
+  entries_sound i need (p ∷ ps) parts fit =
+      let (first, rest) = and_parts (fits_under table whole p.value i) (each_fits (λ p. fits_under table whole p.value i) ps) fit in
+      ((parts.0.0 i need first).0, entries_sound i need ps parts.1 rest)
+
+  entries_told_back : (i : Desc) → IsNeeded table whole i → (ps : List Pair) → AllByRecursion (λ p. BackInside p.value) ps → each_fits (λ p. fits_under table whole p.value i) ps ≡ true
+      → (k : ℕ) → Gives Exact (all_told (λ j m. told_entry table whole i m) k (map (pair_written (λ s. written s i)) ps)) ps
+  entries_told_back i need [] parts fit k = ([], refl, λ h. refl)
+  entries_told_back i need (p ∷ ps) parts fit k =
+      let (first, rest) = and_parts (fits_under table whole p.value i) (each_fits (λ p. fits_under table whole p.value i) ps) fit in
+      let o = told table whole (written p.value i) i in
+      gives_then Exact (as_pair p.key (below (Name p.key) o)) (all_told (λ j m. told_entry table whole i m) (k + 1) (map (pair_written (λ s. written s i)) ps)) p ps
+      (gives_pair Exact p.key (below (Name p.key) o) p.value (gives_below Exact (Name p.key) o p.value (parts.0.0 i need first).1)) (entries_told_back i need ps parts.1 rest (k + 1))
+
+  entries_back : (i : Desc) → IsNeeded table whole i → (x : TreeOf Tree) (t : Tree) → roll-Tree x ≡ t → OfParts BackInside x → entries_fit (λ s. fits_under table whole s i) x ≡ true
+      → ReadsBack Exact (entries_written (λ s. written s i) x) (map_row table whole i (out-Json (entries_written (λ s. written s i) x))) t
+  entries_back i need (Tree-F.Map ps) t is parts fit =
+      let ms : List Member = map (pair_written (λ s. written s i)) ps in
+      let (ascend, each) = and_parts (are_ascending (map key_of ps)) (each_fits (λ p. fits_under table whole p.value i) ps) fit in
+      let sorted : Ascends (map name_of ms) = subst Ascends (sym (two_maps name_of (pair_written (λ s. written s i)) key_of (λ p. refl) ps)) (keys_sorted (map key_of ps) ascend) in
+      let all_entries : map_row table whole i (out-Json (Object ms)) ≡ as_tree Entries (all_told (λ j m. told_entry table whole i m) 0 ms) =
+      ap (map_row table whole i) (json.outs-Object ms) ∙ ap (λ (ns : List Member). as_tree Entries (all_told (λ j m. told_entry table whole i m) 0 ns)) (sorted_stays member_name ms sorted) in (
+        (IsSound-Object ms).1 (entries_sound i need ps parts each, AreDistinct-sorted (map name_of ms) sorted),
+        subst (λ (o : Told). Gives Exact o t) (sym all_entries)
+            (subst (Gives Exact (as_tree Entries (all_told (λ j m. told_entry table whole i m) 0 ms))) (sym (tree.rolls-Map ps) ∙ is)
+            (gives_tree Exact Entries (all_told (λ j m. told_entry table whole i m) 0 ms) ps (entries_told_back i need ps parts each 0))),
+      )
+  entries_back i need _ t is parts fit = absurd (cc fit)
+
+  nought_only : (s : Tree) → fits_under table whole s NullDesc ≡ true → s ≡ Nought
+  nought_only s fit = nought_is (out-Tree s) s (roll-out-Tree s) (sym (nought_row table whole s) ∙ fit)
+
   -- a field's value, or its absence
   abbrev FieldBack : Field → Tree → Type 0
   FieldBack f x = ReadsBack Exact (written x (field_desc f)) (by_presence f (value_denotes table whole f.desc (unless_left (is_left f x) (written x (field_desc f))))) x
@@ -142,10 +192,10 @@ module _ (table : List Definition) (whole : Desc) (passes : TablePasses table) (
     plain_back : (place : _) (x : Tree) → BackInside x → fits_under table whole x f.desc ≡ true → ReadsBack Exact (written x f.desc) (below place (told table whole (written x f.desc) f.desc)) x
     plain_back place x known fit = let (sound, gives) = known.0 f.desc need fit in (sound, gives_below Exact place (told table whole (written x f.desc) f.desc) x gives)
 
-    abbrev skipped_json : Tree-F Tree → Json
+    abbrev skipped_json : TreeOf Tree → Json
     skipped_json z = option_written (λ s. written s f.desc) z
 
-    skipped_by : f.presence ≡ Skipped → (z : Tree-F Tree) (x : Tree) → roll-Tree z ≡ x → OfParts Back z → option_fits (λ s. fits_under table whole s f.desc) z ≡ true
+    skipped_by : f.presence ≡ Skipped → (z : TreeOf Tree) (x : Tree) → roll-Tree z ≡ x → OfParts Back z → option_fits (λ s. fits_under table whole s f.desc) z ≡ true
         → ReadsBack Exact (skipped_json z) (by_presence f (value_denotes table whole f.desc (unless_left (is_none_level z) (skipped_json z)))) x
     skipped_by q Tree-F.None x is parts fit = rw q (tt, (Nothing, refl, λ h. sym tree.rolls-None ∙ is))
     skipped_by q (Tree-F.Some s) x is parts fit =
@@ -182,7 +232,7 @@ module _ (table : List Definition) (whole : Desc) (passes : TablePasses table) (
   members_sound (f ∷ fs) [] back = tt
   members_sound (f ∷ fs) (x ∷ xs) back = sound_with (is_left f x) (member f.name (written x (field_desc f))) (members_written is_none_tree written fs xs) back.0.0 (members_sound fs xs back.1)
 
-  fields_told_back : (ms : List Member) (fs : List Field) (xs : List Tree) → Beside FieldBack fs xs → Beside (IsFound written ms) fs xs → (k : ℕ) → GivesAll Exact (all_told (λ i f. told_field table whole ms f) k fs) xs
+  fields_told_back : (ms : List Member) (fs : List Field) (xs : List Tree) → Beside FieldBack fs xs → Beside (IsFound written ms) fs xs → (k : ℕ) → Gives Exact (all_told (λ i f. told_field table whole ms f) k fs) xs
   fields_told_back ms [] [] back found k = ([], refl, λ h. refl)
   fields_told_back ms [] (x ∷ xs) back found k = absurd back
   fields_told_back ms (f ∷ fs) [] back found k = absurd back
@@ -190,7 +240,7 @@ module _ (table : List Definition) (whole : Desc) (passes : TablePasses table) (
       gives_then Exact (told_field table whole ms f) (all_told (λ i f. told_field table whole ms f) (k + 1) fs) x xs
       (subst (λ (o : Option Json). Gives Exact (by_presence f (value_denotes table whole f.desc o)) x) (sym found.0) back.0.1) (fields_told_back ms fs xs back.1 found.1 (k + 1))
 
-  parts_back : (fs : List Field) (deny : Bool) → AreDistinct (map field_name fs) → ((f : Field) → Contains fs f → IsNeeded table whole f.desc) → (x : Tree-F Tree) (t : Tree) → roll-Tree x ≡ t → OfParts BackInside x
+  parts_back : (fs : List Field) (deny : Bool) → AreDistinct (map field_name fs) → ((f : Field) → Contains fs f → IsNeeded table whole f.desc) → (x : TreeOf Tree) (t : Tree) → roll-Tree x ≡ t → OfParts BackInside x
       → parts_fit (fits_under table whole) fs x ≡ true → ReadsBack Exact (parts_written is_none_tree written fs x) (struct_row table whole fs deny (out-Json (parts_written is_none_tree written fs x))) t
   parts_back fs deny distinct need (Tree-F.Fields xs) t is parts fit =
       let ms : List Member = members_written is_none_tree written fs xs in
@@ -205,6 +255,71 @@ module _ (table : List Definition) (whole : Desc) (passes : TablePasses table) (
       )
   parts_back fs deny distinct need _ t is parts fit = absurd (cc fit)
 
+  module _ (d : Desc) (vs : List Variant) (need : IsNeeded table whole d) (e : out-Desc d ≡ Desc-F.External vs) where
+    payload_back : (s : Tree) → BackInside s → (v : Variant) → Contains vs v → (o : Option Desc) → v.payload ≡ o → fits_under table whole s (payload_or_null o) ≡ true → PayloadBack Exact (told table whole) (written s) s o
+    payload_back s known v inside None q fit = nought_only s fit
+    payload_back s known v inside (Some a) q fit = known.0 a (payload_needed table whole d vs v a e inside q need) fit
+
+    abbrev ExternalBack : Tree → Json → Type 0
+    ExternalBack u j = ReadsBack Exact j (external (told table whole) vs (out-Json j)) u
+
+    external_back : (x : TreeOf Tree) (t : Tree) → roll-Tree x ≡ t → OfParts BackInside x → choice_fits (fits_under table whole) (map payload_of vs) x ≡ true → ExternalBack t (external_written written vs x)
+    external_back (Tree-F.Variant i s) t is parts fit =
+        let distinct = (names_apart table d (Desc-F.External vs) e (is_right table whole d passes right (needed_part table whole d need))).0 in
+        let (v, there, fits) = given_at (fits_under table whole s) payload_of vs i fit in
+        let back = variant_back Exact (told table whole) (written s) s vs distinct i v there v.payload refl (payload_back s parts v (at_place_inside vs i v there) v.payload refl fits) in
+        subst (λ (o : Option Variant). ExternalBack t (at_place (variant_written (written s)) o)) (sym there)
+        (subst (λ (u : Tree). ExternalBack u (variant_written (written s) v)) (sym (tree.rolls-Variant i s) ∙ is) back)
+    external_back _ t is parts fit = absurd (cc fit)
+
+  module _ (tag : List ℕ) (vs : List TaggedVariant) where
+    abbrev tagged_row : Json-F Json Member → Told
+    tagged_row y = tagged (λ j. j) (λ fs. struct_row table whole fs false y) tag vs y
+
+    abbrev TaggedBack : Tree → Json → Type 0
+    TaggedBack u j = ReadsBack Exact j (tagged_row (out-Json j)) u
+
+    -- each field is looked up behind the tag
+    module _ (names : AreDistinct (map tagged_name vs)) (i : ℕ) (v : TaggedVariant) (there : slice_get vs i ≡ Some v) where
+      abbrev first : Member
+      first = member tag (WordsJson (tagged_name v))
+
+      behind_tag : AreDistinct (map field_name (tagged_fields v)) → IsNew tag (map field_name (tagged_fields v)) → ((f : Field) → Contains (tagged_fields v) f → IsNeeded table whole f.desc)
+          → (x : TreeOf Tree) (s : Tree) → roll-Tree x ≡ s → OfParts BackInside x → parts_fit (fits_under table whole) (tagged_fields v) x ≡ true → TaggedBack (Choice i s) (with_tag tag (tagged_name v) (parts_written is_none_tree written (tagged_fields v) x))
+      behind_tag distinct new need (Tree-F.Fields xs) s is parts fit =
+          let fs : List Field = tagged_fields v in
+          let ms : List Member = members_written is_none_tree written fs xs in
+          let back = fields_back fs xs need parts fit in
+          let found = found_behind written false first ms fs xs new (all_found written FieldBack fs xs distinct back) in
+          let all_parts : tagged_row (out-Json (Object (first ∷ ms))) ≡ chosen i (as_tree Parts (told_fields table whole (first ∷ ms) fs)) =
+          ap tagged_row (json.outs-Object (first ∷ ms)) ∙ tag_told tag vs names i v there (λ gs. struct_row table whole gs false (Json-F.Object (first ∷ ms))) ms in
+          subst (TaggedBack (Choice i s)) (sym (tag_before tag (tagged_name v) ms)) (
+            (IsSound-Object (first ∷ ms)).1 ((tt, members_sound fs xs back), (new_written written tag fs xs new, distinct_written written fs xs distinct)),
+            subst (λ (o : Told). Gives Exact o (Choice i s)) (sym all_parts)
+                (gives_chosen Exact i (as_tree Parts (told_fields table whole (first ∷ ms) fs)) s
+                (subst (Gives Exact (as_tree Parts (told_fields table whole (first ∷ ms) fs))) (sym (tree.rolls-Fields xs) ∙ is)
+                (gives_tree Exact Parts (told_fields table whole (first ∷ ms) fs) xs (fields_told_back (first ∷ ms) fs xs back found 0)))),
+          )
+      behind_tag distinct new need _ s is parts fit = absurd (cc fit)
+
+    abbrev tagged_json : Tree → TaggedVariant → Json
+    tagged_json s v = with_tag tag (tagged_name v) (written s (struct_of v))
+
+    tagged_back : (d : Desc) → IsNeeded table whole d → out-Desc d ≡ Desc-F.Tagged tag vs → (x : TreeOf Tree) (t : Tree) → roll-Tree x ≡ t → OfParts BackBelow x → choice_fits (fits_under table whole) (map struct_of vs) x ≡ true
+        → TaggedBack t (tagged_written written tag vs x)
+    tagged_back d need e (Tree-F.Variant i s) t is parts fit =
+        let here = is_right table whole d passes right (needed_part table whole d need) in
+        let (names, each) = names_apart table d (Desc-F.Tagged tag vs) e here in
+        let (v, there, fits) = given_at (fits_under table whole s) struct_of vs i fit in
+        let inside = at_place_inside vs i v there in
+        let new = new_name tag (tagged_fields v) (λ f c q. here.tags (tag, vs, v, f, e, inside, c, q)) in
+        let fields_fit_so : parts_fit (fits_under table whole) (tagged_fields v) (out-Tree s) ≡ true = sym (struct_fits_row table whole s (tagged_fields v) false) ∙ fits in
+        let written_so : written s (struct_of v) ≡ parts_written is_none_tree written (tagged_fields v) (out-Tree s) = struct_written table whole s (tagged_fields v) false in
+        let back = behind_tag names i v there (distinct_at names_of_fields vs v each inside) new (λ f c. variant_needed table whole d tag vs v f e inside c need) (out-Tree s) s (roll-out-Tree s) parts.1 fields_fit_so in
+        subst (λ (o : Option TaggedVariant). TaggedBack t (at_place (tagged_json s) o)) (sym there)
+        (subst (λ (u : Tree). TaggedBack u (tagged_json s v)) (sym (tree.rolls-Variant i s) ∙ is) (subst (λ (j : Json). TaggedBack (Choice i s) (with_tag tag (tagged_name v) j)) (sym written_so) back))
+    tagged_back d need e _ t is parts fit = absurd (cc fit)
+
   choice_at : (d : Desc) (ds : List Desc) → IsNeeded table whole d → out-Desc d ≡ Desc-F.Untagged ds → (i : ℕ) (s t : Tree) → BackInside s → (o : Option Desc) → alternative_at ds i ≡ o → if_there (fits_under table whole s) o ≡ true
       → ReadsBack Exact (written_if_there (written s) o) (first_told 0 (told table whole (written_if_there (written s) o)) ds) t
   choice_at d ds need e i s t known None there fit = absurd (cc fit)
@@ -213,12 +328,15 @@ module _ (table : List Definition) (whole : Desc) (passes : TablePasses table) (
       let (read, is) = first_tells (told table whole (written s a)) 0 ds i a gives.0 there gives.1 in
       (sound, (read, is, λ exact. absurd (untagged_refuted d need (ds, e) exact)))
 
-  choice_back : (d : Desc) (ds : List Desc) → IsNeeded table whole d → out-Desc d ≡ Desc-F.Untagged ds → (x : Tree-F Tree) (t : Tree) → OfParts BackInside x → choice_fits (fits_under table whole) ds x ≡ true
+  choice_back : (d : Desc) (ds : List Desc) → IsNeeded table whole d → out-Desc d ≡ Desc-F.Untagged ds → (x : TreeOf Tree) (t : Tree) → OfParts BackInside x → choice_fits (fits_under table whole) ds x ≡ true
       → ReadsBack Exact (choice_written written ds x) (first_told 0 (told table whole (choice_written written ds x)) ds) t
   choice_back d ds need e (Tree-F.Variant i s) t parts fit = choice_at d ds need e i s t parts (alternative_at ds i) refl fit
   choice_back d ds need e _ t parts fit = absurd (cc fit)
 
-  module _ (t : Tree) (parts : OfParts BackInside (out-Tree t)) where
+  module _ (t : Tree) (below_parts : OfParts BackBelow (out-Tree t)) where
+    abbrev parts : OfParts BackInside (out-Tree t)
+    parts = parts_weaker inside_of (out-Tree t) below_parts
+
     abbrev BackWithin : ℕ → Type 0
     BackWithin n = (d : Desc) → Rests table n d → IsNeeded table whole d → fits_under table whole t d ≡ true → ReadsBack Exact (written t d) (told table whole (written t d) d) t
 
@@ -227,12 +345,20 @@ module _ (table : List Definition) (whole : Desc) (passes : TablePasses table) (
     reference_back n next d name need e None f rests fit = absurd rests
     reference_back n next d name need e (Some y) f rests fit = next y rests (definition_needed table whole d name y e f need) fit
 
-    abbrev row_written : Desc-F Desc Field → Json
+    abbrev row_written : DescLevel → Json
     row_written y = written_by table is_none_tree written (written t) y (out-Tree t)
 
     -- one row for each descriptor
-    row_back : (n : ℕ) → BackWithin n → (d : Desc) → IsNeeded table whole d → (y : Desc-F Desc Field) → out-Desc d ≡ y → RestsBy table (Rests table n) y
+    row_back : (n : ℕ) → BackWithin n → (d : Desc) → IsNeeded table whole d → (y : DescLevel) → out-Desc d ≡ y → RestsBy table (Rests table n) y
         → fits_by table (fits_under table whole) (fits_under table whole t) y (out-Tree t) ≡ true → ReadsBack Exact (row_written y) (row table whole (row_written y) (out-Json (row_written y)) y) t
+    row_back n next d need Desc-F.Any e rest fit = whole_back Exact (out-Tree t) t (roll-out-Tree t) fit
+    row_back n next d need Desc-F.Never e rest fit = absurd (cc fit)
+    row_back n next d need Desc-F.Null e rest fit = nought_back Exact (out-Tree t) t (roll-out-Tree t) fit
+    row_back n next d need Desc-F.Char e rest fit = character_back Exact (out-Tree t) t (roll-out-Tree t) fit
+    row_back n next d need (Desc-F.Enumeration ns) e rest fit =
+        let distinct = (names_apart table d (Desc-F.Enumeration ns) e (is_right table whole d passes right (needed_part table whole d need))).0 in
+        name_back Exact ns distinct (λ s. fits_under table whole s NullDesc) nought_only (out-Tree t) t (roll-out-Tree t) fit
+    row_back n next d need (Desc-F.Map i) e rest fit = entries_back i (map_needed table whole d i e need) (out-Tree t) t (roll-out-Tree t) parts fit
     row_back n next d need Desc-F.Bool e rest fit = truth_back Exact (out-Tree t) t (roll-out-Tree t) fit
     row_back n next d need (Desc-F.Int kind min max) e rest fit = number_back Exact kind min max (out-Tree t) t (roll-out-Tree t) fit
     row_back n next d need (Desc-F.Text min max format) e rest fit = words_back Exact min max (out-Tree t) t (roll-out-Tree t) fit
@@ -241,6 +367,8 @@ module _ (table : List Definition) (whole : Desc) (passes : TablePasses table) (
     row_back n next d need (Desc-F.Struct fs deny) e rest fit =
         let distinct = fields_distinct table d fs deny e (is_right table whole d passes right (needed_part table whole d need)) in
         parts_back fs deny distinct (λ f c. field_needed table whole d fs deny f e c need) (out-Tree t) t (roll-out-Tree t) parts fit
+    row_back n next d need (Desc-F.External vs) e rest fit = external_back d vs need e (out-Tree t) t (roll-out-Tree t) parts fit
+    row_back n next d need (Desc-F.Tagged tag vs) e rest fit = tagged_back tag vs d need e (out-Tree t) t (roll-out-Tree t) below_parts fit
     row_back n next d need (Desc-F.Untagged ds) e rest fit = choice_back d ds need e (out-Tree t) t parts fit
     row_back n next d need (Desc-F.Ref name) e rest fit = reference_back n next d name need e (definition table name) refl rest fit
 
@@ -252,22 +380,8 @@ module _ (table : List Definition) (whole : Desc) (passes : TablePasses table) (
         subst (λ (o : Told). ReadsBack Exact (written t d) o t) (sym (row_at table whole (written t d) d (out-Json (written t d)) (out-Desc d) (rests d need) refl refl))
         (subst (λ (j : Json). ReadsBack Exact j (row table whole j (out-Json j) (out-Desc d)) t) (sym (written_row table whole t d (rests d need))) (row_back n (back_within n) d need (out-Desc d) refl rest row_fits))
 
-  each_inside : (ts : List Tree) → AllByRecursion BackInside ts → AllByRecursion Back ts
-  each_inside [] h = tt
-  each_inside (t ∷ ts) h = (h.0.0, each_inside ts h.1)
-
-  inside_of : (x : Tree-F Tree) → OfParts BackInside x → OfParts Back x
-  inside_of (Tree-F.Bool b) h = tt
-  inside_of (Tree-F.Int n) h = tt
-  inside_of (Tree-F.Text s) h = tt
-  inside_of Tree-F.None h = tt
-  inside_of (Tree-F.Some t) h = h.0
-  inside_of (Tree-F.List ts) h = each_inside ts h
-  inside_of (Tree-F.Fields ts) h = each_inside ts h
-  inside_of (Tree-F.Variant i t) h = h.0
-
-  known : (t : Tree) → BackInside t
-  known = by_parts BackInside (λ t parts. (λ d need. back_within t parts (room table whole) d (rests d need) need, inside_of (out-Tree t) parts))
+  known : (t : Tree) → BackBelow t
+  known = by_parts BackBelow (λ t parts. (λ d need. back_within t parts (room table whole) d (rests d need) need, parts_weaker inside_of (out-Tree t) parts))
 
   pub read_back : (t : Tree) → Fits table whole t → ReadsBack Exact (json_of_tree table whole t) (told table whole (json_of_tree table whole t) whole) t
   read_back t fit = (known t).0 whole (of_whole the_whole) fit

@@ -31,8 +31,13 @@ abbrev pub unless_left : Bool → Json → Option Json
 unless_left true value = None
 unless_left false value = Some value
 
-abbrev IsNew : List ℕ → List (List ℕ) → Type 0
+abbrev pub IsNew : List ℕ → List (List ℕ) → Type 0
 IsNew name others = AllByRecursion (λ other. name ≢ other) others
+
+-- a name that no field has
+pub new_name : (name : List ℕ) (fs : List Field) → ((f : Field) → Contains fs f → f.name ≡ name → ⊥) → IsNew name (map field_name fs)
+new_name name [] other = tt
+new_name name (f ∷ fs) other = (λ e. other f (contains_first f fs) (sym e), new_name name fs (λ g c. other g (contains_later f fs g c)))
 
 new_with : (name : List ℕ) (b : Bool) (m : Member) (ms : List Member) → name ≢ m.name → IsNew name (map name_of ms) → IsNew name (map name_of (unless b m ms))
 new_with name true m ms ne new = new
@@ -77,7 +82,7 @@ module _ (written : Tree → Desc → Json) where
   abbrev first_member : Field → Tree → Member
   first_member f x = member f.name (written x (field_desc f))
 
-  new_written : (name : List ℕ) (fs : List Field) (xs : List Tree) → IsNew name (map field_name fs) → IsNew name (map name_of (members fs xs))
+  pub new_written : (name : List ℕ) (fs : List Field) (xs : List Tree) → IsNew name (map field_name fs) → IsNew name (map name_of (members fs xs))
   new_written name [] xs new = tt
   new_written name (f ∷ fs) [] new = tt
   new_written name (f ∷ fs) (x ∷ xs) new = new_with name (is_left f x) (first_member f x) (members fs xs) new.0 (new_written name fs xs new.1)
@@ -105,7 +110,7 @@ module _ (written : Tree → Desc → Json) where
   absent_written name (f ∷ fs) [] new = refl
   absent_written name (f ∷ fs) (x ∷ xs) new = absent_with name (is_left f x) (first_member f x) (members fs xs) new.0 (absent_written name fs xs new.1)
 
-  found_behind : (b : Bool) (m : Member) (ms : List Member) (fs : List Field) (xs : List Tree) → IsNew m.name (map field_name fs) → Beside (IsFound ms) fs xs → Beside (IsFound (unless b m ms)) fs xs
+  pub found_behind : (b : Bool) (m : Member) (ms : List Member) (fs : List Field) (xs : List Tree) → IsNew m.name (map field_name fs) → Beside (IsFound ms) fs xs → Beside (IsFound (unless b m ms)) fs xs
   found_behind b m ms [] [] new found = tt
   found_behind b m ms [] (x ∷ xs) new found = found
   found_behind b m ms (f ∷ fs) [] new found = found

@@ -2,7 +2,6 @@
 use Rattle.std.specs.Prelude.{◌≡◌, ⊤, reverse}
 use Rattle.std.specs.declared.result.Result.{Result}
 use Rattle.std.specs.declared.result.Result.TheVariants.{Ok, Err}
-use Rattle.typed_values.specs.declared.tree.Tree.{Tree}
 use Rattle.typed_values.specs.declared.fault.Misfit.{Misfit}
 use Rattle.typed_values.specs.declared.fault.Stop.{Stop}
 use Rattle.typed_values.specs.declared.fault.Stop.TheVariants as stop
@@ -16,8 +15,8 @@ use Rattle.typed_values.specs.Denotes.{Told}
 abbrev pub trouble : Misfit → Trouble
 trouble misfit = record { path = reverse misfit.places; kind = misfit.kind }
 
--- the answer is what is told, unless memory ran out
-abbrev pub Tells : Result Tree Stop → Told → Type 0
+-- the answer, a tree or a pair, is what is told, unless memory ran out
+abbrev pub Tells : {T : Type 0} → Result T Stop → Result T Trouble → Type 0
 Tells (Ok tree) told = told ≡ Ok tree
 Tells (Err (stop.Misfit misfit)) told = told ≡ Err (trouble misfit)
 Tells (Err stop.OutOfMemory) told = ⊤

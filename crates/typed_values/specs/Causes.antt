@@ -2,10 +2,10 @@
 use Rattle.std.specs.Prelude.{◌≡◌, ℕ, ◌<◌, List, Some, Contains, slice_get}
 use Rattle.std.specs.Str.{chars}
 use Rattle.typed_values.specs.declared.check.TableError.{TableError}
-use Rattle.typed_values.specs.declared.check.TableError.TheVariants.{DoubledName, BadName, Dangling, Unguarded, EmptyEnumeration, NullOfNull, BadRange, BadPresence}
+use Rattle.typed_values.specs.declared.check.TableError.TheVariants.{DoubledName, BadName, Dangling, Unguarded, EmptyEnumeration, NullOfNull, TagClash, BadRange, BadPresence}
 use Rattle.typed_values.specs.declared.desc.Desc.{Desc}
 use Rattle.typed_values.specs.declared.table.Definition.{Definition}
-use Rattle.typed_values.specs.Checks.{HasDoubledName, IsName, IsDangling, IsEmptyChoice, IsNullOfNull, HasBadRange, HasBadPresence}
+use Rattle.typed_values.specs.Checks.{HasDoubledName, IsName, IsDangling, IsEmptyChoice, IsNullOfNull, HasTagClash, HasBadRange, HasBadPresence}
 use Rattle.typed_values.specs.Guarded.{LiesOnCycle}
 use Rattle.typed_values.specs.Parts.{StandsIn}
 
@@ -21,6 +21,7 @@ Tells Dangling table d = IsDangling table d
 Tells (Unguarded name) table d = ⊥
 Tells EmptyEnumeration table d = IsEmptyChoice d
 Tells NullOfNull table d = IsNullOfNull table d
+Tells TagClash table d = HasTagClash d
 Tells BadRange table d = HasBadRange d
 Tells BadPresence table d = HasBadPresence table d
 
@@ -49,8 +50,9 @@ order Dangling = 2
 order (Unguarded name) = 3
 order EmptyEnumeration = 4
 order NullOfNull = 5
-order BadRange = 6
-order BadPresence = 7
+order TagClash = 6
+order BadRange = 7
+order BadPresence = 8
 
 -- an error applies, and none that is told before it
 pub record IsFirst (Applies : TableError → Type 0) (error : TableError) : Type 0 where

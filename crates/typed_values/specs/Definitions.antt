@@ -2,6 +2,9 @@
 use Rattle.std.specs.Prelude.{ℕ, List, [], ◌∷◌, Option, Some, None, if◌then◌else◌, bytes_eq}
 use Rattle.typed_values.specs.declared.desc.Desc.{Desc}
 use Rattle.typed_values.specs.declared.desc.Field.{Field}
+use Rattle.typed_values.specs.declared.desc.Named.{Named}
+use Rattle.typed_values.specs.declared.desc.TaggedVariant.{TaggedVariant, out-TaggedVariant}
+use Rattle.typed_values.specs.declared.desc.Variant.{Variant}
 use Rattle.typed_values.specs.declared.table.Definition.{Definition}
 
 -- the definition of a name, description and all
@@ -17,6 +20,26 @@ definition (e ∷ es) name = if bytes_eq e.name name then Some e.desc else defin
 -- the name of a field
 abbrev pub field_name : Field → List ℕ
 field_name field = field.name
+
+-- a name of an enumeration
+abbrev pub listed_name : Named → List ℕ
+listed_name named = named.name
+
+-- the name of a variant
+abbrev pub variant_name : Variant → List ℕ
+variant_name v = v.name
+
+-- the name of a tagged variant
+abbrev pub tagged_name : TaggedVariant → List ℕ
+tagged_name v = (out-TaggedVariant v).name
+
+-- the fields of a tagged variant
+abbrev pub tagged_fields : TaggedVariant → List Field
+tagged_fields v = (out-TaggedVariant v).fields
+
+-- the description of a tagged variant
+abbrev pub tagged_description : TaggedVariant → Option (List ℕ)
+tagged_description v = (out-TaggedVariant v).description
 
 -- the name of a definition
 abbrev pub definition_name : Definition → List ℕ

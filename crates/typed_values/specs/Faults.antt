@@ -2,7 +2,7 @@
 use Rattle.std.specs.Prelude.{ℕ, List, [], ◌∷◌, ◌++◌, codes, bytes_eq, if◌then◌else◌}
 use Rattle.std.specs.Fmt.{decimal}
 use Rattle.typed_values.specs.declared.fault.FaultKind.{FaultKind}
-use Rattle.typed_values.specs.declared.fault.FaultKind.TheVariants.{Missing, Unknown, WrongKind, OutOfRange, BadLength, NoAlternative, NotJson}
+use Rattle.typed_values.specs.declared.fault.FaultKind.TheVariants.{Missing, Unknown, WrongKind, OutOfRange, BadLength, NotListed, NoAlternative, NotJson}
 use Rattle.typed_values.specs.declared.fault.Place.{Place}
 use Rattle.typed_values.specs.declared.fault.Place.TheVariants.{Name, Item}
 use Rattle.typed_values.specs.declared.fault.Fault.{Fault}
@@ -39,6 +39,7 @@ kind_text (Unknown name) = codes "unknown field `" ++ name ++ codes "`"
 kind_text WrongKind = codes "invalid type"
 kind_text OutOfRange = codes "value out of range"
 kind_text BadLength = codes "length out of range"
+kind_text NotListed = codes "unknown variant"
 kind_text NoAlternative = codes "no alternative fits"
 kind_text NotJson = codes "not JSON"
 

@@ -7,7 +7,6 @@ pub mod Denotes
 pub mod Fits
 pub mod Answer
 pub mod Rows
-pub mod Members
 pub mod Parts
 pub mod Guarded
 pub mod Search
@@ -16,6 +15,7 @@ pub mod Sound
 pub mod Once
 pub mod Order
 pub mod Encoding
+pub mod Levels
 pub mod SchemaTable
 pub mod Schemas
 pub mod Checks

@@ -7,6 +7,7 @@ use Rattle.typed_values.specs.declared.table.Definition.{Definition}
 use Rattle.typed_values.specs.Definitions.{definition}
 use Rattle.typed_values.specs.Denotes.{room}
 use Rattle.typed_values.specs.Sound.{EachRests, RestsBy, Rests, IsSound}
+use Rattle.typed_values.specs.Levels.{DescLevel}
 
 -- there is one way at most to say it of the definition of a name
 once_found : (Next : Desc → Type 0) → ((d : Desc) → IsProp (Next d)) → (o : Option Desc) → IsProp (MatchOption o ⊥ Next)
@@ -19,13 +20,21 @@ once_each Next p [] = λ a b. refl
 once_each Next p (d ∷ ds) = λ a b i. (p d a.0 b.0 i, once_each Next p ds a.1 b.1 i)
 
 -- there is one way at most to say it of a descriptor of any form
-once_by : (table : List Definition) (Next : Desc → Type 0) → ((d : Desc) → IsProp (Next d)) → (x : Desc-F Desc Field) → IsProp (RestsBy table Next x)
+once_by : (table : List Definition) (Next : Desc → Type 0) → ((d : Desc) → IsProp (Next d)) → (x : DescLevel) → IsProp (RestsBy table Next x)
+once_by table Next p Desc-F.Any = λ a b. refl
+once_by table Next p Desc-F.Never = λ a b. refl
+once_by table Next p Desc-F.Null = λ a b. refl
 once_by table Next p Desc-F.Bool = λ a b. refl
+once_by table Next p Desc-F.Char = λ a b. refl
 once_by table Next p (Desc-F.Int kind min max) = λ a b. refl
 once_by table Next p (Desc-F.Text min max format) = λ a b. refl
+once_by table Next p (Desc-F.Enumeration ns) = λ a b. refl
 once_by table Next p (Desc-F.Option d) = p d
 once_by table Next p (Desc-F.List d min max) = λ a b. refl
+once_by table Next p (Desc-F.Map d) = λ a b. refl
 once_by table Next p (Desc-F.Struct fs deny) = λ a b. refl
+once_by table Next p (Desc-F.External vs) = λ a b. refl
+once_by table Next p (Desc-F.Tagged tag vs) = λ a b. refl
 once_by table Next p (Desc-F.Untagged ds) = once_each Next p ds
 once_by table Next p (Desc-F.Ref name) = once_found Next p (definition table name)
 

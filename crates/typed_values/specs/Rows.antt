@@ -1,24 +1,33 @@
--- What lists and structs denote on a sound table, with no count of steps.
-use Rattle.std.specs.Prelude.{ℕ, Bool, List, Option, Some, None, Contains}
+-- What each descriptor denotes on a sound table, with no count of steps.
+use Rattle.std.specs.Prelude.{ℕ, Bool, false, List, Option, Some, None, Contains, IfSome}
 use Rattle.std.specs.declared.result.Result.{Result}
+use Rattle.std.specs.declared.result.Result.TheVariants.{Ok}
 use Rattle.schema_values.specs.declared.json_value.Json.{Json}
 use Rattle.schema_values.specs.declared.json_value.Json.TheOpen.{Json-F}
 use Rattle.schema_values.specs.declared.json_value.Member.{Member}
 use Rattle.typed_values.specs.declared.desc.Desc.{Desc}
 use Rattle.typed_values.specs.declared.desc.Desc.TheOpen.{Desc-F}
 use Rattle.typed_values.specs.declared.desc.Field.{Field}
-use Rattle.typed_values.specs.declared.tree.Tree.{Tree, Fields as Parts}
+use Rattle.typed_values.specs.declared.desc.TaggedVariant.{TaggedVariant}
+use Rattle.typed_values.specs.declared.desc.Variant.{Variant}
+use Rattle.typed_values.specs.declared.tree.Pair.{Pair}
+use Rattle.typed_values.specs.declared.tree.Tree.{Tree, Fields as Parts, Any as Whole}
 use Rattle.typed_values.specs.declared.fault.FaultKind.TheVariants.{WrongKind}
-use Rattle.typed_values.specs.declared.fault.Place.TheVariants.{Item}
+use Rattle.typed_values.specs.declared.fault.Place.TheVariants.{Name, Item}
 use Rattle.typed_values.specs.declared.table.Definition.{Definition}
-use Rattle.typed_values.specs.Definitions.{definition}
+use Rattle.typed_values.specs.Definitions.{definition, tagged_fields}
 use Rattle.typed_values.specs.Faults.{Trouble}
-use Rattle.typed_values.specs.Denotes.{Told, below, told, all_told, as_tree, refused, truth, number, words, optional, items_told, by_presence, value_named, unless_denied, denied_name, at_definition, first_told}
+use Rattle.typed_values.specs.Denotes.{Told, below, told, all_told, as_tree, as_pair, refused, nought, truth, character, number, words, one_of_names, optional, items_told, entries_told, by_presence, value_named, unless_denied, denied_name, at_definition, first_told, external, tagged}
 use Rattle.typed_values.specs.Parts.{IsPart}
+use Rattle.typed_values.specs.Levels.{DescLevel}
 
 -- what is told of an item, at its place in the list
 abbrev pub told_item : List Definition → Desc → Desc → ℕ → Json → Told
 told_item table whole d i j = below (Item i) (told table whole j d)
+
+-- what is told of a member of a map, below its name
+abbrev pub told_entry : List Definition → Desc → Desc → Member → Result Pair Trouble
+told_entry table whole d m = as_pair m.name (below (Name m.name) (told table whole m.value d))
 
 -- what is told of a value, where it is there
 abbrev pub value_denotes : List Definition → Desc → Desc → Option Json → Option Told
@@ -47,14 +56,27 @@ abbrev pub struct_row : List Definition → Desc → List Field → Bool → Jso
 struct_row table whole fs deny (Json-F.Object ms) = told_struct table whole fs deny ms
 struct_row table whole fs deny _ = refused WrongKind
 
+-- what is told of an object under a map
+abbrev pub map_row : List Definition → Desc → Desc → Json-F Json Member → Told
+map_row table whole d (Json-F.Object ms) = entries_told (λ j. told table whole j d) ms
+map_row table whole d _ = refused WrongKind
+
 -- one row for each descriptor
-abbrev pub row : List Definition → Desc → Json → Json-F Json Member → Desc-F Desc Field → Told
+abbrev pub row : List Definition → Desc → Json → Json-F Json Member → DescLevel → Told
+row table whole j x Desc-F.Any = Ok (Whole j)
+row table whole j x Desc-F.Never = refused WrongKind
+row table whole j x Desc-F.Null = nought x
 row table whole j x Desc-F.Bool = truth x
+row table whole j x Desc-F.Char = character x
 row table whole j x (Desc-F.Int kind min max) = number kind min max x
 row table whole j x (Desc-F.Text min max format) = words min max x
+row table whole j x (Desc-F.Enumeration ns) = one_of_names ns x
 row table whole j x (Desc-F.Option d) = optional x (told table whole j d)
 row table whole j x (Desc-F.List d min max) = list_row table whole d min max x
+row table whole j x (Desc-F.Map d) = map_row table whole d x
 row table whole j x (Desc-F.Struct fs deny) = struct_row table whole fs deny x
+row table whole j x (Desc-F.External vs) = external (λ json d. told table whole json d) vs x
+row table whole j x (Desc-F.Tagged tag vs) = tagged (λ json. json) (λ fs. struct_row table whole fs false x) tag vs x
 row table whole j x (Desc-F.Untagged ds) = first_told 0 (told table whole j) ds
 row table whole j x (Desc-F.Ref name) = at_definition (told table whole j) (definition table name)
 
@@ -65,3 +87,11 @@ AreParts table whole ds = (d : Desc) → Contains ds d → IsPart table whole d
 -- the same of the descriptors of some fields
 abbrev pub AreFieldsOf : List Definition → Desc → List Field → Type 0
 AreFieldsOf table whole fs = (f : Field) → Contains fs f → IsPart table whole f.desc
+
+-- the same of the payloads of some variants
+abbrev pub ArePayloadsOf : List Definition → Desc → List Variant → Type 0
+ArePayloadsOf table whole vs = (v : Variant) → Contains vs v → IfSome v.payload (IsPart table whole)
+
+-- the same of the fields of some tagged variants
+abbrev pub AreVariantsOf : List Definition → Desc → List TaggedVariant → Type 0
+AreVariantsOf table whole vs = (v : TaggedVariant) → Contains vs v → AreFieldsOf table whole (tagged_fields v)

@@ -1,8 +1,11 @@
 -- The schema of a descriptor as a `Schema` value.
-use Rattle.std.specs.Prelude.{ℕ, ℤ, Bool, true, false, List, [], ◌∷◌, ◌++◌, map, Option, Some, None, codes}
+use Rattle.std.specs.Prelude.{ℕ, ℤ, Bool, true, false, not, List, [], ◌∷◌, ◌++◌, map, filter, Option, Some, None, if◌then◌else◌, codes}
+use Rattle.std.specs.List.{list_any}
+use Rattle.std.specs.Option.{option_map, option_map_or}
+use Rattle.schema_values.specs.declared.json_value.Json.{Json, Text as Words}
 use Rattle.schema_values.specs.declared.schema.Schema.{Schema, Bool as Truth, Object}
 use Rattle.schema_values.specs.declared.schema.SchemaObject.{SchemaObject, SchemaObject-F, roll-SchemaObject}
-use Rattle.schema_values.specs.declared.schema.Subschemas.{Subschemas, roll-Subschemas}
+use Rattle.schema_values.specs.declared.schema.Subschemas.{Subschemas, Subschemas-F, roll-Subschemas}
 use Rattle.schema_values.specs.declared.schema.ArrayParts.{ArrayParts, roll-ArrayParts}
 use Rattle.schema_values.specs.declared.schema.ObjectParts.{ObjectParts, roll-ObjectParts}
 use Rattle.schema_values.specs.declared.schema.Property.{Property, roll-Property, out-Property}
@@ -13,14 +16,19 @@ use Rattle.schema_values.specs.declared.schema.NumberBounds.{NumberBounds}
 use Rattle.schema_values.specs.declared.schema.LengthBounds.{LengthBounds}
 use Rattle.schema_values.specs.declared.schema.Items.{Items, One}
 use Rattle.typed_values.specs.declared.desc.Desc.{Desc, out-Desc}
-use Rattle.typed_values.specs.declared.desc.Desc.TheOpen.{Desc-F, Field-F}
+use Rattle.typed_values.specs.declared.desc.Desc.TheOpen.{Desc-F, Field-F, TaggedVariant-F, Variant-F}
 use Rattle.typed_values.specs.declared.desc.Desc.TheFolds.{fold-Desc}
 use Rattle.typed_values.specs.declared.desc.Field.{Field}
+use Rattle.typed_values.specs.declared.desc.Named.{Named}
+use Rattle.typed_values.specs.declared.desc.TaggedVariant.{TaggedVariant}
+use Rattle.typed_values.specs.declared.desc.Variant.{Variant}
 use Rattle.typed_values.specs.declared.desc.Presence.{Presence}
 use Rattle.typed_values.specs.declared.desc.Presence.TheVariants.{Required, Nullable, Skipped}
 use Rattle.typed_values.specs.declared.table.Definition.{Definition}
+use Rattle.typed_values.specs.Definitions.{tagged_description, tagged_fields, tagged_name}
 use Rattle.typed_values.specs.Order.{sorted_by}
-use Rattle.typed_values.specs.SchemaTable.{format_of, least_shown, same_name}
+use Rattle.typed_values.specs.SchemaTable.{bare_names, format_of, least_shown, same_name, is_described}
+use Rattle.typed_values.specs.Levels.{DescLevel, FieldOf, TaggedOf, VariantOf}
 
 -- the parts of a schema object
 abbrev pub Parts : Type 0
@@ -38,6 +46,7 @@ no_parts = record {
   nullable = false;
   instance_type = None;
   format = None;
+  enum_values = None;
   subschemas = None;
   number = None;
   string = None;
@@ -50,12 +59,16 @@ no_parts = record {
 abbrev pub of_single : InstanceType → Parts
 of_single type = record no_parts { instance_type = Some (Single type) }
 
+-- no subschemas of any kind
+abbrev pub no_subschemas : Subschemas-F Items Schema ArrayParts ObjectParts Property SchemaObject Subschemas
+no_subschemas = record { all_of = None; any_of = None; one_of = None; not = None }
+
 -- a reference that gets annotations stands in an `all_of` of one
 abbrev pub annotatable : Parts → Parts
 annotatable s = by_reference s.reference where
   by_reference : Option (List ℕ) → Parts
   by_reference None = s
-  by_reference (Some name) = record no_parts { subschemas = Some (roll-Subschemas (record { all_of = Some (object_of s ∷ []); any_of = None })) }
+  by_reference (Some name) = record no_parts { subschemas = Some (roll-Subschemas (record no_subschemas { all_of = Some (object_of s ∷ []) })) }
 
 -- parts that are nullable
 abbrev pub with_null : Parts → Parts
@@ -76,20 +89,37 @@ abbrev pub length_bounds : Option ℕ → Option ℕ → Option LengthBounds
 length_bounds None None = None
 length_bounds min max = Some (record { min = min; max = max })
 
+-- the parts of a schema on the way, and the truth value that it is where it says what other members are
+pub record Sketch : Type 0 where
+  pub parts : Parts
+  pub truth : Option Bool
+
+-- parts that are no truth value
+abbrev pub sketch : Parts → Sketch
+sketch parts = record { parts = parts; truth = None }
+
 -- a field with the schema of its type
-abbrev pub FieldParts : Type 0
-FieldParts = Field-F Parts (Unit {0})
+abbrev pub FieldSketch : Type 0
+FieldSketch = FieldOf Sketch
+
+-- a tagged variant with the schemas of its fields
+abbrev pub TaggedSketch : Type 0
+TaggedSketch = TaggedOf FieldSketch
+
+-- a variant with the schema of its payload
+abbrev pub VariantSketch : Type 0
+VariantSketch = VariantOf Sketch
 
 -- the name of a property
 abbrev pub property_name : Property → List ℕ
 property_name p = (out-Property p).name
 
 -- a field as a property, with its description
-abbrev pub property_of : FieldParts → Property
-property_of f = roll-Property (record { name = f.name; schema = object_of (with_description f.description f.desc) })
+abbrev pub property_of : FieldSketch → Property
+property_of f = roll-Property (record { name = f.name; schema = object_of (with_description f.description f.desc.parts) })
 
 -- the names of the fields that are required
-abbrev pub required_names : List FieldParts → List (List ℕ)
+abbrev pub required_names : List FieldSketch → List (List ℕ)
 required_names [] = []
 required_names (f ∷ fs) = with_required f.presence (required_names fs) where
   with_required : Presence → List (List ℕ) → List (List ℕ)
@@ -113,33 +143,139 @@ struct_of properties required deny = record (of_single types.Object) {
   object = Some (roll-ObjectParts (record { properties = properties; required = required; additional = nothing_more deny }));
 }
 
+-- a struct of such fields, its properties and its required names in order
+abbrev pub struct_parts : List FieldSketch → Bool → Parts
+struct_parts fs deny = struct_of (sorted_by property_name (map property_of fs)) (sorted_by same_name (required_names fs)) deny
+
 -- a choice of some schemas
 abbrev pub choice_of : List Schema → Parts
-choice_of alternatives = record no_parts { subschemas = Some (roll-Subschemas (record { all_of = None; any_of = Some alternatives })) }
+choice_of alternatives = record no_parts { subschemas = Some (roll-Subschemas (record no_subschemas { any_of = Some alternatives })) }
+
+-- what admits every value is a schema without parts, and what admits none is `not` of every value
+abbrev pub all_or_none : Bool → Sketch
+all_or_none true = record { parts = no_parts; truth = Some true }
+all_or_none false = record {
+  parts = record no_parts { subschemas = Some (roll-Subschemas (record no_subschemas { not = Some (Truth true) })) };
+  truth = Some false;
+}
+
+-- a string that is one of some values
+abbrev pub enumerated : List Json → Parts
+enumerated values = record (of_single types.String) { enum_values = Some values }
+
+-- the names of an enumeration as values
+abbrev pub texts_of : List Named → List Json
+texts_of ns = map (λ n. Words n.name) ns
+
+-- a described name, as a choice of its own
+abbrev pub described_choice : Named → Schema
+described_choice n = object_of (with_description n.description (enumerated (Words n.name ∷ [])))
+
+-- the names without description as one choice, left out where there are none
+abbrev pub plain_choice : List Json → List Schema
+plain_choice [] = []
+plain_choice (value ∷ values) = object_of (enumerated (value ∷ values)) ∷ []
+
+-- the names without description
+abbrev pub not_described : List Named → List Named
+not_described ns = filter (λ n. not (is_described n)) ns
+
+-- the choices of an enumeration: first the names without description, then each described name
+abbrev pub choices_of : List Named → List Schema
+choices_of ns = plain_choice (texts_of (not_described ns)) ++ map described_choice (filter is_described ns)
+
+-- a choice of which exactly one is met
+abbrev pub one_of : List Schema → Parts
+one_of choices = record no_parts { subschemas = Some (roll-Subschemas (record no_subschemas { one_of = Some choices })) }
+
+-- an enumeration: its names, or a choice where some are described
+abbrev pub enumeration : List Named → Parts
+enumeration ns =
+    if list_any is_described ns then one_of (choices_of ns) else enumerated (texts_of ns)
+
+-- the schema of the values of a map: a truth value, or its parts
+abbrev pub other_members : Sketch → Schema
+other_members s = option_map_or Truth s.truth (object_of s.parts)
+
+-- an object without properties, each of whose members has such a value
+abbrev pub map_of : Schema → Parts
+map_of values = record (of_single types.Object) {
+  object = Some (roll-ObjectParts (record { properties = []; required = []; additional = Some values }));
+}
+
+-- a field that must be there
+abbrev pub required_field : List ℕ → Sketch → FieldSketch
+required_field name s = record { name = name; desc = s; presence = Required; description = None }
+
+-- the variants with payload: each an object of the one property, and of no other
+abbrev pub payload_choices : List VariantSketch → List Schema
+payload_choices [] = []
+payload_choices (v ∷ vs) = with_payload v.payload (payload_choices vs) where
+  with_payload : Option Sketch → List Schema → List Schema
+  with_payload None choices = choices
+  with_payload (Some s) choices = object_of (with_description v.description (struct_parts (required_field v.name s ∷ []) true)) ∷ choices
+
+-- the choices of an external enumeration: those of its names without payload, and then each payload
+abbrev pub external_choices : List VariantSketch → List Schema
+external_choices vs = choices_of (bare_names vs) ++ payload_choices vs
+
+-- a tagged variant: an object of the tag, which has the variant's name alone, and of its fields
+abbrev pub tagged_choice : List ℕ → TaggedSketch → Schema
+tagged_choice tag v =
+    object_of (with_description v.description (struct_parts (required_field tag (sketch (enumerated (Words v.name ∷ []))) ∷ v.fields) false))
 
 -- one row for each descriptor
-abbrev pub schema_step : Desc-F Parts FieldParts → Parts
-schema_step Desc-F.Bool = of_single types.Boolean
-schema_step (Desc-F.Int kind min max) =
-    record (of_single types.Integer) { format = Some (format_of kind); number = number_bounds (least_shown kind min) max }
-schema_step (Desc-F.Text min max format) = record (of_single types.String) { format = format; string = length_bounds min max }
-schema_step (Desc-F.Option s) = with_null s
-schema_step (Desc-F.List s min max) = list_of (object_of s) min max
-schema_step (Desc-F.Struct fs deny) = struct_of (sorted_by property_name (map property_of fs)) (sorted_by same_name (required_names fs)) deny
-schema_step (Desc-F.Untagged ss) = choice_of (map object_of ss)
-schema_step (Desc-F.Ref name) = record no_parts { reference = Some (codes "#/components/schemas/" ++ name) }
+abbrev pub sketch_step : Desc-F Sketch FieldSketch TaggedSketch VariantSketch → Sketch
+sketch_step Desc-F.Any = all_or_none true
+sketch_step Desc-F.Never = all_or_none false
+sketch_step Desc-F.Null = sketch (of_single types.Null)
+sketch_step Desc-F.Bool = sketch (of_single types.Boolean)
+sketch_step Desc-F.Char = sketch (record (of_single types.String) { string = length_bounds (Some 1) (Some 1) })
+sketch_step (Desc-F.Int kind min max) =
+    sketch (record (of_single types.Integer) { format = Some (format_of kind); number = number_bounds (least_shown kind min) max })
+sketch_step (Desc-F.Text min max format) = sketch (record (of_single types.String) { format = format; string = length_bounds min max })
+sketch_step (Desc-F.Enumeration ns) = sketch (enumeration ns)
+sketch_step (Desc-F.Option s) = sketch (with_null s.parts)
+sketch_step (Desc-F.List s min max) = sketch (list_of (object_of s.parts) min max)
+sketch_step (Desc-F.Map s) = sketch (map_of (other_members s))
+sketch_step (Desc-F.Struct fs deny) =
+    sketch (struct_parts fs deny)
+sketch_step (Desc-F.External vs) = sketch (one_of (external_choices vs))
+sketch_step (Desc-F.Tagged tag vs) = sketch (one_of (map (tagged_choice tag) vs))
+sketch_step (Desc-F.Untagged ss) = sketch (choice_of (map (λ s. object_of s.parts) ss))
+sketch_step (Desc-F.Ref name) = sketch (record no_parts { reference = Some (codes "#/components/schemas/" ++ name) })
 
--- a field of one level, with the parts of its type
-abbrev pub field_parts : Field-F Parts FieldParts → FieldParts
-field_parts f = record { name = f.name; desc = f.desc; presence = f.presence; description = f.description }
+-- a field of one level, with the sketch of its type
+abbrev pub field_sketch : Field-F Sketch FieldSketch TaggedSketch VariantSketch → FieldSketch
+field_sketch f = record { name = f.name; desc = f.desc; presence = f.presence; description = f.description }
+
+-- a tagged variant of one level
+abbrev pub tagged_sketch : TaggedVariant-F Sketch FieldSketch TaggedSketch VariantSketch → TaggedSketch
+tagged_sketch v = record { name = v.name; description = v.description; fields = v.fields }
+
+-- a variant of one level
+abbrev pub variant_sketch : Variant-F Sketch FieldSketch TaggedSketch VariantSketch → VariantSketch
+variant_sketch v = record { name = v.name; description = v.description; payload = v.payload }
+
+-- the sketch of a descriptor's schema
+abbrev pub schema_sketch : Desc → Sketch
+schema_sketch = fold-Desc Sketch FieldSketch TaggedSketch VariantSketch sketch_step field_sketch tagged_sketch variant_sketch
 
 -- the parts of a descriptor's schema
 abbrev pub schema_parts : Desc → Parts
-schema_parts = fold-Desc Parts FieldParts schema_step field_parts
+schema_parts d = (schema_sketch d).parts
 
--- a field with the parts of its type
-abbrev pub parts_of_field : Field → FieldParts
-parts_of_field f = record { name = f.name; desc = schema_parts f.desc; presence = f.presence; description = f.description }
+-- a field with the sketch of its type
+abbrev pub sketch_of_field : Field → FieldSketch
+sketch_of_field f = record { name = f.name; desc = schema_sketch f.desc; presence = f.presence; description = f.description }
+
+-- a variant with the sketch of its payload
+abbrev pub sketch_of_variant : Variant → VariantSketch
+sketch_of_variant v = record { name = v.name; description = v.description; payload = option_map schema_sketch v.payload }
+
+-- a tagged variant with the sketches of its fields
+abbrev pub sketch_of_tagged : TaggedVariant → TaggedSketch
+sketch_of_tagged v = record { name = tagged_name v; description = tagged_description v; fields = map sketch_of_field (tagged_fields v) }
 
 -- the schema of a descriptor
 abbrev pub schema_value : Desc → Schema
@@ -152,6 +288,6 @@ definition_value e = object_of (with_description e.description (schema_parts e.d
 -- what stands in a header for a descriptor: an option is written as the schema of what it is over
 abbrev pub in_header : Desc → Desc
 in_header d = inner (out-Desc d) where
-  inner : Desc-F Desc Field → Desc
+  inner : DescLevel → Desc
   inner (Desc-F.Option x) = x
   inner _ = d

@@ -14,15 +14,17 @@ use Rattle.typed_values.specs.declared.search.Sought.TheVariants.{Name, Null}
 use Rattle.typed_values.specs.Definitions.{definition}
 use Rattle.typed_values.specs.Guarded.{Names}
 
--- an option stands in a descriptor, under alternatives alone
-pub data HoldsOption : Desc → Type 0 where
-  held_here : {d : Desc} (x : Desc) → out-Desc d ≡ Desc-F.Option x → HoldsOption d
-  held_in_alternative : {d : Desc} (ds : List Desc) (x : Desc) → out-Desc d ≡ Desc-F.Untagged ds → Contains ds x → HoldsOption x → HoldsOption d
+-- what takes null at once stands in a descriptor, under alternatives alone: any value, null itself or an option
+pub data HoldsNull : Desc → Type 0 where
+  any_held : {d : Desc} → out-Desc d ≡ Desc-F.Any → HoldsNull d
+  null_held : {d : Desc} → out-Desc d ≡ Desc-F.Null → HoldsNull d
+  held_here : {d : Desc} (x : Desc) → out-Desc d ≡ Desc-F.Option x → HoldsNull d
+  held_in_alternative : {d : Desc} (ds : List Desc) (x : Desc) → out-Desc d ≡ Desc-F.Untagged ds → Contains ds x → HoldsNull x → HoldsNull d
 
 -- what is sought stands in a descriptor
 abbrev pub Meets : Sought → Desc → Type 0
 Meets (Name name) d = Names name.now d
-Meets Null d = HoldsOption d
+Meets Null d = HoldsNull d
 
 -- a chain of references leads from a descriptor to what is sought
 pub data Leads (table : List Definition) (sought : Sought) : Desc → Type 0 where

@@ -7,6 +7,7 @@ use Rattle.typed_values.specs.declared.table.Definition.{Definition}
 use Rattle.typed_values.specs.Definitions.{definition}
 use Rattle.typed_values.specs.Denotes.{room}
 use Rattle.typed_values.specs.Parts.{IsPart}
+use Rattle.typed_values.specs.Levels.{DescLevel}
 
 -- the same of each descriptor of a list
 abbrev pub EachRests : (Desc → Type 0) → List Desc → Type 0
@@ -14,7 +15,7 @@ EachRests Next [] = ⊤
 EachRests Next (d ∷ ds) = Next d × EachRests Next ds
 
 -- one row for each descriptor: what is said of those that it leads to at one value
-abbrev pub RestsBy : List Definition → (Desc → Type 0) → Desc-F Desc Field → Type 0
+abbrev pub RestsBy : List Definition → (Desc → Type 0) → DescLevel → Type 0
 RestsBy table Next (Desc-F.Option d) = Next d
 RestsBy table Next (Desc-F.Untagged ds) = EachRests Next ds
 RestsBy table Next (Desc-F.Ref name) = MatchOption (definition table name) ⊥ Next

@@ -16,7 +16,7 @@ use schema_values::Text;
 /// What is wrong with a table or a descriptor.
 #[derive(Clone, Copy)]
 pub enum TableError<'a> {
-    /// Two fields of one name.
+    /// Two fields, two names of an enumeration or two variants of one name.
     DoubledName,
     /// The name of a definition is empty or has another character than letters, digits, `.`, `-` and `_`.
     BadName,
@@ -24,11 +24,14 @@ pub enum TableError<'a> {
     Dangling,
     /// References, options and alternatives alone lead from this definition back to it.
     Unguarded(&'a str),
-    /// No alternatives.
+    /// No alternatives, no names, no variants, or no payload in an external enumeration.
     EmptyEnumeration,
     /// An option over a descriptor that takes null.
     NullOfNull,
-    /// A least bound above the greatest, an integer's bound outside its kind, or more than 2^32 alternatives.
+    /// A field of a tagged variant that is named as the tag.
+    TagClash,
+    /// A least bound above the greatest, an integer's bound outside its kind, or more than 2^32 names,
+    /// variants or alternatives.
     BadRange,
     /// `Nullable` over no option, or `Skipped` over a descriptor that takes null.
     BadPresence,
@@ -58,6 +61,9 @@ pub fn check_table(table: &DescTable) -> Result<(), TableError<'_>>
     if applies_somewhere(TableError::NullOfNull, table) {
         return Err(TableError::NullOfNull);
     }
+    if applies_somewhere(TableError::TagClash, table) {
+        return Err(TableError::TagClash);
+    }
     if applies_somewhere(TableError::BadRange, table) {
         return Err(TableError::BadRange);
     }
@@ -83,6 +89,9 @@ pub fn check_desc<'a>(table: &'a DescTable, desc: &'a Desc) -> Result<(), TableE
     }
     if applies(TableError::NullOfNull, table, desc) {
         return Err(TableError::NullOfNull);
+    }
+    if applies(TableError::TagClash, table, desc) {
+        return Err(TableError::TagClash);
     }
     if applies(TableError::BadRange, table, desc) {
         return Err(TableError::BadRange);

@@ -1,21 +1,25 @@
 ghost use Rattle.std.specs.Prelude.{◌≤◌, length, IfOk, IfErr};
+ghost use Rattle.schema_values.specs.Sound.{IsSound};
+ghost use Rattle.schema_values.specs.declared.json_value.Json.{out-Json};
 ghost use Rattle.typed_values.specs.declared.tree.Tree.{Tree};
 ghost use Rattle.typed_values.specs.Answer.{Tells, IfFault, IsFaultOf};
 ghost use Rattle.typed_values.specs.Checks.{TablePasses, DescPasses};
-ghost use Rattle.typed_values.specs.Denotes.{JsonDenotes, told, as_tree, items_told, first_told, if_absent};
+ghost use Rattle.typed_values.specs.Denotes.{JsonDenotes, told, as_tree, items_told, entries_told};
+ghost use Rattle.typed_values.specs.Denotes.{first_told, if_absent, optional};
 ghost use Rattle.typed_values.specs.Fits.{Fits};
 ghost use Rattle.typed_values.specs.Parts.{IsPart};
-ghost use Rattle.typed_values.specs.Rows.{told_item, told_field, told_fields, told_struct};
-ghost use Rattle.typed_values.specs.Rows.{AreFieldsOf, AreParts};
+ghost use Rattle.typed_values.specs.Rows.{told_item, told_entry, told_field, told_fields, told_struct};
+ghost use Rattle.typed_values.specs.Rows.{list_row, map_row, struct_row, AreFieldsOf, AreParts};
 
 use crate::bounds::is_length_within;
 use crate::desc::{Desc, Field, Presence};
 use crate::fault::{DecodeError, FaultKind, Place, Stop};
 use crate::members::Members;
-use crate::scalars::{decode_bool, decode_int, decode_text};
+use crate::order::in_order;
+use crate::scalars::{decode_bool, decode_char, decode_int, decode_name, decode_null, decode_text};
 use crate::scope::Scope;
 use crate::table::DescTable;
-use crate::tree::Tree;
+use crate::tree::{Pair, Tree};
 use schema_values::{Boxed, Json, List, Member};
 use std::alloc::Global;
 
@@ -29,7 +33,7 @@ pub fn decode_json(
     requires table { TablePasses table.now }
     requires desc { DescPasses table.now desc.now }
     ensures denotes { IfOk result (λ tree. JsonDenotes table.now desc.now json.now tree) }
-    ensures fits { IfOk result (λ tree. Fits table.now desc.now tree) }
+    ensures fits { IsSound json.now → IfOk result (λ tree. Fits table.now desc.now tree) }
     ensures fault { IfErr result (λ error. IfFault error
         (IsFaultOf (told table.now desc.now json.now desc.now))) }
     ensures refused { IfErr result (λ error. IfFault error
@@ -44,40 +48,30 @@ pub fn decode_json(
 impl Scope<'_> {
     /// Decodes a value under a descriptor that stands in the table or in the whole descriptor.
     #[cycle(decode)]
-    fn decode_at(&self, alloc: Global, desc: &Desc, json: &Json) -> Result<Tree, Stop>
+    pub(crate) fn decode_at(&self, alloc: Global, desc: &Desc, json: &Json) -> Result<Tree, Stop>
         requires { IsPart self.now.table.now self.now.whole.now desc.now }
         ensures { Tells result (told self.now.table.now self.now.whole.now json.now desc.now) }
     {
         match desc {
+            Desc::Any => Ok(Tree::Any(json.copy(alloc)?)),
+            Desc::Never => Err(Stop::refused(alloc, FaultKind::WrongKind)),
+            Desc::Null => decode_null(alloc, json),
             Desc::Bool => decode_bool(alloc, json),
+            Desc::Char => decode_char(alloc, json),
             Desc::Int { kind, min, max } => decode_int(alloc, *kind, min, max, json),
             Desc::Text { min, max, .. } => decode_text(alloc, *min, *max, json),
-            Desc::Option(inner) => match json {
-                Json::Null => Ok(Tree::None),
-                _ => {
-                    let tree = self.decode_at(alloc, inner.get(), json)?;
-                    Ok(Tree::Some(Boxed::new(alloc, tree)?))
-                }
-            },
-            Desc::List { item, min, max } => match json {
-                Json::List(items) => self.decode_items(
-                    alloc,
-                    item.get(),
-                    *min,
-                    *max,
-                    items.as_slice(),
-                ),
-                _ => Err(Stop::refused(alloc, FaultKind::WrongKind)),
-            },
+            Desc::Enumeration { names } => decode_name(alloc, names.as_slice(), json),
+            Desc::Option(inner) => self.decode_option(alloc, inner.get(), json),
+            Desc::List { item, min, max } => self.decode_list(alloc, item.get(), *min, *max, json),
+            Desc::Map(value) => self.decode_map(alloc, value.get(), json),
             Desc::Struct {
                 fields,
                 deny_unknown,
-            } => match json {
-                Json::Object(members) => {
-                    self.decode_struct(alloc, fields.as_slice(), *deny_unknown, members.as_slice())
-                }
-                _ => Err(Stop::refused(alloc, FaultKind::WrongKind)),
-            },
+            } => self.decode_struct(alloc, fields.as_slice(), *deny_unknown, json),
+            Desc::External { variants } => self.decode_external(alloc, variants.as_slice(), json),
+            Desc::Tagged { tag, variants } => {
+                self.decode_tagged(alloc, tag, variants.as_slice(), json)
+            }
             Desc::Untagged { alternatives } => self.decode_untagged(
                 alloc,
                 alternatives.as_slice(),
@@ -87,6 +81,42 @@ impl Scope<'_> {
                 Some(definition) => self.decode_at(alloc, definition, json),
                 None => unreachable!(),
             },
+        }
+    }
+
+    /// Decodes what an option holds, where the value is not null.
+    #[cycle(decode)]
+    fn decode_option(&self, alloc: Global, inner: &Desc, json: &Json) -> Result<Tree, Stop>
+        requires { IsPart self.now.table.now self.now.whole.now inner.now }
+        ensures { Tells result (optional (out-Json json.now)
+            (told self.now.table.now self.now.whole.now json.now inner.now)) }
+    {
+        match json {
+            Json::Null => Ok(Tree::None),
+            _ => {
+                let tree = self.decode_at(alloc, inner, json)?;
+                Ok(Tree::Some(Boxed::new(alloc, tree)?))
+            }
+        }
+    }
+
+    /// Decodes a list.
+    #[cycle(decode)]
+    fn decode_list(
+        &self,
+        alloc: Global,
+        item: &Desc,
+        min: Option<u32>,
+        max: Option<u32>,
+        json: &Json,
+    ) -> Result<Tree, Stop>
+        requires { IsPart self.now.table.now self.now.whole.now item.now }
+        ensures { Tells result
+            (list_row self.now.table.now self.now.whole.now item.now min max (out-Json json.now)) }
+    {
+        match json {
+            Json::List(items) => self.decode_items(alloc, item, min, max, items.as_slice()),
+            _ => Err(Stop::refused(alloc, FaultKind::WrongKind)),
         }
     }
 
@@ -117,9 +147,73 @@ impl Scope<'_> {
         Ok(Tree::List(trees))
     }
 
-    /// Decodes the fields, and then looks for unknown names where they are denied.
+    /// Decodes a map.
+    #[cycle(decode)]
+    fn decode_map(&self, alloc: Global, value: &Desc, json: &Json) -> Result<Tree, Stop>
+        requires { IsPart self.now.table.now self.now.whole.now value.now }
+        ensures { Tells result
+            (map_row self.now.table.now self.now.whole.now value.now (out-Json json.now)) }
+    {
+        match json {
+            Json::Object(members) => self.decode_entries(alloc, value, members.as_slice()),
+            _ => Err(Stop::refused(alloc, FaultKind::WrongKind)),
+        }
+    }
+
+    /// Decodes the value of each member, in the order of names.
+    #[cycle(decode)]
+    fn decode_entries(&self, alloc: Global, value: &Desc, members: &[Member]) -> Result<Tree, Stop>
+        requires { IsPart self.now.table.now self.now.whole.now value.now }
+        ensures { Tells result (entries_told
+            (λ json. told self.now.table.now self.now.whole.now json value.now) members.now) }
+    {
+        let mut pairs = List::new(alloc);
+        for member in in_order(alloc, members)?.iter() {
+            pairs.push(self.decode_pair(alloc, value, member)?)?;
+        }
+        Ok(Tree::Map(pairs))
+    }
+
+    /// Decodes the value of a member, under its name.
+    #[cycle(decode)]
+    fn decode_pair(&self, alloc: Global, value: &Desc, member: &Member) -> Result<Pair, Stop>
+        requires { IsPart self.now.table.now self.now.whole.now value.now }
+        ensures { Tells result
+            (told_entry self.now.table.now self.now.whole.now value.now member.now) }
+    {
+        match self.decode_at(alloc, value, &member.value) {
+            Ok(value) => Ok(Pair {
+                key: member.name.copy(alloc)?,
+                value,
+            }),
+            Err(stop) => Err(stop.below(Place::Name(member.name.copy(alloc)?))),
+        }
+    }
+
+    /// Decodes a struct.
     #[cycle(decode)]
     fn decode_struct(
+        &self,
+        alloc: Global,
+        fields: &[Field],
+        deny_unknown: bool,
+        json: &Json,
+    ) -> Result<Tree, Stop>
+        requires { AreFieldsOf self.now.table.now self.now.whole.now fields.now }
+        ensures { Tells result (struct_row self.now.table.now self.now.whole.now fields.now deny_unknown
+            (out-Json json.now)) }
+    {
+        match json {
+            Json::Object(members) => {
+                self.decode_members(alloc, fields, deny_unknown, members.as_slice())
+            }
+            _ => Err(Stop::refused(alloc, FaultKind::WrongKind)),
+        }
+    }
+
+    /// Decodes the fields, and then looks for unknown names where they are denied.
+    #[cycle(decode)]
+    fn decode_members(
         &self,
         alloc: Global,
         fields: &[Field],
@@ -130,7 +224,7 @@ impl Scope<'_> {
         ensures { Tells result
             (told_struct self.now.table.now self.now.whole.now fields.now deny_unknown members.now) }
     {
-        let members = Members::new(members);
+        let members = Members::new(alloc, members)?;
         let tree = self.decode_fields(alloc, fields, &members)?;
         match members.denied_name(alloc, deny_unknown, fields)? {
             Some(name) => {
@@ -143,7 +237,7 @@ impl Scope<'_> {
 
     /// Decodes each field in order.
     #[cycle(decode)]
-    fn decode_fields(
+    pub(crate) fn decode_fields(
         &self,
         alloc: Global,
         fields: &[Field],

@@ -20,7 +20,14 @@ pub enum IntKind {
 #[derive(Drop)]
 #[cycle(desc)]
 pub enum Desc {
+    /// Every value.
+    Any,
+    /// No value.
+    Never,
+    Null,
     Bool,
+    /// A text of one character.
+    Char,
     Int {
         kind: IntKind,
         min: Option<i128>,
@@ -31,6 +38,10 @@ pub enum Desc {
         max: Option<u32>,
         format: Option<Text>,
     },
+    /// One of some names.
+    Enumeration {
+        names: List<Named>,
+    },
     /// `null`, or a value of the inner type.
     Option(Boxed<Desc>),
     List {
@@ -38,9 +49,21 @@ pub enum Desc {
         min: Option<u32>,
         max: Option<u32>,
     },
+    /// An object whose values are all of the inner type.
+    Map(Boxed<Desc>),
     Struct {
         fields: List<Field>,
         deny_unknown: bool,
+    },
+    /// The name of a variant without payload, or an object of one member, whose name is that of a variant and
+    /// whose value is of its payload.
+    External {
+        variants: List<Variant>,
+    },
+    /// An object in which the member `tag` names a variant, beside the fields of that variant.
+    Tagged {
+        tag: Text,
+        variants: List<TaggedVariant>,
     },
     /// The first alternative that takes the value.
     Untagged {
@@ -50,7 +73,32 @@ pub enum Desc {
     Ref(Text),
 }
 
-/// A field of a struct.
+/// A name of an enumeration.
+#[derive(Drop)]
+pub struct Named {
+    pub name: Text,
+    pub description: Option<Text>,
+}
+
+/// A variant of an external enumeration, with its payload if it has one.
+#[derive(Drop)]
+#[cycle(desc)]
+pub struct Variant {
+    pub name: Text,
+    pub description: Option<Text>,
+    pub payload: Option<Desc>,
+}
+
+/// A variant of a tagged enumeration. Its fields stand beside the tag.
+#[derive(Drop)]
+#[cycle(desc)]
+pub struct TaggedVariant {
+    pub name: Text,
+    pub description: Option<Text>,
+    pub fields: List<Field>,
+}
+
+/// A field of a struct, or of a tagged variant.
 #[derive(Drop)]
 #[cycle(desc)]
 pub struct Field {
@@ -78,12 +126,19 @@ impl Desc {
         ensures { IfOk result (λ copy. copy ≡ self.now) }
     {
         match self {
+            Desc::Any => Ok(Desc::Any),
+            Desc::Never => Ok(Desc::Never),
+            Desc::Null => Ok(Desc::Null),
             Desc::Bool => Ok(Desc::Bool),
+            Desc::Char => Ok(Desc::Char),
             Desc::Int { kind, min, max } => Ok(copy_int(*kind, min, max)),
             Desc::Text { min, max, format } => Ok(Desc::Text {
                 min: *min,
                 max: *max,
                 format: copy_text(alloc, format)?,
+            }),
+            Desc::Enumeration { names } => Ok(Desc::Enumeration {
+                names: copy_names(alloc, names.as_slice())?,
             }),
             Desc::Option(inner) => Ok(Desc::Option(inner.get().copy_boxed(alloc)?)),
             Desc::List { item, min, max } => Ok(Desc::List {
@@ -91,12 +146,20 @@ impl Desc {
                 min: *min,
                 max: *max,
             }),
+            Desc::Map(value) => Ok(Desc::Map(value.get().copy_boxed(alloc)?)),
             Desc::Struct {
                 fields,
                 deny_unknown,
             } => Ok(Desc::Struct {
                 fields: copy_fields(alloc, fields.as_slice())?,
                 deny_unknown: *deny_unknown,
+            }),
+            Desc::External { variants } => Ok(Desc::External {
+                variants: copy_variants(alloc, variants.as_slice())?,
+            }),
+            Desc::Tagged { tag, variants } => Ok(Desc::Tagged {
+                tag: tag.copy(alloc)?,
+                variants: copy_tagged(alloc, variants.as_slice())?,
             }),
             Desc::Untagged { alternatives } => Ok(Desc::Untagged {
                 alternatives: copy_descs(alloc, alternatives.as_slice())?,
@@ -113,6 +176,49 @@ impl Desc {
     }
 }
 
+impl Named {
+    /// A name equal to this one.
+    pub fn copy(&self, alloc: Global) -> Result<Named, AllocError>
+        ensures { IfOk result (λ copy. copy ≡ self.now) }
+    {
+        Ok(Named {
+            name: self.name.copy(alloc)?,
+            description: copy_text(alloc, &self.description)?,
+        })
+    }
+}
+
+impl Variant {
+    /// A variant equal to this one.
+    #[cycle(copy)]
+    pub fn copy(&self, alloc: Global) -> Result<Variant, AllocError>
+        ensures { IfOk result (λ copy. copy ≡ self.now) }
+    {
+        Ok(Variant {
+            name: self.name.copy(alloc)?,
+            description: copy_text(alloc, &self.description)?,
+            payload: match &self.payload {
+                Some(payload) => Some(payload.copy(alloc)?),
+                None => None,
+            },
+        })
+    }
+}
+
+impl TaggedVariant {
+    /// A variant equal to this one.
+    #[cycle(copy)]
+    pub fn copy(&self, alloc: Global) -> Result<TaggedVariant, AllocError>
+        ensures { IfOk result (λ copy. copy ≡ self.now) }
+    {
+        Ok(TaggedVariant {
+            name: self.name.copy(alloc)?,
+            description: copy_text(alloc, &self.description)?,
+            fields: copy_fields(alloc, self.fields.as_slice())?,
+        })
+    }
+}
+
 impl Field {
     /// A field equal to this one.
     #[cycle(copy)]
@@ -126,6 +232,38 @@ impl Field {
             description: copy_text(alloc, &self.description)?,
         })
     }
+}
+
+fn copy_names(alloc: Global, names: &[Named]) -> Result<List<Named>, AllocError>
+    ensures { IfOk result (λ copies. copies ≡ names.now) }
+{
+    let mut copies = List::new(alloc);
+    for name in names {
+        copies.push(name.copy(alloc)?)?;
+    }
+    Ok(copies)
+}
+
+#[cycle(copy)]
+fn copy_variants(alloc: Global, variants: &[Variant]) -> Result<List<Variant>, AllocError>
+    ensures { IfOk result (λ copies. copies ≡ variants.now) }
+{
+    let mut copies = List::new(alloc);
+    for variant in variants {
+        copies.push(variant.copy(alloc)?)?;
+    }
+    Ok(copies)
+}
+
+#[cycle(copy)]
+fn copy_tagged(alloc: Global, variants: &[TaggedVariant]) -> Result<List<TaggedVariant>, AllocError>
+    ensures { IfOk result (λ copies. copies ≡ variants.now) }
+{
+    let mut copies = List::new(alloc);
+    for variant in variants {
+        copies.push(variant.copy(alloc)?)?;
+    }
+    Ok(copies)
 }
 
 #[cycle(copy)]

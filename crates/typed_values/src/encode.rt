@@ -1,4 +1,4 @@
-ghost use Rattle.std.specs.Prelude.{◌≡◌, map, IfOk};
+ghost use Rattle.std.specs.Prelude.{◌≡◌, ◌++◌, map, IfOk};
 ghost use Rattle.schema_values.specs.Sound.{IsSound};
 ghost use Rattle.typed_values.specs.declared.tree.Tree.{Tree, out-Tree};
 ghost use Rattle.typed_values.specs.Checks.{TablePasses, DescPasses};
@@ -10,15 +10,15 @@ ghost use Rattle.typed_values.specs.Parts.{IsPart};
 ghost use Rattle.typed_values.specs.Reached.{ReachesNoUntagged};
 ghost use Rattle.typed_values.specs.Rows.{AreParts, AreFieldsOf};
 
-use crate::desc::{Desc, Field, Presence};
+use crate::desc::{Desc, Field, Named, Presence};
 use crate::scope::Scope;
 use crate::table::DescTable;
-use crate::tree::Tree;
+use crate::tree::{Pair, Tree};
 use schema_values::{Json, List, Member};
 use std::alloc::{AllocError, Global};
 
 /// The JSON of a tree of a descriptor, which denotes that very tree where no untagged union is reached.
-/// Fields stand in the order in which they are declared.
+/// Fields stand in the order in which they are declared, and the members of a map in that of its keys.
 pub fn encode_json(
     alloc: Global,
     table: &DescTable,
@@ -48,6 +48,27 @@ fn encode_scalar(alloc: Global, tree: &Tree) -> Result<Json, AllocError>
     }
 }
 
+fn encode_whole(alloc: Global, tree: &Tree) -> Result<Json, AllocError>
+    ensures { IfOk result (λ json. json ≡ meant.whole_written (out-Tree tree.now)) }
+{
+    match tree {
+        Tree::Any(json) => json.copy(alloc),
+        _ => Ok(Json::Null),
+    }
+}
+
+fn encode_name(alloc: Global, names: &[Named], tree: &Tree) -> Result<Json, AllocError>
+    ensures { IfOk result (λ json. json ≡ meant.listed_written names.now (out-Tree tree.now)) }
+{
+    match tree {
+        Tree::Variant(place, _) => match names.get(*place as usize) {
+            Some(named) => Ok(Json::Text(named.name.copy(alloc)?)),
+            None => Ok(Json::Null),
+        },
+        _ => Ok(Json::Null),
+    }
+}
+
 fn is_left_out(presence: Presence, tree: &Tree) -> bool
     ensures { result ≡ meant.is_left_out presence (meant.is_none_level (out-Tree tree.now)) }
 {
@@ -69,16 +90,31 @@ fn is_none(tree: &Tree) -> bool
 // A tree that fits has the form that its descriptor asks for. Any other is written as null.
 impl Scope<'_> {
     #[cycle(encode)]
-    fn encode_at(&self, alloc: Global, desc: &Desc, tree: &Tree) -> Result<Json, AllocError>
+    pub(crate) fn encode_at(
+        &self,
+        alloc: Global,
+        desc: &Desc,
+        tree: &Tree,
+    ) -> Result<Json, AllocError>
         requires { IsPart self.now.table.now self.now.whole.now desc.now }
         ensures { IfOk result
             (λ json. json ≡ written_under self.now.table.now self.now.whole.now tree.now desc.now) }
     {
         match desc {
-            Desc::Bool | Desc::Int { .. } | Desc::Text { .. } => encode_scalar(alloc, tree),
+            Desc::Any => encode_whole(alloc, tree),
+            Desc::Never | Desc::Null => Ok(Json::Null),
+            Desc::Bool | Desc::Char | Desc::Int { .. } | Desc::Text { .. } => {
+                encode_scalar(alloc, tree)
+            }
+            Desc::Enumeration { names } => encode_name(alloc, names.as_slice(), tree),
             Desc::Option(inner) => self.encode_option(alloc, inner.get(), tree),
             Desc::List { item, .. } => self.encode_list(alloc, item.get(), tree),
+            Desc::Map(value) => self.encode_map(alloc, value.get(), tree),
             Desc::Struct { fields, .. } => self.encode_struct(alloc, fields.as_slice(), tree),
+            Desc::External { variants } => self.encode_external(alloc, variants.as_slice(), tree),
+            Desc::Tagged { tag, variants } => {
+                self.encode_tagged(alloc, tag, variants.as_slice(), tree)
+            }
             Desc::Untagged { alternatives } => {
                 self.encode_choice(alloc, alternatives.as_slice(), tree)
             }
@@ -132,6 +168,42 @@ impl Scope<'_> {
     }
 
     #[cycle(encode)]
+    fn encode_map(&self, alloc: Global, value: &Desc, tree: &Tree) -> Result<Json, AllocError>
+        requires { IsPart self.now.table.now self.now.whole.now value.now }
+        ensures { IfOk result (λ json. json ≡ meant.entries_written
+            (λ t. written_under self.now.table.now self.now.whole.now t value.now) (out-Tree tree.now)) }
+    {
+        match tree {
+            Tree::Map(pairs) => Ok(Json::Object(self.encode_pairs(
+                alloc,
+                value,
+                pairs.as_slice(),
+            )?)),
+            _ => Ok(Json::Null),
+        }
+    }
+
+    #[cycle(encode)]
+    fn encode_pairs(
+        &self,
+        alloc: Global,
+        value: &Desc,
+        pairs: &[Pair],
+    ) -> Result<List<Member>, AllocError>
+        requires { IsPart self.now.table.now self.now.whole.now value.now }
+        ensures { IfOk result (λ members. members ≡ map (meant.pair_written
+            (λ t. written_under self.now.table.now self.now.whole.now t value.now)) pairs.now) }
+    {
+        let mut members = List::new(alloc);
+        for pair in pairs {
+            let name = pair.key.copy(alloc)?;
+            let value = self.encode_at(alloc, value, &pair.value)?;
+            members.push(Member { name, value })?;
+        }
+        Ok(members)
+    }
+
+    #[cycle(encode)]
     fn encode_struct(
         &self,
         alloc: Global,
@@ -143,28 +215,28 @@ impl Scope<'_> {
             (written_under self.now.table.now self.now.whole.now) fields.now (out-Tree tree.now)) }
     {
         match tree {
-            Tree::Fields(trees) => Ok(Json::Object(self.encode_fields(
-                alloc,
-                fields,
-                trees.as_slice(),
-            )?)),
+            Tree::Fields(trees) => {
+                let members = List::new(alloc);
+                Ok(Json::Object(self.encode_fields(alloc, members, fields, trees.as_slice())?))
+            }
             _ => Ok(Json::Null),
         }
     }
 
+    /// The members of some fields, behind those that are given.
     #[cycle(encode)]
-    fn encode_fields(
+    pub(crate) fn encode_fields(
         &self,
         alloc: Global,
+        mut members: List<Member>,
         fields: &[Field],
         trees: &[Tree],
     ) -> Result<List<Member>, AllocError>
         requires { AreFieldsOf self.now.table.now self.now.whole.now fields.now }
-        ensures { IfOk result (λ members. members ≡ meant.members_written
+        ensures { IfOk result (λ all. all ≡ members ++ meant.members_written
             (λ t. meant.is_none_level (out-Tree t))
             (written_under self.now.table.now self.now.whole.now) fields.now trees.now) }
     {
-        let mut members = List::new(alloc);
         for (field, tree) in fields.iter().zip(trees) {
             if !is_left_out(field.presence, tree) {
                 let value = self.encode_field(alloc, field, tree)?;

@@ -11,6 +11,8 @@ pub enum FaultKind {
     WrongKind,
     OutOfRange,
     BadLength,
+    /// A text that is none of the names.
+    NotListed,
     NoAlternative,
     NotJson,
 }
@@ -33,6 +35,7 @@ impl FaultKind {
             FaultKind::WrongKind => Ok(FaultKind::WrongKind),
             FaultKind::OutOfRange => Ok(FaultKind::OutOfRange),
             FaultKind::BadLength => Ok(FaultKind::BadLength),
+            FaultKind::NotListed => Ok(FaultKind::NotListed),
             FaultKind::NoAlternative => Ok(FaultKind::NoAlternative),
             FaultKind::NotJson => Ok(FaultKind::NotJson),
         }

@@ -18,6 +18,7 @@ impl FaultKind {
             FaultKind::WrongKind => Text::from_ascii(alloc, "invalid type"),
             FaultKind::OutOfRange => Text::from_ascii(alloc, "value out of range"),
             FaultKind::BadLength => Text::from_ascii(alloc, "length out of range"),
+            FaultKind::NotListed => Text::from_ascii(alloc, "unknown variant"),
             FaultKind::NoAlternative => Text::from_ascii(alloc, "no alternative fits"),
             FaultKind::NotJson => Text::from_ascii(alloc, "not JSON"),
         }

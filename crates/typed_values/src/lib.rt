@@ -4,9 +4,12 @@
 mod bounds;
 mod check;
 mod decode;
+mod decode_variants;
 mod desc;
 mod encode;
+mod encode_variants;
 mod equal;
+mod equal_trees;
 mod fault;
 mod fault_text;
 mod fitting;
@@ -19,24 +22,22 @@ mod parts;
 mod path;
 mod ranges;
 mod scalars;
+mod schema_names;
 mod schema_parts;
 mod schema_rows;
+mod schema_variants;
 mod schemas;
 mod scope;
 mod search;
 mod table;
-#[cfg(test)]
-mod tests;
 mod tree;
-#[cfg(test)]
-mod tree_tests;
 
 pub use check::{TableError, check_desc, check_table};
 pub use decode::decode_json;
-pub use desc::{Desc, Field, IntKind, Presence};
+pub use desc::{Desc, Field, IntKind, Named, Presence, TaggedVariant, Variant};
 pub use encode::encode_json;
 pub use fault::{DecodeError, Fault, FaultKind};
 pub use fitting::fits;
 pub use schemas::{SchemaPlace, schema_of, schema_of_definition};
 pub use table::{AddError, Added, Definition, DescTable};
-pub use tree::Tree;
+pub use tree::{Pair, Tree};

@@ -1,11 +1,16 @@
-ghost use Rattle.std.specs.Prelude.{◌≡◌, ◌≤◌, ◌∷◌, ◌++◌, length, take, drop, OnOk};
-ghost use Rattle.typed_values.specs.Order.{inserted_by};
+ghost use Rattle.std.specs.Prelude.{◌≡◌, map, option_map, IfOk, OnOk};
+ghost use Rattle.std.specs.Cmp.Lexicographic.{slice_cmp};
+ghost use Rattle.std.specs.List.Sorted.{IsSortedByKey};
+ghost use Rattle.std.specs.Ordering.{nat_cmp};
+ghost use Rattle.typed_values.specs.Denotes.{named_from};
+ghost use Rattle.typed_values.specs.Order.{first_by, sorted_by};
 
-use schema_values::{Property, Text};
-use std::alloc::AllocError;
+use crate::desc::{Field, Named, TaggedVariant, Variant};
+use schema_values::{Member, Property, Text};
+use std::alloc::{AllocError, Global};
 
 /// What has a name.
-pub(crate) trait Named {
+pub(crate) trait HasName {
     ghost use Rattle.std.specs.Prelude.{◌≡◌, List, ℕ};
 
     ghost name_of: { Self → List ℕ };
@@ -14,7 +19,7 @@ pub(crate) trait Named {
         ensures { result.now ≡ name_of self.now };
 }
 
-impl Named for Property {
+impl HasName for Property {
     ghost use Rattle.typed_values.specs.Schemas.{property_name};
 
     ghost name_of = { property_name };
@@ -24,7 +29,7 @@ impl Named for Property {
     }
 }
 
-impl Named for Text {
+impl HasName for Text {
     ghost use Rattle.typed_values.specs.SchemaTable.{same_name};
 
     ghost name_of = { same_name };
@@ -34,25 +39,110 @@ impl Named for Text {
     }
 }
 
-/// Inserts an item before the first whose name is not lesser.
-pub(crate) fn insert_by_name<T: Named + Drop>(items: &mut Vec<T>, item: T) -> Result<(), AllocError>
-    ensures { OnOk result (items.new.items ≡ inserted_by T.name_of item items.old.items) }
-{
-    let place = place_of(items, &item);
-    items.insert(place, item)?;
-    Ok(())
+impl HasName for Field {
+    ghost use Rattle.typed_values.specs.Definitions.{field_name};
+
+    ghost name_of = { field_name };
+
+    fn name(&self) -> &Text {
+        &self.name
+    }
 }
 
-/// The place of the first item whose name is not lesser than that of another, else the end.
-fn place_of<T: Named>(items: &[T], item: &T) -> usize
-    ensures within { result ≤ length items.now }
-    ensures place { inserted_by T.name_of item.now items.now ≡ take result items.now ++ item.now ∷ drop result
-        items.now }
+impl HasName for Named {
+    ghost use Rattle.typed_values.specs.Definitions.{listed_name};
+
+    ghost name_of = { listed_name };
+
+    fn name(&self) -> &Text {
+        &self.name
+    }
+}
+
+impl HasName for Variant {
+    ghost use Rattle.typed_values.specs.Definitions.{variant_name};
+
+    ghost name_of = { variant_name };
+
+    fn name(&self) -> &Text {
+        &self.name
+    }
+}
+
+impl HasName for TaggedVariant {
+    ghost use Rattle.typed_values.specs.Definitions.{tagged_name};
+
+    ghost name_of = { tagged_name };
+
+    fn name(&self) -> &Text {
+        &self.name
+    }
+}
+
+impl HasName for Member {
+    ghost use Rattle.schema_values.specs.Member as member;
+
+    ghost name_of = { member.name_of };
+
+    fn name(&self) -> &Text {
+        &self.name
+    }
+}
+
+impl<T: HasName> HasName for &T {
+    ghost name_of = { λ item. T.name_of item.now };
+
+    fn name(&self) -> &Text {
+        (**self).name()
+    }
+}
+
+/// The first item of a name, and its place.
+pub(crate) fn find_named<'a, T: HasName>(items: &'a [T], name: &Text) -> Option<(usize, &'a T)>
+    ensures { option_map (λ found. (found.0, found.1.now)) result
+        ≡ named_from T.name_of 0 items.now name.now }
 {
-    for (place, other) in items.iter().enumerate() {
-        if item.name() <= other.name() {
-            return place;
+    for (place, item) in items.iter().enumerate() {
+        if item.name().equals(name) {
+            return Some((place, item));
         }
     }
-    items.len()
+    None
+}
+
+/// Puts items in the order of their names. Those of one name keep their order.
+pub(crate) fn sort_by_name<T: HasName + Drop>(items: &mut Vec<T>) -> Result<(), AllocError>
+    ensures { OnOk result (items.new.items ≡ sorted_by T.name_of items.old.items) }
+{
+    items.sort_by(|first, second| first.name().cmp(second.name()))
+}
+
+/// The items in the order of their names, in one pass where they stand in it, as the members of a value that
+/// was read do.
+pub(crate) fn in_order<T: HasName>(alloc: Global, items: &[T]) -> Result<Vec<&T>, AllocError>
+    ensures { IfOk result (λ ordered. map (λ item. item.now) ordered.items ≡ sorted_by T.name_of items.now) }
+{
+    let mut ordered = Vec::with_capacity(alloc, items.len())?;
+    for item in items {
+        ordered.push(item)?;
+    }
+    sort_by_name(&mut ordered)?;
+    Ok(ordered)
+}
+
+/// The first item of a name, by halves among items in the order of their names.
+pub(crate) fn first_named<'a, T: HasName>(ordered: &[&'a T], name: &Text) -> Option<&'a T>
+    requires { IsSortedByKey T.name_of (slice_cmp nat_cmp) (map (λ item. item.now) ordered.now) }
+    ensures { option_map (λ item. item.now) result
+        ≡ first_by T.name_of (map (λ item. item.now) ordered.now) name.now }
+{
+    let place = ordered.partition_point(|item| item.name() < name);
+    let Some(item) = ordered.get(place) else {
+        return None;
+    };
+    if item.name().equals(name) {
+        Some(*item)
+    } else {
+        None
+    }
 }

@@ -1,11 +1,14 @@
 // Whether what an error tells holds of a descriptor that stands in another.
-ghost use Rattle.std.specs.Prelude.{◌↔◌, IsTrue, Contains};
+ghost use Rattle.std.specs.Prelude.{◌≡◌, ◌↔◌, IsTrue, Some, Contains};
 ghost use Rattle.typed_values.specs.declared.desc.Desc.{Desc};
 ghost use Rattle.typed_values.specs.declared.desc.Field.{Field};
+ghost use Rattle.typed_values.specs.declared.desc.TaggedVariant.{TaggedVariant};
+ghost use Rattle.typed_values.specs.declared.desc.Variant.{Variant};
 ghost use Rattle.typed_values.specs.Causes.{AppliesToDesc};
+ghost use Rattle.typed_values.specs.Definitions.{tagged_fields};
 
 use crate::check::TableError;
-use crate::desc::{Desc, Field};
+use crate::desc::{Desc, Field, TaggedVariant, Variant};
 use crate::flaws::tells;
 use crate::table::DescTable;
 
@@ -20,7 +23,10 @@ pub(crate) fn applies(error: TableError, table: &DescTable, desc: &Desc) -> bool
     match desc {
         Desc::Option(inner) => applies(error, table, inner.get()),
         Desc::List { item, .. } => applies(error, table, item.get()),
+        Desc::Map(value) => applies(error, table, value.get()),
         Desc::Struct { fields, .. } => applies_to_some_field(error, table, fields.as_slice()),
+        Desc::External { variants } => applies_to_some_payload(error, table, variants.as_slice()),
+        Desc::Tagged { variants, .. } => applies_to_some_variant(error, table, variants.as_slice()),
         Desc::Untagged { alternatives } => applies_to_some(error, table, alternatives.as_slice()),
         _ => false,
     }
@@ -33,6 +39,34 @@ fn applies_to_some_field(error: TableError, table: &DescTable, fields: &[Field])
 {
     for field in fields {
         if applies(error, table, &field.desc) {
+            return true;
+        }
+    }
+    false
+}
+
+#[cycle(applies)]
+fn applies_to_some_payload(error: TableError, table: &DescTable, variants: &[Variant]) -> bool
+    ensures { IsTrue result ↔ ((v : Variant) × (d : Desc) × Contains variants.now v × (v.payload ≡ Some d)
+        × AppliesToDesc table.now d error.entry) }
+{
+    for variant in variants {
+        if let Some(payload) = &variant.payload {
+            if applies(error, table, payload) {
+                return true;
+            }
+        }
+    }
+    false
+}
+
+#[cycle(applies)]
+fn applies_to_some_variant(error: TableError, table: &DescTable, variants: &[TaggedVariant]) -> bool
+    ensures { IsTrue result ↔ ((v : TaggedVariant) × (f : Field) × Contains variants.now v
+        × Contains (tagged_fields v) f × AppliesToDesc table.now f.desc error.entry) }
+{
+    for variant in variants {
+        if applies_to_some_field(error, table, variant.fields.as_slice()) {
             return true;
         }
     }

@@ -15,6 +15,9 @@ pub(crate) fn are_bounds_right(desc: &Desc) -> bool
         }
         Desc::Text { min, max, .. } => is_length_order(*min, *max),
         Desc::List { min, max, .. } => is_length_order(*min, *max),
+        Desc::Enumeration { names } => names.len() <= 0x1_0000_0000,
+        Desc::External { variants } => variants.len() <= 0x1_0000_0000,
+        Desc::Tagged { variants, .. } => variants.len() <= 0x1_0000_0000,
         Desc::Untagged { alternatives } => alternatives.len() <= 0x1_0000_0000,
         _ => true,
     }

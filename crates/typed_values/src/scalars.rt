@@ -1,13 +1,47 @@
+ghost use Rattle.std.specs.Prelude.{◌≤◌, length};
 ghost use Rattle.schema_values.specs.declared.json_value.Json.{out-Json};
 ghost use Rattle.typed_values.specs.Answer.{Tells};
-ghost use Rattle.typed_values.specs.Denotes.{truth, number, words};
+ghost use Rattle.typed_values.specs.Denotes.{nought, truth, character, number, words, one_of_names};
 
 use crate::bounds::{character_count, is_length_within, is_number_of};
-use crate::desc::IntKind;
+use crate::desc::{IntKind, Named};
 use crate::fault::{FaultKind, Stop};
+use crate::order::find_named;
 use crate::tree::Tree;
-use schema_values::Json;
+use schema_values::{Boxed, Json};
 use std::alloc::Global;
+
+pub(crate) fn decode_null(alloc: Global, json: &Json) -> Result<Tree, Stop>
+    ensures { Tells result (nought (out-Json json.now)) }
+{
+    match json {
+        Json::Null => Ok(Tree::Unit),
+        _ => Err(Stop::refused(alloc, FaultKind::WrongKind)),
+    }
+}
+
+pub(crate) fn decode_char(alloc: Global, json: &Json) -> Result<Tree, Stop>
+    ensures { Tells result (character (out-Json json.now)) }
+{
+    match json {
+        Json::Text(text) if character_count(text) == 1 => Ok(Tree::Text(text.copy(alloc)?)),
+        Json::Text(_) => Err(Stop::refused(alloc, FaultKind::BadLength)),
+        _ => Err(Stop::refused(alloc, FaultKind::WrongKind)),
+    }
+}
+
+pub(crate) fn decode_name(alloc: Global, names: &[Named], json: &Json) -> Result<Tree, Stop>
+    requires few { length names.now ≤ 4294967296 }
+    ensures { Tells result (one_of_names names.now (out-Json json.now)) }
+{
+    match json {
+        Json::Text(text) => match find_named(names, text) {
+            Some((place, _)) => Ok(Tree::Variant(place as u32, Boxed::new(alloc, Tree::Unit)?)),
+            None => Err(Stop::refused(alloc, FaultKind::NotListed)),
+        },
+        _ => Err(Stop::refused(alloc, FaultKind::WrongKind)),
+    }
+}
 
 pub(crate) fn decode_bool(alloc: Global, json: &Json) -> Result<Tree, Stop>
     ensures { Tells result (truth (out-Json json.now)) }

@@ -1,6 +1,7 @@
 ghost use Rattle.std.specs.Prelude.{◌≡◌, IfOk};
 ghost use Rattle.schema_values.specs.declared.schema.Schema.{Object};
 ghost use Rattle.schema_values.specs.declared.schema.SchemaObject.{out-SchemaObject};
+ghost use Rattle.schema_values.specs.declared.schema.Subschemas.{out-Subschemas};
 ghost use Rattle.typed_values.specs.Schemas as meant;
 
 use schema_values::{
@@ -24,12 +25,24 @@ pub(crate) fn no_parts() -> SchemaObject
         nullable: false,
         instance_type: None,
         format: None,
+        enum_values: None,
         subschemas: None,
         number: None,
         string: None,
         array: None,
         object: None,
         reference: None,
+    }
+}
+
+pub(crate) fn no_subschemas() -> Subschemas
+    ensures { out-Subschemas result ≡ meant.no_subschemas }
+{
+    Subschemas {
+        all_of: None,
+        any_of: None,
+        one_of: None,
+        not: None,
     }
 }
 
@@ -52,10 +65,9 @@ fn annotatable(alloc: Global, parts: SchemaObject) -> Result<SchemaObject, Alloc
     let mut all_of = List::new(alloc);
     all_of.push(object_of(alloc, parts)?)?;
     let mut annotated = no_parts();
-    annotated.subschemas = Some(Subschemas {
-        all_of: Some(all_of),
-        any_of: None,
-    });
+    let mut subschemas = no_subschemas();
+    subschemas.all_of = Some(all_of);
+    annotated.subschemas = Some(subschemas);
     Ok(annotated)
 }
 

@@ -1,14 +1,13 @@
-ghost use Rattle.std.specs.Prelude.{◌≡◌, IfOk};
+ghost use Rattle.std.specs.Prelude.{◌≡◌, IfOk, false};
 ghost use Rattle.schema_values.specs.declared.schema.SchemaObject.{out-SchemaObject};
 ghost use Rattle.typed_values.specs.SchemaTable as table;
 ghost use Rattle.typed_values.specs.Schemas as meant;
 ghost use Rattle.typed_values.specs.declared.desc.Desc.TheOpen.{Desc-F};
 
 use crate::desc::{IntKind, copy_text};
-use crate::schema_parts::{length_bounds, no_parts, number_bounds, of_single};
+use crate::schema_parts::{length_bounds, no_parts, no_subschemas, number_bounds, of_single};
 use schema_values::{
-    ArrayParts, InstanceType, Items, List, ObjectParts, Property, Schema, SchemaObject, Subschemas,
-    Text,
+    ArrayParts, InstanceType, Items, List, ObjectParts, Property, Schema, SchemaObject, Text,
 };
 use std::alloc::{AllocError, Global};
 
@@ -40,14 +39,47 @@ fn least_shown(kind: IntKind, min: &Option<i128>) -> Option<i128>
     }
 }
 
+/// `not` of every value.
+pub(crate) fn never_parts() -> SchemaObject
+    ensures { out-SchemaObject result ≡ (meant.all_or_none false).parts }
+{
+    let mut subschemas = no_subschemas();
+    subschemas.not = Some(Schema::Bool(true));
+    let mut parts = no_parts();
+    parts.subschemas = Some(subschemas);
+    parts
+}
+
+/// A text of one character.
+pub(crate) fn char_parts() -> SchemaObject
+    ensures { out-SchemaObject result ≡ (meant.sketch_step Desc-F.Char).parts }
+{
+    let mut parts = of_single(InstanceType::String);
+    parts.string = length_bounds(Some(1), Some(1));
+    parts
+}
+
+/// An object whose values are all of a schema.
+pub(crate) fn map_parts(alloc: Global, values: Schema) -> SchemaObject
+    ensures { out-SchemaObject result ≡ meant.map_of values }
+{
+    let mut parts = of_single(InstanceType::Object);
+    parts.object = Some(ObjectParts {
+        properties: List::new(alloc),
+        required: List::new(alloc),
+        additional: Some(values),
+    });
+    parts
+}
+
 pub(crate) fn int_parts(
     alloc: Global,
     kind: IntKind,
     min: &Option<i128>,
     max: &Option<i128>,
 ) -> Result<SchemaObject, AllocError>
-    ensures { IfOk result (λ parts. out-SchemaObject parts ≡ meant.schema_step
-        (Desc-F.Int kind min.now max.now)) }
+    ensures { IfOk result (λ parts. out-SchemaObject parts
+        ≡ (meant.sketch_step (Desc-F.Int kind min.now max.now)).parts) }
 {
     let mut format = Text::new(alloc);
     format.push_ascii(format_of(kind))?;
@@ -63,8 +95,8 @@ pub(crate) fn text_parts(
     max: Option<u32>,
     format: &Option<Text>,
 ) -> Result<SchemaObject, AllocError>
-    ensures { IfOk result (λ parts. out-SchemaObject parts ≡ meant.schema_step
-        (Desc-F.Text min max format.now)) }
+    ensures { IfOk result (λ parts. out-SchemaObject parts
+        ≡ (meant.sketch_step (Desc-F.Text min max format.now)).parts) }
 {
     let mut parts = of_single(InstanceType::String);
     parts.format = copy_text(alloc, format)?;
@@ -108,15 +140,15 @@ pub(crate) fn choice_parts(alternatives: List<Schema>) -> SchemaObject
     ensures { out-SchemaObject result ≡ meant.choice_of alternatives }
 {
     let mut parts = no_parts();
-    parts.subschemas = Some(Subschemas {
-        all_of: None,
-        any_of: Some(alternatives),
-    });
+    let mut subschemas = no_subschemas();
+    subschemas.any_of = Some(alternatives);
+    parts.subschemas = Some(subschemas);
     parts
 }
 
 pub(crate) fn ref_parts(alloc: Global, name: &Text) -> Result<SchemaObject, AllocError>
-    ensures { IfOk result (λ parts. out-SchemaObject parts ≡ meant.schema_step (Desc-F.Ref name.now)) }
+    ensures { IfOk result (λ parts. out-SchemaObject parts
+        ≡ (meant.sketch_step (Desc-F.Ref name.now)).parts) }
 {
     let mut reference = Text::new(alloc);
     reference.push_ascii("#/components/schemas/")?;

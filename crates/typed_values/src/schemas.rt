@@ -1,17 +1,21 @@
-ghost use Rattle.std.specs.Prelude.{◌≡◌, map, IfOk};
+ghost use Rattle.std.specs.Prelude.{◌≡◌, ◌++◌, map, IfOk};
 ghost use Rattle.schema_values.specs.declared.schema.SchemaObject.{out-SchemaObject};
 ghost use Rattle.typed_values.specs.declared.schemas.SchemaPlace.TheVariants.{Plain, Header};
 ghost use Rattle.typed_values.specs.Order.{sorted_by};
 ghost use Rattle.typed_values.specs.SchemaTable.{same_name};
 ghost use Rattle.typed_values.specs.Schemas as meant;
-ghost use Rattle.typed_values.specs.Schemas.{schema_value, schema_parts, definition_value, in_header};
+ghost use Rattle.typed_values.specs.Schemas.{schema_value, schema_sketch, schema_parts};
+ghost use Rattle.typed_values.specs.Schemas.{definition_value, in_header};
 
 use crate::desc::{Desc, Field, Presence};
-use crate::order::insert_by_name;
-use crate::schema_parts::{object_of, of_single, with_description, with_null};
+use crate::order::sort_by_name;
+use crate::schema_names::enumeration_parts;
+use crate::schema_parts::{no_parts, object_of, of_single, with_description, with_null};
 use crate::schema_rows::{
-    choice_parts, int_parts, list_parts, ref_parts, struct_parts, text_parts,
+    char_parts, choice_parts, int_parts, list_parts, map_parts, never_parts, ref_parts,
+    struct_parts, text_parts,
 };
+use crate::schema_variants::{external_parts, tagged_parts};
 use crate::table::{Definition, DescTable};
 use schema_values::{InstanceType, List, Property, Schema, SchemaObject, Text};
 use std::alloc::{AllocError, Global};
@@ -58,30 +62,50 @@ fn schema_at(alloc: Global, desc: &Desc) -> Result<Schema, AllocError>
 }
 
 #[cycle(schema)]
-fn parts_of(alloc: Global, desc: &Desc) -> Result<SchemaObject, AllocError>
+pub(crate) fn parts_of(alloc: Global, desc: &Desc) -> Result<SchemaObject, AllocError>
     ensures { IfOk result (λ parts. out-SchemaObject parts ≡ schema_parts desc.now) }
 {
     match desc {
+        Desc::Any => Ok(no_parts()),
+        Desc::Never => Ok(never_parts()),
+        Desc::Null => Ok(of_single(InstanceType::Null)),
         Desc::Bool => Ok(of_single(InstanceType::Boolean)),
+        Desc::Char => Ok(char_parts()),
         Desc::Int { kind, min, max } => int_parts(alloc, *kind, min, max),
         Desc::Text { min, max, format } => text_parts(alloc, *min, *max, format),
+        Desc::Enumeration { names } => enumeration_parts(alloc, names.as_slice()),
         Desc::Option(inner) => with_null(alloc, parts_of(alloc, inner.get())?),
         Desc::List { item, min, max } => {
             let item = object_of(alloc, parts_of(alloc, item.get())?)?;
             Ok(list_parts(item, *min, *max))
         }
+        Desc::Map(value) => Ok(map_parts(alloc, other_members(alloc, value.get())?)),
         Desc::Struct {
             fields,
             deny_unknown,
         } => {
-            let properties = properties_of(alloc, fields.as_slice())?;
-            let required = required_names(alloc, fields.as_slice())?;
+            let properties = properties_of(alloc, Vec::new(alloc), fields.as_slice())?;
+            let required = required_names(alloc, Vec::new(alloc), fields.as_slice())?;
             Ok(struct_parts(properties, required, *deny_unknown))
         }
+        Desc::External { variants } => external_parts(alloc, variants.as_slice()),
+        Desc::Tagged { tag, variants } => tagged_parts(alloc, tag, variants.as_slice()),
         Desc::Untagged { alternatives } => {
             Ok(choice_parts(schemas_of(alloc, alternatives.as_slice())?))
         }
         Desc::Ref(name) => ref_parts(alloc, name),
+    }
+}
+
+/// The schema of the values of a map: a truth value for every value and for none.
+#[cycle(schema)]
+fn other_members(alloc: Global, desc: &Desc) -> Result<Schema, AllocError>
+    ensures { IfOk result (λ schema. schema ≡ meant.other_members (schema_sketch desc.now)) }
+{
+    match desc {
+        Desc::Any => Ok(Schema::Bool(true)),
+        Desc::Never => Ok(Schema::Bool(false)),
+        _ => object_of(alloc, parts_of(alloc, desc)?),
     }
 }
 
@@ -96,23 +120,27 @@ fn schemas_of(alloc: Global, descs: &[Desc]) -> Result<List<Schema>, AllocError>
     Ok(schemas)
 }
 
-/// The properties of fields, in the order of their names.
+/// Some properties and those of fields, in the order of their names.
 #[cycle(schema)]
-fn properties_of(alloc: Global, fields: &[Field]) -> Result<List<Property>, AllocError>
-    ensures { IfOk result (λ properties. properties ≡ sorted_by meant.property_name
-        (map meant.property_of (map meant.parts_of_field fields.now))) }
+pub(crate) fn properties_of(
+    alloc: Global,
+    mut properties: Vec<Property>,
+    fields: &[Field],
+) -> Result<List<Property>, AllocError>
+    ensures { IfOk result (λ all. all ≡ sorted_by meant.property_name
+        (properties.items ++ map meant.property_of (map meant.sketch_of_field fields.now))) }
 {
-    let mut properties = Vec::new(alloc);
     for field in fields {
         let parts = parts_of(alloc, &field.desc)?;
-        insert_by_name(&mut properties, property_of(alloc, field, parts)?)?;
+        properties.push(property_of(alloc, field, parts)?)?;
     }
+    sort_by_name(&mut properties)?;
     Ok(List::from_vec(properties))
 }
 
 fn property_of(alloc: Global, field: &Field, parts: SchemaObject) -> Result<Property, AllocError>
     ensures { out-SchemaObject parts ≡ schema_parts field.now.desc
-        → IfOk result (λ property. property ≡ meant.property_of (meant.parts_of_field field.now)) }
+        → IfOk result (λ property. property ≡ meant.property_of (meant.sketch_of_field field.now)) }
 {
     let parts = with_description(alloc, &field.description, parts)?;
     Ok(Property {
@@ -121,16 +149,20 @@ fn property_of(alloc: Global, field: &Field, parts: SchemaObject) -> Result<Prop
     })
 }
 
-/// The names of the fields that must be there, in order.
-fn required_names(alloc: Global, fields: &[Field]) -> Result<List<Text>, AllocError>
-    ensures { IfOk result (λ names. names ≡ sorted_by same_name
-        (meant.required_names (map meant.parts_of_field fields.now))) }
+/// Some names and those of the fields that must be there, in order.
+pub(crate) fn required_names(
+    alloc: Global,
+    mut names: Vec<Text>,
+    fields: &[Field],
+) -> Result<List<Text>, AllocError>
+    ensures { IfOk result (λ all. all ≡ sorted_by same_name
+        (names.items ++ meant.required_names (map meant.sketch_of_field fields.now))) }
 {
-    let mut names = Vec::new(alloc);
     for field in fields {
         if field.presence == Presence::Required {
-            insert_by_name(&mut names, field.name.copy(alloc)?)?;
+            names.push(field.name.copy(alloc)?)?;
         }
     }
+    sort_by_name(&mut names)?;
     Ok(List::from_vec(names))
 }

@@ -5,7 +5,7 @@ ghost use Rattle.std.specs.Option.{option_copied};
 ghost use Rattle.typed_values.specs.declared.desc.Desc.{Desc};
 ghost use Rattle.typed_values.specs.Checks.{TakesNull};
 ghost use Rattle.typed_values.specs.Guarded.{Names, LiesOnCycle};
-ghost use Rattle.typed_values.specs.Search.{HoldsOption, Meets, all_met, on_path, IsMet, IsDone, IsNext};
+ghost use Rattle.typed_values.specs.Search.{HoldsNull, Meets, all_met, on_path, IsMet, IsDone, IsNext};
 ghost use Rattle.typed_values.specs.Search.{IsSearch, SomeLeads};
 
 use crate::desc::Desc;
@@ -105,7 +105,7 @@ fn meets(sought: Sought, desc: &Desc) -> bool
 {
     match sought {
         Sought::Name(name) => names(desc, name),
-        Sought::Null => holds_option(desc),
+        Sought::Null => holds_null(desc),
     }
 }
 
@@ -134,24 +134,24 @@ fn some_names(alternatives: &[Desc], name: &Text) -> bool
     false
 }
 
-/// Whether an option stands in a descriptor, under alternatives alone.
-#[cycle(holds_option)]
-fn holds_option(desc: &Desc) -> bool
-    ensures { IsTrue result ↔ HoldsOption desc.now }
+/// Whether what takes null at once stands in a descriptor, under alternatives alone.
+#[cycle(holds_null)]
+fn holds_null(desc: &Desc) -> bool
+    ensures { IsTrue result ↔ HoldsNull desc.now }
 {
     match desc {
-        Desc::Option(_) => true,
-        Desc::Untagged { alternatives } => some_holds_option(alternatives.as_slice()),
+        Desc::Any | Desc::Null | Desc::Option(_) => true,
+        Desc::Untagged { alternatives } => some_holds_null(alternatives.as_slice()),
         _ => false,
     }
 }
 
-#[cycle(holds_option)]
-fn some_holds_option(alternatives: &[Desc]) -> bool
-    ensures { IsTrue result ↔ ((x : Desc) × Contains alternatives.now x × HoldsOption x) }
+#[cycle(holds_null)]
+fn some_holds_null(alternatives: &[Desc]) -> bool
+    ensures { IsTrue result ↔ ((x : Desc) × Contains alternatives.now x × HoldsNull x) }
 {
     for alternative in alternatives {
-        if holds_option(alternative) {
+        if holds_null(alternative) {
             return true;
         }
     }

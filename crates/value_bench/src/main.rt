@@ -1,6 +1,8 @@
 //! Decodes a JSON body under a descriptor and encodes its tree again, to be measured.
 #![tactic(auto)]
 
+ghost use Rattle.schema_values.specs.Sound.{IsSound};
+
 mod descriptors;
 
 use crate::descriptors::{definitions, descriptor};
@@ -24,12 +26,9 @@ enum Answer {
     NoDescriptor,
 }
 
-fn decoded(
-    alloc: Global,
-    table: &DescTable,
-    desc: &Desc,
-    json: &Json,
-) -> Result<Answer, AllocError> {
+fn decoded(alloc: Global, table: &DescTable, desc: &Desc, json: &Json) -> Result<Answer, AllocError>
+    requires { IsSound json.now }
+{
     if check_table(table).is_err() || check_desc(table, desc).is_err() {
         return Ok(Answer::NoDescriptor);
     }

@@ -63,15 +63,18 @@ written_under given p w d =
     ∙ ap (λ (t : Option (List ℕ)). Object (notes w.nullable given t ++ beside p)) d.same_description
     ∙ ap Object (sym (stands given p w d.stand))
 
+pub written_bare : (given : Option (List ℕ)) (p : Parts) (w : Drawn) → Bare p w → schema_json given (object_of p) ≡ drawn_json w
+written_bare given p w b = ap (λ (q : Parts). schema_json given (object_of q)) b.parts_are ∙ written_reference given b.name ∙ ap drawn_json (sym b.drawn_is)
+
 pub written_so : (p : Parts) (w : Drawn) → Shows p w → schema_json None (object_of p) ≡ drawn_json w
-written_so p w (inl b) = ap (λ (q : Parts). schema_json None (object_of q)) b.parts_are ∙ written_reference b.name ∙ ap drawn_json (sym b.drawn_is)
+written_so p w (inl b) = written_bare None p w b
 written_so p w (inr d) = written_under None p w d ∙ ap (λ (t : Option (List ℕ)). drawn_json (record w { title = t })) (sym d.no_title_drawn)
 
 -- ---- annotations
 
 -- parts that are no bare reference stay so under a further annotation
 module _ (p : Parts) (w : Drawn) where
-  null_dressed : Dressed p w → Dressed (record p { nullable = true }) (record w { nullable = true })
+  null_dressed : Dressed p w → Dressed (record p { nullable = true }) (record w { nullable = true; truth = None })
   null_dressed d = record {
     no_reference = d.no_reference;
     no_title = d.no_title;
@@ -80,7 +83,7 @@ module _ (p : Parts) (w : Drawn) where
     same_description = d.same_description;
     stand = null_stands d.stand;
   } where
-    null_stands : Stand p w → Stand (record p { nullable = true }) (record w { nullable = true })
+    null_stands : Stand p w → Stand (record p { nullable = true }) (record w { nullable = true; truth = None })
     null_stands (members_stand plain same) = members_stand plain same
     null_stands (reference_stands is noted same) = reference_stands is (inl refl) same
 
@@ -97,7 +100,7 @@ module _ (p : Parts) (w : Drawn) where
     text_stands (members_stand plain same) = members_stand plain same
     text_stands (reference_stands is noted same) = reference_stands is (inr (text, refl)) same
 
-null_reference : (name : List ℕ) → Dressed (with_null (of_reference name)) (record (reference name) { nullable = true })
+null_reference : (name : List ℕ) → Dressed (with_null (of_reference name)) (record (reference name) { nullable = true; truth = None })
 null_reference name = record {
   no_reference = refl;
   no_title = refl;
@@ -117,12 +120,12 @@ text_reference text name = record {
   stand = reference_stands refl (inr (text, refl)) (all_of_members name);
 }
 
-pub null_shows : (p : Parts) (w : Drawn) → Shows p w → Shows (with_null p) (record w { nullable = true })
+pub null_shows : (p : Parts) (w : Drawn) → Shows p w → Shows (with_null p) (record w { nullable = true; truth = None })
 null_shows p w (inl b) =
-    subst (λ (q : Parts). Shows (with_null q) (record w { nullable = true })) (sym b.parts_are)
-    (subst (λ (v : Drawn). Shows (with_null (of_reference b.name)) (record v { nullable = true })) (sym b.drawn_is) (inr (null_reference b.name)))
+    subst (λ (q : Parts). Shows (with_null q) (record w { nullable = true; truth = None })) (sym b.parts_are)
+    (subst (λ (v : Drawn). Shows (with_null (of_reference b.name)) (record v { nullable = true; truth = None })) (sym b.drawn_is) (inr (null_reference b.name)))
 null_shows p w (inr d) =
-    subst (λ (q : Parts). Shows (record q { nullable = true }) (record w { nullable = true })) (sym (kept p d.no_reference)) (inr (null_dressed p w d))
+    subst (λ (q : Parts). Shows (record q { nullable = true }) (record w { nullable = true; truth = None })) (sym (kept p d.no_reference)) (inr (null_dressed p w d))
 
 pub described_shows : (description : Option (List ℕ)) (p : Parts) (w : Drawn) → Shows p w → Shows (with_description description p) (described description w)
 described_shows None p w h = h

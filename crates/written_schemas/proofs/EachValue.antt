@@ -21,7 +21,7 @@ use Rattle.written_schemas.proofs.AtOneValue.{Agrees, Below}
 use Rattle.written_schemas.proofs.Agreement.{agree_at}
 use Rattle.written_schemas.proofs.Parts.{OfParts, by_parts}
 
-module _ (table : List Definition) (whole : Desc) (doc : Json) (q : ℕ) (passes : TablePasses table) (right : DescPasses table whole) (sound : IsSound table whole) (defines : DefinesReached doc table whole)
+module _ (table : List Definition) (whole : Desc) (doc : Json) (q : ℕ) (passes : TablePasses table) (right : DescPasses table whole) (sound : IsSound table whole) (defines : DefinesReached doc table whole) (some : 1 ≤ q)
     (bounded : (d : Desc) → IsNeeded table whole d → cost table (room table whole) d ≤ q) where
   abbrev AgreesSound : Json → Type 0
   AgreesSound j = IsSoundValue j → Agrees table whole doc q j
@@ -46,4 +46,4 @@ module _ (table : List Definition) (whole : Desc) (doc : Json) (q : ℕ) (passes
 
   pub agree : (j : Json) → AgreesSound j
   agree = by_parts AgreesSound (λ j parts h d need.
-      agree_at table whole doc q passes right sound defines j (below_of j (out-Json j) refl parts h) (room table whole) d (sound d (needed_part table whole d need)) need q (bounded d need))
+      agree_at table whole doc q passes right sound defines some j (below_of j (out-Json j) refl parts h) (room table whole) d (sound d (needed_part table whole d need)) need q (bounded d need))

@@ -22,16 +22,14 @@ use Rattle.typed_values.specs.Definitions.{field_name}
 use Rattle.typed_values.specs.Denotes.{value_named, is_declared, told, by_presence}
 use Rattle.typed_values.specs.Order.{sorted_by}
 use Rattle.typed_values.specs.Rows.{value_denotes, told_field, told_fields, told_struct}
-use Rattle.typed_values.specs.SchemaTable.{DrawnField, drawn, property_of, required_names, same_name}
+use Rattle.typed_values.specs.SchemaTable.{property_of, required_names, same_name}
 use Rattle.typed_values.proofs.Denoted.{ok_below, ok_just, ok_all, ok_struct}
 use Rattle.typed_values.proofs.Found.{contains_first, contains_later, other_name}
+use Rattle.written_schemas.proofs.Forms.{drawn_of}
 use Rattle.written_schemas.proofs.Structs.{all_same, is_struct_of, other_passes}
 use Rattle.written_schemas.proofs.Sorted.{all_sorted, any_sorted, first_sorted, absent, and_swapped}
 
--- a field with the schema of its type
-abbrev pub drawn_of : Field → DrawnField
-drawn_of f = record { name = f.name; desc = drawn f.desc; presence = f.presence; description = f.description }
-
+-- a field as it stands among the properties
 abbrev pub property : Field → Member
 property f = property_of (drawn_of f)
 
@@ -117,10 +115,6 @@ module _ (table : List Definition) (whole : Desc) (smaller : Json → Json → B
   new_property name [] h = tt
   new_property name (f ∷ fs) h = (h.0, new_property name fs h.1)
 
-  distinct_properties : (fs : List Field) → AreDistinct (map field_name fs) → AreDistinct (map name_of (map property fs))
-  distinct_properties [] h = tt
-  distinct_properties (f ∷ fs) h = (new_property f.name fs h.0, distinct_properties fs h.1)
-
   fields_agree : (fs : List Field) (ms : List Member) → AreDistinct (map field_name fs) → AreDistinct (map name_of ms) → AllByRecursion (λ m. AgreesOn fs m.value) ms
       → (list_all (property_admitted smaller (map property fs)) ms && list_all (λ name. has_member name ms) (required_names (map drawn_of fs))) ≡ list_all (λ f. is_ok (told_field table whole ms f)) fs
   fields_agree [] ms h k agree = none_asked ms
@@ -152,7 +146,7 @@ module _ (table : List Definition) (whole : Desc) (smaller : Json → Json → B
       let properties = sorted_by name_of (map property fs) in
       let names = sorted_by same_name (required_names (map drawn_of fs)) in
       ap (λ (b : Bool). b && (list_all (λ name. has_member name ms) names && (not deny || list_all (other_passes smaller properties) ms)))
-      (all_same (property_admitted smaller properties) (property_admitted smaller (map property fs)) (λ m. ap (λ (o : Option Json). is_none_or o (smaller m.value)) (first_sorted m.name (map property fs) (distinct_properties fs h))) ms)
+      (all_same (property_admitted smaller properties) (property_admitted smaller (map property fs)) (λ m. ap (λ (o : Option Json). is_none_or o (smaller m.value)) (first_sorted m.name (map property fs))) ms)
       ∙ ap (λ (b : Bool). list_all (property_admitted smaller (map property fs)) ms && (b && (not deny || list_all (other_passes smaller properties) ms))) (all_sorted same_name (λ name. has_member name ms) (required_names (map drawn_of fs)))
       ∙ sym (and_assoc (list_all (property_admitted smaller (map property fs)) ms) (list_all (λ name. has_member name ms) (required_names (map drawn_of fs))) (not deny || list_all (other_passes smaller properties) ms))
       ∙ ap (λ (b : Bool). b && (not deny || list_all (other_passes smaller properties) ms)) (fields_agree fs ms h k agree ∙ sym (ok_all (λ i f. told_field table whole ms f) (λ f. is_ok (told_field table whole ms f)) (λ i f. refl) 0 fs))

@@ -8,13 +8,18 @@ use Rattle.typed_values.specs.declared.desc.Desc.TheFolds.{map-Desc, ind-Desc}
 use Rattle.typed_values.specs.declared.desc.Desc.TheOpen.{Desc-F}
 use Rattle.typed_values.specs.declared.desc.Desc.TheViews.{roll-Desc, out-roll-Desc}
 use Rattle.typed_values.specs.declared.desc.Field.{Field}
+use Rattle.typed_values.specs.declared.desc.TaggedVariant.{TaggedVariant}
+use Rattle.typed_values.specs.declared.desc.Variant.{Variant}
 use Rattle.typed_values.specs.declared.table.Definition.{Definition}
+use Rattle.typed_values.specs.Definitions.{tagged_fields}
 use Rattle.typed_values.specs.Guarded.{Reaches}
-use Rattle.typed_values.specs.Parts.{StandsIn, the_whole, in_option, in_list, in_field, in_alternative}
+use Rattle.typed_values.specs.Parts.{StandsIn, the_whole, in_option, in_list, in_map, in_field, in_payload, in_variant, in_alternative}
 use Rattle.typed_values.specs.SchemaTable.{drawn, drawn_json, schema_json, described}
+use Rattle.typed_values.specs.Levels.{DescLevel}
 use Rattle.typed_values.proofs.Found.{contains_cases}
 use Rattle.typed_values.proofs.Tops.{through_option, through_alternative}
-use Rattle.written_schemas.proofs.Sizes.{bare, bare_fits, top_cost, top_at, option_size, list_size, choice_size, reference_size, field_size}
+use Rattle.written_schemas.proofs.Forms.{drawn_row}
+use Rattle.written_schemas.proofs.Sizes.{bare, bare_fits, top_cost, top_at, option_size, list_size, map_size, enumeration_size, choice_size, reference_size, field_size, payload_size, variant_size, one_of_fits}
 
 pub schema_fits : (d : Desc) → bare d ≤ values (schema_json d)
 schema_fits d = bare_fits d (drawn d).nullable (drawn d).title (drawn d).description
@@ -31,6 +36,12 @@ Pair = (d : Desc) × Fits d
 
 abbrev FieldPair : Type 0
 FieldPair = (f : Field) × Unit {0}
+
+abbrev TaggedPair : Type 0
+TaggedPair = (v : TaggedVariant) × Unit {0}
+
+abbrev VariantPair : Type 0
+VariantPair = (v : Variant) × Unit {0}
 
 -- the values of some schemas, and the steps of their tops
 abbrev schemas_of : List Desc → ℕ
@@ -49,19 +60,29 @@ pairs_fit : (es : List Pair) → tops_of (map (λ e. e.0) es) ≤ schemas_of (ma
 pairs_fit [] = omega arith
 pairs_fit (e ∷ es) = omega (arith, e.1, schema_fits e.0, pairs_fit es, tops_cons e.0 (map (λ x. x.0) es), schemas_cons e.0 (map (λ x. x.0) es))
 
-fits_by : (d : Desc) (y : Desc-F Pair FieldPair) → out-Desc d ≡ map-Desc Pair FieldPair Desc Field (λ e. e.0) (λ e. e.0) y → Fits d
+fits_by : (d : Desc) (y : Desc-F Pair FieldPair TaggedPair VariantPair) → out-Desc d ≡ map-Desc Pair FieldPair TaggedPair VariantPair Desc Field TaggedVariant Variant (λ e. e.0) (λ e. e.0) (λ e. e.0) (λ e. e.0) y → Fits d
+fits_by d Desc-F.Any e = omega (arith, top_at d _ e)
+fits_by d Desc-F.Never e = omega (arith, top_at d _ e)
+fits_by d Desc-F.Null e = omega (arith, top_at d _ e)
 fits_by d Desc-F.Bool e = omega (arith, top_at d _ e)
+fits_by d Desc-F.Char e = omega (arith, top_at d _ e)
 fits_by d (Desc-F.Int kind min max) e = omega (arith, top_at d _ e)
 fits_by d (Desc-F.Text min max format) e = omega (arith, top_at d _ e)
+fits_by d (Desc-F.Enumeration ns) e = omega (arith, top_at d _ e, enumeration_size d ns e)
 fits_by d (Desc-F.Option x) e = let size = option_size d x.0 e in omega (arith, size.0, size.1, x.1)
 fits_by d (Desc-F.List x min max) e = omega (arith, top_at d _ e)
+fits_by d (Desc-F.Map x) e = omega (arith, top_at d _ e)
 fits_by d (Desc-F.Struct fs deny) e = omega (arith, top_at d _ e)
+fits_by d (Desc-F.External vs) e = omega (arith, top_at d _ e, one_of_fits d _ (drawn_row d _ e))
+fits_by d (Desc-F.Tagged tag vs) e = omega (arith, top_at d _ e, one_of_fits d _ (drawn_row d _ e))
 fits_by d (Desc-F.Untagged es) e = omega (arith, top_at d _ e, choice_size d (map (λ e. e.0) es) e, pairs_fit es)
 fits_by d (Desc-F.Ref name) e = omega (arith, top_at d _ e, reference_size d name e)
 
 -- a top takes no more steps than the schema has values
 pub top_fits : (d : Desc) → top_cost d ≤ bare d
-top_fits = ind-Desc Fits (λ f. Unit {0}) (λ x y is. subst (λ (z : Desc-F Desc Field). Fits (roll-Desc z)) is (fits_by (roll-Desc _) y (out-roll-Desc _))) (λ x y is. tt)
+top_fits =
+    ind-Desc Fits (λ f. Unit {0}) (λ v. Unit {0}) (λ v. Unit {0})
+    (λ x y is. subst (λ (z : DescLevel). Fits (roll-Desc z)) is (fits_by (roll-Desc _) y (out-roll-Desc _))) (λ x y is. tt) (λ x y is. tt) (λ x y is. tt)
 
 tops_fit : (ds : List Desc) → tops_of ds ≤ schemas_of ds
 tops_fit [] = omega arith
@@ -114,9 +135,21 @@ module _ (table : List Definition) (y d : Desc) where
   list_inside x min max e (inl a) = inr (omega (arith, a.others, top_at d _ e, list_size d x min max e, schema_fits x))
   list_inside x min max e (inr b) = inr (omega (arith, b, list_size d x min max e, schema_fits x))
 
+  map_inside : (x : Desc) → out-Desc d ≡ Desc-F.Map x → IsInside table y d → IsInside table y x
+  map_inside x e (inl a) = inr (omega (arith, a.others, top_at d _ e, map_size d x e))
+  map_inside x e (inr b) = inr (omega (arith, b, map_size d x e))
+
   field_inside : (fs : List Field) (deny : _) (f : Field) → out-Desc d ≡ Desc-F.Struct fs deny → Contains fs f → IsInside table y d → IsInside table y f.desc
   field_inside fs deny f e c (inl a) = inr (omega (arith, a.others, top_at d _ e, field_size d fs deny f e c, described_fits f.desc f.description))
   field_inside fs deny f e c (inr b) = inr (omega (arith, b, field_size d fs deny f e c, described_fits f.desc f.description))
+
+  payload_inside : (vs : List Variant) (v : Variant) (x : Desc) → out-Desc d ≡ Desc-F.External vs → Contains vs v → v.payload ≡ Some x → IsInside table y d → IsInside table y x
+  payload_inside vs v x e c f (inl a) = inr (omega (arith, a.others, top_at d _ e, payload_size d vs v x e c f, schema_fits x))
+  payload_inside vs v x e c f (inr b) = inr (omega (arith, b, payload_size d vs v x e c f, schema_fits x))
+
+  variant_inside : (tag : List ℕ) (vs : List TaggedVariant) (v : TaggedVariant) (f : Field) → out-Desc d ≡ Desc-F.Tagged tag vs → Contains vs v → Contains (tagged_fields v) f → IsInside table y d → IsInside table y f.desc
+  variant_inside tag vs v f e c k (inl a) = inr (omega (arith, a.others, top_at d _ e, variant_size d tag vs v f e c k, described_fits f.desc f.description))
+  variant_inside tag vs v f e c k (inr b) = inr (omega (arith, b, variant_size d tag vs v f e c k, described_fits f.desc f.description))
 
   alternative_inside : (ds : List Desc) (x : Desc) → out-Desc d ≡ Desc-F.Untagged ds → Contains ds x → IsInside table y d → IsInside table y x
   alternative_inside ds x e c (inl a) = inl (record {
@@ -130,5 +163,8 @@ pub stands_inside : (table : List Definition) (y d : Desc) → StandsIn y d → 
 stands_inside table y d the_whole = inl (record { reaches = λ target r. r; fewer = omega arith; others = omega arith })
 stands_inside table y d (in_option {d = p} x s e) = option_inside table y p x e (stands_inside table y p s)
 stands_inside table y d (in_list {d = p} x min max s e) = list_inside table y p x min max e (stands_inside table y p s)
+stands_inside table y d (in_map {d = p} x s e) = map_inside table y p x e (stands_inside table y p s)
 stands_inside table y d (in_field {d = p} fs deny f s e c) = field_inside table y p fs deny f e c (stands_inside table y p s)
+stands_inside table y d (in_payload {d = p} vs v x s e c f) = payload_inside table y p vs v x e c f (stands_inside table y p s)
+stands_inside table y d (in_variant {d = p} tag vs v f s e c k) = variant_inside table y p tag vs v f e c k (stands_inside table y p s)
 stands_inside table y d (in_alternative {d = p} ds x s e c) = alternative_inside table y p ds x e c (stands_inside table y p s)

@@ -1,5 +1,5 @@
-mod SortedLemmas
 mod SchemaForms
+mod Induction
 mod SchemaMembers
 mod NotRefused
 mod DrawnParts
@@ -7,12 +7,21 @@ mod Written
 pub mod Notes
 pub mod Scalars
 pub mod Composites
+pub mod Counted
+pub mod Enumerations
 pub mod Structs
+pub mod Maps
 pub mod Sorted
 pub mod Fields
 pub mod Costs
 pub mod Forms
+pub mod VariantForms
+pub mod Truths
+pub mod FoundByName
+pub mod ExternalVariants
+pub mod TaggedVariants
 pub mod AtOneValue
+pub mod VariantChoices
 pub mod Agreement
 pub mod Parts
 pub mod EachValue

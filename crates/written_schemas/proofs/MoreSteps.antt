@@ -10,20 +10,25 @@ use Rattle.typed_values.specs.declared.desc.Desc.{Desc, out-Desc, Option as Opti
 use Rattle.typed_values.specs.declared.desc.Desc.TheOpen.{Desc-F}
 use Rattle.typed_values.specs.declared.desc.Desc.TheVariants as desc
 use Rattle.typed_values.specs.declared.desc.Field.{Field}
+use Rattle.typed_values.specs.declared.desc.TaggedVariant.{TaggedVariant}
+use Rattle.typed_values.specs.declared.desc.Variant.{Variant}
 use Rattle.typed_values.specs.declared.table.Definition.{Definition}
-use Rattle.typed_values.specs.declared.tree.Tree.{Tree, List as Items, Fields as Parts}
-use Rattle.typed_values.specs.declared.fault.FaultKind.TheVariants.{BadLength}
+use Rattle.typed_values.specs.declared.tree.Tree.{Tree, List as Items, Map as Entries, Fields as Parts}
+use Rattle.typed_values.specs.declared.fault.FaultKind.TheVariants.{WrongKind, BadLength, NotListed}
 use Rattle.typed_values.specs.Bounds.{is_length_within}
 use Rattle.typed_values.specs.Checks.{TablePasses, DescPasses}
-use Rattle.typed_values.specs.Definitions.{definition, entry_of}
-use Rattle.typed_values.specs.Denotes.{Told, told, told_within, room, nodes, below, and_then, all_told, as_tree, if_holds, optional, or_else, first_told, value_named, by_presence, unless_denied, denied_name, at_definition}
+use Rattle.typed_values.specs.Definitions.{definition, entry_of, variant_name, tagged_name, tagged_fields}
+use Rattle.typed_values.specs.Denotes.{Told, told, told_within, room, nodes, refused, below, chosen, named_from, where_found, with_payload, are_all_named, external, at_tag, by_tag, tagged, and_then, all_told, as_tree, as_pair, if_holds, member_name, optional, or_else, first_told, value_named, by_presence, unless_denied, denied_name, at_definition}
 use Rattle.typed_values.specs.Faults.{Trouble}
+use Rattle.typed_values.specs.Order.{sorted_by}
 use Rattle.typed_values.specs.Parts.{the_whole}
-use Rattle.typed_values.specs.Rows.{told_item, value_denotes, told_field, list_row, struct_row, row}
+use Rattle.typed_values.specs.Rows.{told_item, told_entry, value_denotes, told_field, list_row, map_row, struct_row, row}
 use Rattle.typed_values.specs.Sound.{EachRests, RestsBy, Rests, IsSound}
+use Rattle.typed_values.specs.Levels.{DescLevel}
 use Rattle.typed_values.proofs.Found.{contains_first, contains_later, definition_is}
-use Rattle.typed_values.proofs.Needed.{IsNeeded, of_whole, needed_part, option_needed, list_needed, field_needed, alternative_needed, reference_needed}
+use Rattle.typed_values.proofs.Needed.{IsNeeded, of_whole, needed_part, option_needed, list_needed, map_needed, field_needed, payload_needed, variant_needed, alternative_needed, reference_needed}
 use Rattle.typed_values.proofs.Rows.{row_at}
+use Rattle.typed_values.proofs.SortedLemmas.{all_sorted}
 use Rattle.typed_values.proofs.Soundness.{passes_is_sound, each_of}
 use Rattle.typed_values.proofs.Tops.{nodes_at}
 use Rattle.written_schemas.proofs.Parts.{OfParts, by_parts}
@@ -52,13 +57,21 @@ module _ (table : List Definition) where
   found_more Less More step None h = h
   found_more Less More step (Some d) h = step d h
 
-  rests_by_more : (Less More : Desc → Type 0) → ((d : Desc) → Less d → More d) → (z : Desc-F Desc Field) → RestsBy table Less z → RestsBy table More z
+  rests_by_more : (Less More : Desc → Type 0) → ((d : Desc) → Less d → More d) → (z : DescLevel) → RestsBy table Less z → RestsBy table More z
+  rests_by_more Less More step Desc-F.Any h = tt
+  rests_by_more Less More step Desc-F.Never h = tt
+  rests_by_more Less More step Desc-F.Null h = tt
   rests_by_more Less More step Desc-F.Bool h = tt
+  rests_by_more Less More step Desc-F.Char h = tt
   rests_by_more Less More step (Desc-F.Int kind min max) h = tt
   rests_by_more Less More step (Desc-F.Text min max format) h = tt
+  rests_by_more Less More step (Desc-F.Enumeration ns) h = tt
   rests_by_more Less More step (Desc-F.Option d) h = step d h
   rests_by_more Less More step (Desc-F.List d min max) h = tt
+  rests_by_more Less More step (Desc-F.Map d) h = tt
   rests_by_more Less More step (Desc-F.Struct fs deny) h = tt
+  rests_by_more Less More step (Desc-F.External vs) h = tt
+  rests_by_more Less More step (Desc-F.Tagged tag vs) h = tt
   rests_by_more Less More step (Desc-F.Untagged ds) h = each_more Less More step ds h
   rests_by_more Less More step (Desc-F.Ref name) h = found_more Less More step (definition table name) h
 
@@ -68,9 +81,34 @@ module _ (table : List Definition) where
   rests_more (suc n) zero d le h = absurd (omega (arith, le))
   rests_more (suc n) (suc m) d le h = rests_by_more (Rests table n) (Rests table m) (λ e r. rests_more n m e (omega (arith, le)) r) (out-Desc d) h
 
-all_alike : {X : Type 0} (f g : ℕ → X → Told) → (i : ℕ) (xs : List X) → AllByRecursion (λ x. (i : ℕ) → f i x ≡ g i x) xs → all_told f i xs ≡ all_told g i xs
+all_alike : {X T : Type 0} (f g : ℕ → X → Result T Trouble) → (i : ℕ) (xs : List X) → AllByRecursion (λ x. (i : ℕ) → f i x ≡ g i x) xs → all_told f i xs ≡ all_told g i xs
 all_alike f g i [] h = refl
-all_alike f g i (x ∷ xs) h = ap (λ (o : Told). and_then o (all_told f (i + 1) xs)) (h.0 i) ∙ ap (and_then (g i x)) (all_alike f g (i + 1) xs h.1)
+all_alike {T = T} f g i (x ∷ xs) h = ap (λ (o : Result T Trouble). and_then o (all_told f (i + 1) xs)) (h.0 i) ∙ ap (and_then (g i x)) (all_alike f g (i + 1) xs h.1)
+
+-- what is told of the thing that is found is the same, where it is of each
+found_alike : {X : Type 0} (name_of : X → List ℕ) (unlisted : Told) (f g : ℕ → X → Told) (w : List ℕ) (i : ℕ) (xs : List X) → ((i : ℕ) (x : X) → Contains xs x → f i x ≡ g i x)
+    → where_found unlisted f (named_from name_of i xs w) ≡ where_found unlisted g (named_from name_of i xs w)
+found_alike name_of unlisted f g w i [] h = refl
+found_alike name_of unlisted f g w i (x ∷ xs) h =
+    by_name (bytes_eq (name_of x) w) (h i x (contains_first x xs)) (found_alike name_of unlisted f g w (i + 1) xs (λ k y c. h k y (contains_later x xs y c)))
+  where
+    by_name : (b : Bool) → f i x ≡ g i x → where_found unlisted f (named_from name_of (i + 1) xs w) ≡ where_found unlisted g (named_from name_of (i + 1) xs w)
+        → where_found unlisted f (cond b (Some (i, x)) (named_from name_of (i + 1) xs w)) ≡ where_found unlisted g (cond b (Some (i, x)) (named_from name_of (i + 1) xs w))
+    by_name true here later = here
+    by_name false here later = later
+
+payload_alike : (f g : Desc → Told) (i : ℕ) (v : Variant) (o : Option Desc) → v.payload ≡ o → ((x : Desc) → o ≡ Some x → f x ≡ g x) → with_payload f i v ≡ with_payload g i v
+payload_alike f g i v None e h = rw e refl
+payload_alike f g i v (Some x) e h = rw e (ap (λ (o : Told). with_payload (λ y. o) i (record v { payload = Some x })) (h x refl))
+
+tag_alike : (tag : List ℕ) (f g : ℕ → TaggedVariant → Told) (vs : List TaggedVariant) → ((i : ℕ) (v : TaggedVariant) → Contains vs v → f i v ≡ g i v)
+    → (j : Json) (x : Json-F Json Member) → out-Json j ≡ x → at_tag tag f vs j ≡ at_tag tag g vs j
+tag_alike tag f g vs h j Json-F.Null e = rw e refl
+tag_alike tag f g vs h j (Json-F.Bool b) e = rw e refl
+tag_alike tag f g vs h j (Json-F.Int i) e = rw e refl
+tag_alike tag f g vs h j (Json-F.Text w) e = rw e (found_alike tagged_name _ f g w 0 vs h)
+tag_alike tag f g vs h j (Json-F.List js) e = rw e refl
+tag_alike tag f g vs h j (Json-F.Object ms) e = rw e refl
 
 module _ (table : List Definition) (whole more : Desc) (sound : IsSound table whole) (le : room table whole ≤ room table more) where
   -- both tell the same of the descriptors that the whole one needs
@@ -89,6 +127,22 @@ module _ (table : List Definition) (whole more : Desc) (sound : IsSound table wh
   same_list x min max need (Json-F.List js) h =
       ap (λ (ts : Result (List Tree) Trouble). if_holds (is_length_within min max (length js)) BadLength (as_tree Items ts)) (all_alike (told_item table more x) (told_item table whole x) 0 js (same_items x need js h))
   same_list x min max need (Json-F.Object ms) h = refl
+
+  same_pairs : (x : Desc) → IsNeeded table whole x → (ms : List Member) → AllByRecursion (λ m. Same m.value) ms
+      → AllByRecursion (λ (m : Member). (i : ℕ) → told_entry table more x m ≡ told_entry table whole x m) ms
+  same_pairs x need [] h = tt
+  same_pairs x need (m ∷ ms) h = (λ i. ap (as_pair m.name) (ap (below _) (h.0 x need)), same_pairs x need ms h.1)
+
+  same_map : (x : Desc) → IsNeeded table whole x → (y : Json-F Json Member) → OfParts Same y → map_row table more x y ≡ map_row table whole x y
+  same_map x need Json-F.Null h = refl
+  same_map x need (Json-F.Bool b) h = refl
+  same_map x need (Json-F.Int i) h = refl
+  same_map x need (Json-F.Text w) h = refl
+  same_map x need (Json-F.List js) h = refl
+  same_map x need (Json-F.Object ms) h =
+      ap (as_tree Entries)
+      (all_alike (λ i m. told_entry table more x m) (λ i m. told_entry table whole x m) 0 (sorted_by member_name ms)
+      (all_sorted _ member_name ms (same_pairs x need ms h)))
 
   same_value : (x : Desc) → IsNeeded table whole x → (name : List ℕ) (ms : List Member) → AllByRecursion (λ m. Same m.value) ms → value_denotes table more x (value_named ms name) ≡ value_denotes table whole x (value_named ms name)
   same_value x need name [] h = refl
@@ -113,6 +167,34 @@ module _ (table : List Definition) (whole more : Desc) (sound : IsSound table wh
   same_struct fs deny need (Json-F.Object ms) h =
       ap (λ (ts : Result (List Tree) Trouble). unless_denied (denied_name deny fs ms) (as_tree Parts ts)) (all_alike (λ i f. told_field table more ms f) (λ i f. told_field table whole ms f) 0 fs (same_fields fs need ms h))
 
+  same_external : (vs : List Variant) → ((v : Variant) (x : Desc) → Contains vs v → v.payload ≡ Some x → IsNeeded table whole x) → (y : Json-F Json Member) → OfParts Same y
+      → external (told table more) vs y ≡ external (told table whole) vs y
+  same_external vs need Json-F.Null h = refl
+  same_external vs need (Json-F.Bool b) h = refl
+  same_external vs need (Json-F.Int i) h = refl
+  same_external vs need (Json-F.Text w) h = refl
+  same_external vs need (Json-F.List js) h = refl
+  same_external vs need (Json-F.Object []) h = refl
+  same_external vs need (Json-F.Object (m ∷ ms)) h =
+      ap (λ (o : Told). if_holds (are_all_named m.name ms) WrongKind o)
+      (found_alike variant_name (refused NotListed) (with_payload (told table more m.value)) (with_payload (told table whole m.value)) m.name 0 vs
+      (λ i v c. payload_alike (told table more m.value) (told table whole m.value) i v v.payload refl (λ x e. h.0 x (need v x c e))))
+
+  same_tagged : (tag : List ℕ) (vs : List TaggedVariant) → ((v : TaggedVariant) (f : Field) → Contains vs v → Contains (tagged_fields v) f → IsNeeded table whole f.desc) → (y : Json-F Json Member) → OfParts Same y
+      → tagged (λ j. j) (λ fs. struct_row table more fs false y) tag vs y ≡ tagged (λ j. j) (λ fs. struct_row table whole fs false y) tag vs y
+  same_tagged tag vs need Json-F.Null h = refl
+  same_tagged tag vs need (Json-F.Bool b) h = refl
+  same_tagged tag vs need (Json-F.Int i) h = refl
+  same_tagged tag vs need (Json-F.Text w) h = refl
+  same_tagged tag vs need (Json-F.List js) h = refl
+  same_tagged tag vs need (Json-F.Object ms) h = at_value (value_named ms tag)
+    where
+      at_value : (o : Option Json) → by_tag tag (at_tag tag (λ i v. chosen i (struct_row table more (tagged_fields v) false (Json-F.Object ms))) vs) (option_map (λ j. j) o)
+          ≡ by_tag tag (at_tag tag (λ i v. chosen i (struct_row table whole (tagged_fields v) false (Json-F.Object ms))) vs) (option_map (λ j. j) o)
+      at_value None = refl
+      at_value (Some j) =
+          tag_alike tag _ _ vs (λ i v c. ap (chosen i) (same_struct (tagged_fields v) false (λ f k. need v f c k) (Json-F.Object ms) h)) j (out-Json j) refl
+
   same_first : (f g : Desc → Told) (i : ℕ) (ds : List Desc) → ((x : Desc) → Contains ds x → f x ≡ g x) → first_told i f ds ≡ first_told i g ds
   same_first f g i [] h = refl
   same_first f g i (x ∷ ds) h = ap (λ (o : Told). or_else i o (first_told (i + 1) f ds)) (h x (contains_first x ds)) ∙ ap (or_else i (g x)) (same_first f g (i + 1) ds (λ y c. h y (contains_later x ds y c)))
@@ -125,13 +207,21 @@ module _ (table : List Definition) (whole more : Desc) (sound : IsSound table wh
     same_reference n ih d name need e (Some y) f rests = ih y.desc rests (reference_needed table whole d name y e f need)
 
     same_by : (n : ℕ) → ((d : Desc) → Rests table n d → IsNeeded table whole d → told table more j d ≡ told table whole j d)
-        → (d : Desc) → IsNeeded table whole d → (z : Desc-F Desc Field) → out-Desc d ≡ z → RestsBy table (Rests table n) z → row table more j (out-Json j) z ≡ row table whole j (out-Json j) z
+        → (d : Desc) → IsNeeded table whole d → (z : DescLevel) → out-Desc d ≡ z → RestsBy table (Rests table n) z → row table more j (out-Json j) z ≡ row table whole j (out-Json j) z
+    same_by n ih d need Desc-F.Any e rests = refl
+    same_by n ih d need Desc-F.Never e rests = refl
+    same_by n ih d need Desc-F.Null e rests = refl
     same_by n ih d need Desc-F.Bool e rests = refl
+    same_by n ih d need Desc-F.Char e rests = refl
     same_by n ih d need (Desc-F.Int kind min max) e rests = refl
     same_by n ih d need (Desc-F.Text min max format) e rests = refl
+    same_by n ih d need (Desc-F.Enumeration ns) e rests = refl
     same_by n ih d need (Desc-F.Option x) e rests = ap (λ (o : Told). optional (out-Json j) o) (ih x rests (option_needed table whole d x e need))
     same_by n ih d need (Desc-F.List x min max) e rests = same_list x min max (list_needed table whole d x min max e need) (out-Json j) below_j
+    same_by n ih d need (Desc-F.Map x) e rests = same_map x (map_needed table whole d x e need) (out-Json j) below_j
     same_by n ih d need (Desc-F.Struct fs deny) e rests = same_struct fs deny (λ f c. field_needed table whole d fs deny f e c need) (out-Json j) below_j
+    same_by n ih d need (Desc-F.External vs) e rests = same_external vs (λ v x c f. payload_needed table whole d vs v x e c f need) (out-Json j) below_j
+    same_by n ih d need (Desc-F.Tagged tag vs) e rests = same_tagged tag vs (λ v f c k. variant_needed table whole d tag vs v f e c k need) (out-Json j) below_j
     same_by n ih d need (Desc-F.Untagged ds) e rests =
         same_first (told table more j) (told table whole j) 0 ds (λ x c. ih x (each_of (Rests table n) ds x rests c) (alternative_needed table whole d ds x e c need))
     same_by n ih d need (Desc-F.Ref name) e rests =

@@ -1,33 +1,59 @@
 -- The schema of a descriptor is never refused.
-use Rattle.std.proofs.Common.{◌≡◌, ℕ, List, [], ◌∷◌, map, Option, Some, None, option_map, unwrap_or, Bool, true, false, refl, sym, ◌∙◌, ap, subst}
-use Rattle.std.specs.List.{AllByRecursion}
+use Rattle.std.proofs.Common.{◌≡◌, ℕ, List, [], ◌∷◌, ◌++◌, map, filter, Option, Some, None, option_map, unwrap_or, Bool, true, false, if◌then◌else◌, MatchOption, refl, sym, ◌∙◌, ap, subst}
+use Rattle.std.specs.List.{AllByRecursion, list_all, list_any}
 use Rattle.std.specs.Option.{option_map_or, option_or}
+use Rattle.std.specs.Prelude.{⊤}
+use Rattle.schema_values.specs.declared.json_value.Json.{Text as Words}
+use Rattle.schema_values.specs.declared.json_value.Json.TheVariants as json
 use Rattle.schema_values.specs.declared.schema.ArrayParts.{roll-ArrayParts}
+use Rattle.schema_values.specs.declared.schema.InstanceType.TheVariants.{Object, Array, String}
+use Rattle.schema_values.specs.declared.schema.InstanceTypes.TheVariants.{Single}
 use Rattle.schema_values.specs.declared.schema.Items.{One}
 use Rattle.schema_values.specs.declared.schema.ObjectParts.{roll-ObjectParts, out-roll-ObjectParts}
 use Rattle.schema_values.specs.declared.schema.Property.{Property}
-use Rattle.schema_values.specs.declared.schema.Schema.{Schema}
-use Rattle.schema_values.specs.declared.schema.SchemaObject.{roll-SchemaObject, out-roll-SchemaObject}
-use Rattle.schema_values.specs.declared.schema.Subschemas.{roll-Subschemas}
-use Rattle.openapi_values.specs.Refusal.{Refusal, Inner, first_of, untyped_refusal, type_refusal, refusal_of, array_refusal, object_parts_refusal, property_refusal, subschemas_inner}
+use Rattle.schema_values.specs.declared.schema.Schema.{Schema, Bool as Truth}
+use Rattle.schema_values.specs.declared.schema.SchemaObject.{SchemaObject-F, roll-SchemaObject, out-roll-SchemaObject}
+use Rattle.schema_values.specs.declared.schema.Subschemas.{Subschemas, roll-Subschemas}
+use Rattle.openapi_values.specs.declared.j2oas.J2oasError.TheVariants.{BadEnumValue, BadSubschema}
+use Rattle.openapi_values.specs.Refusal.{Refusal, Level, first_of, items_missing, is_value_of, values_refusal, object_step, refusal_of, array_refusal, object_parts_refusal, property_refusal, subschemas_inner}
 use Rattle.openapi_values.proofs.RefusalLevels.{truth-is, object-is, items-are, property-is, array-is, object_parts-are, one_kind-is, inner-is, parts-are}
 use Rattle.typed_values.specs.declared.desc.Desc.{Desc}
-use Rattle.typed_values.specs.declared.desc.Desc.TheFolds.{fold-roll-Desc, map-Desc, ind-Desc}
-use Rattle.typed_values.specs.declared.desc.Desc.TheOpen.{Desc-F, Field-F}
+use Rattle.typed_values.specs.declared.desc.Desc.TheOpen.{Desc-F}
+use Rattle.typed_values.specs.declared.desc.Desc.TheViews.{out-roll-Desc}
 use Rattle.typed_values.specs.declared.desc.Field.{Field}
+use Rattle.typed_values.specs.declared.desc.Named.{Named}
+use Rattle.typed_values.specs.declared.desc.Presence.{Presence}
+use Rattle.typed_values.specs.declared.desc.Presence.TheVariants.{Required}
+use Rattle.typed_values.specs.declared.desc.TaggedVariant.{TaggedVariant}
+use Rattle.typed_values.specs.declared.desc.Variant.{Variant}
+use Rattle.typed_values.specs.Definitions.{tagged_description, tagged_fields, tagged_name}
 use Rattle.typed_values.specs.Order.{sorted_by}
-use Rattle.typed_values.specs.SchemaTable.{same_name}
-use Rattle.typed_values.specs.Schemas.{Parts, FieldParts, object_of, no_parts, annotatable, with_null, with_description, property_name, property_of, required_names, nothing_more, list_of, struct_of, choice_of, schema_step, field_parts, schema_parts, parts_of_field, schema_value}
-use Rattle.typed_values.proofs.SchemaRows.{same_fields}
-use Rattle.written_schemas.proofs.SchemaForms.{StructParts, struct_parts, in_all_of, kept, wrapped, parts_level}
-use Rattle.written_schemas.proofs.SortedLemmas.{all_sorted}
+use Rattle.typed_values.specs.SchemaTable.{bare_names, is_described, same_name}
+use Rattle.typed_values.specs.Schemas.{Parts, Sketch, FieldSketch, object_of, no_parts, no_subschemas, of_single, annotatable, with_null, with_description, property_name, property_of, required_field, required_names, nothing_more, list_of, struct_parts, map_of, choice_of, one_of, all_or_none, other_members, texts_of, not_described, enumerated, described_choice, plain_choice, choices_of, enumeration, external_choices, payload_choices, tagged_choice, sketch, sketch_step, schema_sketch, schema_parts, sketch_of_field, sketch_of_tagged, sketch_of_variant, schema_value}
+use Rattle.typed_values.proofs.SchemaRows.{parts_row, sketch_level}
+use Rattle.typed_values.proofs.SortedLemmas.{all_sorted}
+use Rattle.written_schemas.proofs.Induction.{InField, InFields, InTagged, InVariant, KnownLevel, firsts, by_levels, each_holds}
+use Rattle.written_schemas.proofs.SchemaForms.{StructParts, object_parts, in_all_of, kept, wrapped}
 
-abbrev refusal_of_parts : Parts → Refusal
-refusal_of_parts p = option_map_or (λ reference. None) p.reference
-    (type_refusal p.instance_type (option_map array_refusal p.array) (option_map object_parts_refusal p.object) (option_map subschemas_inner p.subschemas))
+-- parts in which each part with schemas stands as its refusal
+abbrev level_of : Parts → Level SchemaObject-F
+level_of p = record {
+  title = p.title;
+  description = p.description;
+  nullable = p.nullable;
+  instance_type = p.instance_type;
+  format = p.format;
+  enum_values = p.enum_values;
+  subschemas = option_map subschemas_inner p.subschemas;
+  number = p.number;
+  string = p.string;
+  array = option_map array_refusal p.array;
+  object = option_map object_parts_refusal p.object;
+  reference = p.reference;
+}
 
-by_parts : (p : Parts) → refusal_of (object_of p) ≡ refusal_of_parts p
-by_parts p = object-is (roll-SchemaObject p) ∙ parts-are (roll-SchemaObject p) ∙ ap refusal_of_parts (out-roll-SchemaObject p)
+by_parts : (p : Parts) → refusal_of (object_of p) ≡ object_step (level_of p)
+by_parts p = object-is (roll-SchemaObject p) ∙ parts-are (roll-SchemaObject p) ∙ ap (λ (q : Parts). object_step (level_of q)) (out-roll-SchemaObject p)
 
 abbrev Taken : Parts → Type 0
 Taken p = refusal_of (object_of p) ≡ None
@@ -36,17 +62,22 @@ all_none : {X : Type 0} (f : X → Refusal) (xs : List X) → AllByRecursion (λ
 all_none f [] h = refl
 all_none f (x ∷ xs) h = ap (λ (r : Refusal). option_or r (first_of (map f xs))) h.0 ∙ all_none f xs h.1
 
-of_one_kind : (inner : Inner) → inner.one_kind ≡ true → inner.refusal ≡ None → untyped_refusal (Some inner) ≡ None
-of_one_kind inner one none = rw one none
+abbrev of_subschemas : Subschemas → Parts
+of_subschemas s = record no_parts { subschemas = Some s }
 
-all_of_taken : (p : Parts) → Taken p → untyped_refusal (Some (subschemas_inner (in_all_of p))) ≡ None
-all_of_taken p h =
-    of_one_kind (subschemas_inner (in_all_of p)) (one_kind-is (in_all_of p)) (inner-is (in_all_of p) ∙ ap (λ (r : Refusal). option_or (option_or r None) None) h)
+-- subschemas of one kind, none of which is refused
+one_kind_taken : (s : Subschemas) → (subschemas_inner s).one_kind ≡ true → (subschemas_inner s).refusal ≡ None → Taken (of_subschemas s)
+one_kind_taken s one none =
+    by_parts (of_subschemas s)
+    ∙ ap (λ (b : Bool). option_or (first_of ((if b then None else Some BadSubschema) ∷ [])) (subschemas_inner s).refusal) one
+    ∙ none
+
+all_of_taken : (p : Parts) → Taken p → Taken (of_subschemas (in_all_of p))
+all_of_taken p h = one_kind_taken (in_all_of p) (one_kind-is (in_all_of p)) (inner-is (in_all_of p) ∙ ap (λ (r : Refusal). option_or (option_or r None) None) h)
 
 annotatable_taken_by : (p : Parts) (r : Option (List ℕ)) → p.reference ≡ r → Taken p → Taken (annotatable p)
 annotatable_taken_by p None e h = subst Taken (sym (kept p e)) h
-annotatable_taken_by p (Some text) e h =
-    subst Taken (sym (wrapped p text e)) (by_parts (record no_parts { subschemas = Some (in_all_of p) }) ∙ all_of_taken p h)
+annotatable_taken_by p (Some text) e h = subst Taken (sym (wrapped p text e)) (all_of_taken p h)
 
 annotatable_taken : (p : Parts) → Taken p → Taken (annotatable p)
 annotatable_taken p h = annotatable_taken_by p p.reference refl h
@@ -63,63 +94,151 @@ list_taken : (p : Parts) (min max : Option ℕ) → Taken p → Taken (list_of (
 list_taken p min max h =
     let array = roll-ArrayParts (record { items = Some (One (object_of p)); min = min; max = max }) in
     by_parts (list_of (object_of p) min max)
-    ∙ ap (λ (r : Refusal). option_or r None) (array-is array ∙ items-are (One (object_of p)) ∙ h)
+    ∙ ap (λ (items : Option Refusal). option_or (first_of (items_missing (Some (Single Array)) items ∷ None ∷ None ∷ [])) (option_or (unwrap_or items None) None))
+    (array-is array ∙ ap (λ (r : Refusal). Some r) (items-are (One (object_of p)) ∙ h))
+
+-- an object of which neither a property nor the schema of other members is refused
+object_taken : (o : StructParts) → AllByRecursion (λ (p : Property). property_refusal p ≡ None) o.properties → unwrap_or (option_map refusal_of o.additional) None ≡ None
+    → Taken (record (of_single Object) { object = Some (roll-ObjectParts o) })
+object_taken o properties additional =
+    by_parts (record (of_single Object) { object = Some (roll-ObjectParts o) })
+    ∙ ap (λ (r : Refusal). option_or r None) (object_parts-are (roll-ObjectParts o)
+    ∙ ap (λ (q : StructParts). option_or (first_of (map property_refusal q.properties)) (unwrap_or (option_map refusal_of q.additional) None)) (out-roll-ObjectParts o)
+    ∙ ap (λ (r : Refusal). option_or r (unwrap_or (option_map refusal_of o.additional) None)) (all_none property_refusal o.properties properties)
+    ∙ additional)
 
 nothing_more_taken : (deny : Bool) → unwrap_or (option_map refusal_of (nothing_more deny)) None ≡ None
 nothing_more_taken true = truth-is false
 nothing_more_taken false = refl
 
-struct_taken : (properties : List Property) (required : List (List ℕ)) (deny : Bool) → AllByRecursion (λ (p : Property). property_refusal p ≡ None) properties → Taken (struct_of properties required deny)
-struct_taken properties required deny h =
-    let object = struct_parts properties required deny in
-    by_parts (struct_of properties required deny)
-    ∙ ap (λ (r : Refusal). option_or r None) (object_parts-are (roll-ObjectParts object)
-    ∙ ap (λ (o : StructParts). option_or (first_of (map property_refusal o.properties)) (unwrap_or (option_map refusal_of o.additional) None)) (out-roll-ObjectParts object)
-    ∙ ap (λ (r : Refusal). option_or r (unwrap_or (option_map refusal_of (nothing_more deny)) None)) (all_none property_refusal properties h)
-    ∙ nothing_more_taken deny)
+truth_or_taken : (truth : Option Bool) (p : Parts) → Taken p → refusal_of (option_map_or Truth truth (object_of p)) ≡ None
+truth_or_taken (Some truth) p h = truth-is truth
+truth_or_taken None p h = h
 
-choice_taken : (schemas : List Schema) → AllByRecursion (λ (s : Schema). refusal_of s ≡ None) schemas → Taken (choice_of schemas)
+map_taken : (s : Sketch) → Taken s.parts → Taken (map_of (other_members s))
+map_taken s h = object_taken (record { properties = []; required = []; additional = Some (other_members s) }) tt (truth_or_taken s.truth s.parts h)
+
+abbrev AreTaken : List Schema → Type 0
+AreTaken = AllByRecursion (λ (s : Schema). refusal_of s ≡ None)
+
+choice_taken : (schemas : List Schema) → AreTaken schemas → Taken (choice_of schemas)
 choice_taken schemas h =
-    let chosen = roll-Subschemas (record { all_of = None; any_of = Some schemas }) in
-    by_parts (choice_of schemas)
-    ∙ of_one_kind (subschemas_inner chosen) (one_kind-is chosen) (inner-is chosen ∙ all_none refusal_of schemas h)
+    let chosen = roll-Subschemas (record no_subschemas { any_of = Some schemas }) in
+    one_kind_taken chosen (one_kind-is chosen) (inner-is chosen ∙ ap (λ (r : Refusal). option_or r None) (all_none refusal_of schemas h))
+
+one_of_taken : (schemas : List Schema) → AreTaken schemas → Taken (one_of schemas)
+one_of_taken schemas h =
+    let chosen = roll-Subschemas (record no_subschemas { one_of = Some schemas }) in
+    one_kind_taken chosen (one_kind-is chosen) (inner-is chosen ∙ ap (λ (r : Refusal). option_or r None) (all_none refusal_of schemas h))
+
+nothing_taken : Taken (all_or_none false).parts
+nothing_taken =
+    let none = roll-Subschemas (record no_subschemas { not = Some (Truth true) }) in
+    one_kind_taken none (one_kind-is none) (inner-is none ∙ truth-is true)
+
+-- ---- enumerations
+
+all_texts : (ns : List Named) → list_all (is_value_of String) (texts_of ns) ≡ true
+all_texts [] = refl
+all_texts (n ∷ ns) = rw (json.outs-Text n.name) (all_texts ns)
+
+texts_taken : (ns : List Named) → values_refusal (Some (Single String)) (texts_of ns) ≡ None
+texts_taken [] = refl
+texts_taken (n ∷ ns) = ap (λ (b : Bool). if b then None else Some BadEnumValue) (all_texts (n ∷ ns))
+
+listed_taken : (ns : List Named) → Taken (enumerated (texts_of ns))
+listed_taken ns = by_parts (enumerated (texts_of ns)) ∙ ap (λ (r : Refusal). option_or (first_of (r ∷ [])) None) (texts_taken ns)
+
+described_choices_taken : (ns : List Named) → AreTaken (map described_choice ns)
+described_choices_taken [] = tt
+described_choices_taken (n ∷ ns) = (described_taken n.description (enumerated (texts_of (n ∷ []))) (listed_taken (n ∷ [])), described_choices_taken ns)
+
+choices_taken : (ns ds : List Named) → AreTaken (plain_choice (texts_of ns) ++ map described_choice ds)
+choices_taken [] ds = described_choices_taken ds
+choices_taken (n ∷ ns) ds = (listed_taken (n ∷ ns), described_choices_taken ds)
+
+enumeration_taken : (ns : List Named) → Taken (enumeration ns)
+enumeration_taken ns = by_case (list_any is_described ns)
+  where
+    by_case : (b : Bool) → Taken (if b then one_of (choices_of ns) else enumerated (texts_of ns))
+    by_case true = one_of_taken (choices_of ns) (choices_taken (not_described ns) (filter is_described ns))
+    by_case false = listed_taken ns
+
+-- ---- structs
+
+property_taken : (name : List ℕ) (presence : Presence) (description : Option (List ℕ)) (s : Sketch) → Taken s.parts
+    → property_refusal (property_of (record { name = name; desc = s; presence = presence; description = description })) ≡ None
+property_taken name presence description s h =
+    property-is (property_of (record { name = name; desc = s; presence = presence; description = description })) ∙ described_taken description s.parts h
 
 abbrev IsTaken : Desc → Type 0
-IsTaken d = refusal_of (schema_value d) ≡ None
+IsTaken d = Taken (schema_parts d)
 
-abbrev Known : Type 0
-Known = (d : Desc) × IsTaken d
+abbrev AreTakenProperties : List Property → Type 0
+AreTakenProperties = AllByRecursion (λ (p : Property). property_refusal p ≡ None)
 
-abbrev KnownField : Type 0
-KnownField = (f : Field) × IsTaken f.desc
+properties_taken : (fs : List Field) → InFields IsTaken fs → AreTakenProperties (map property_of (map sketch_of_field fs))
+properties_taken [] h = tt
+properties_taken (f ∷ fs) h = (property_taken f.name f.presence f.description (schema_sketch f.desc) h.0, properties_taken fs h.1)
 
-properties_taken : (es : List KnownField) → AllByRecursion (λ (p : Property). property_refusal p ≡ None) (map property_of (map parts_of_field (map (λ e. e.0) es)))
-properties_taken [] = tt
-properties_taken (e ∷ es) = (property-is (property_of (parts_of_field e.0)) ∙ described_taken e.0.description (schema_parts e.0.desc) e.1, properties_taken es)
+struct_taken : (fs : List FieldSketch) (deny : Bool) → AreTakenProperties (map property_of fs) → Taken (struct_parts fs deny)
+struct_taken fs deny h =
+    object_taken (object_parts (sorted_by property_name (map property_of fs)) (sorted_by same_name (required_names fs)) deny)
+    (all_sorted (λ (p : Property). property_refusal p ≡ None) property_name (map property_of fs) h) (nothing_more_taken deny)
 
-alternatives_taken : (es : List Known) → AllByRecursion (λ (s : Schema). refusal_of s ≡ None) (map object_of (map schema_parts (map (λ e. e.0) es)))
-alternatives_taken [] = tt
-alternatives_taken (e ∷ es) = (e.1, alternatives_taken es)
+-- ---- variants
 
-abbrev firsts : Desc-F Known KnownField → Desc-F Desc Field
-firsts = map-Desc Known KnownField Desc Field (λ e. e.0) (λ e. e.0)
+both_taken : (ss others : List Schema) → AreTaken ss → AreTaken others → AreTaken (ss ++ others)
+both_taken [] others h k = k
+both_taken (s ∷ ss) others h k = (h.0, both_taken ss others h.1 k)
 
-taken_by : (y : Desc-F Known KnownField) → Taken (parts_level (firsts y))
+payloads_taken : (vs : List Variant) → AllByRecursion (InVariant IsTaken) vs → AreTaken (payload_choices (map sketch_of_variant vs))
+payloads_taken [] h = tt
+payloads_taken (v ∷ vs) h = by_payload v.payload h.0 (payloads_taken vs h.1)
+  where
+    by_payload : (payload : Option Desc) → MatchOption payload ⊤ IsTaken → AreTaken (payload_choices (map sketch_of_variant vs))
+        → AreTaken (payload_choices (record { name = v.name; description = v.description; payload = option_map schema_sketch payload } ∷ map sketch_of_variant vs))
+    by_payload None taken later = later
+    by_payload (Some x) taken later =
+        let field = required_field v.name (schema_sketch x) in
+        (described_taken v.description (struct_parts (field ∷ []) true) (struct_taken (field ∷ []) true (property_taken v.name Required None (schema_sketch x) taken, tt)), later)
+
+external_taken : (vs : List Variant) → AllByRecursion (InVariant IsTaken) vs → AreTaken (external_choices (map sketch_of_variant vs))
+external_taken vs h =
+    let names = bare_names (map sketch_of_variant vs) in
+    both_taken (choices_of names) (payload_choices (map sketch_of_variant vs)) (choices_taken (not_described names) (filter is_described names)) (payloads_taken vs h)
+
+tagged_taken : (tag : List ℕ) (vs : List TaggedVariant) → AllByRecursion (InTagged IsTaken) vs → AreTaken (map (tagged_choice tag) (map sketch_of_tagged vs))
+tagged_taken tag [] h = tt
+tagged_taken tag (v ∷ vs) h =
+    let name = sketch (enumerated (Words (tagged_name v) ∷ [])) in
+    let fields = required_field tag name ∷ map sketch_of_field (tagged_fields v) in
+    let one = listed_taken (record { name = tagged_name v; description = None } ∷ []) in
+    (described_taken (tagged_description v) (struct_parts fields false) (struct_taken fields false (property_taken tag Required None name one, properties_taken (tagged_fields v) h.0)), tagged_taken tag vs h.1)
+
+-- ---- one row for each descriptor
+
+alternatives_taken : (ds : List Desc) → AllByRecursion IsTaken ds → AreTaken (map (λ (s : Sketch). object_of s.parts) (map schema_sketch ds))
+alternatives_taken [] h = tt
+alternatives_taken (d ∷ ds) h = (h.0, alternatives_taken ds h.1)
+
+taken_by : (y : KnownLevel IsTaken) → Taken (sketch_level (firsts IsTaken y)).parts
+taken_by Desc-F.Any = by_parts _
+taken_by Desc-F.Never = nothing_taken
+taken_by Desc-F.Null = by_parts _
 taken_by Desc-F.Bool = by_parts _
-taken_by (Desc-F.Int kind min max) = by_parts (schema_step (Desc-F.Int kind min max))
-taken_by (Desc-F.Text min max format) = by_parts (schema_step (Desc-F.Text min max format))
+taken_by Desc-F.Char = by_parts _
+taken_by (Desc-F.Int kind min max) = by_parts (sketch_step (Desc-F.Int kind min max)).parts
+taken_by (Desc-F.Text min max format) = by_parts (sketch_step (Desc-F.Text min max format)).parts
+taken_by (Desc-F.Enumeration ns) = enumeration_taken ns
 taken_by (Desc-F.Option e) = null_taken (schema_parts e.0) e.1
 taken_by (Desc-F.List e min max) = list_taken (schema_parts e.0) min max e.1
-taken_by (Desc-F.Struct es deny) =
-    let fs = map (λ (e : KnownField). e.0) es in
-    ap (λ (xs : List FieldParts). refusal_of (object_of (struct_of (sorted_by property_name (map property_of xs)) (sorted_by same_name (required_names xs)) deny))) (same_fields fs)
-    ∙ struct_taken (sorted_by property_name (map property_of (map parts_of_field fs))) (sorted_by same_name (required_names (map parts_of_field fs))) deny
-    (all_sorted (λ (p : Property). property_refusal p ≡ None) property_name (map property_of (map parts_of_field fs)) (properties_taken es))
-taken_by (Desc-F.Untagged es) = choice_taken (map object_of (map schema_parts (map (λ (e : Known). e.0) es))) (alternatives_taken es)
-taken_by (Desc-F.Ref name) = by_parts (schema_step (Desc-F.Ref name))
+taken_by (Desc-F.Map e) = map_taken (schema_sketch e.0) e.1
+taken_by (Desc-F.Struct es deny) = struct_taken _ deny (properties_taken (map (λ e. e.0) es) (each_holds (InField IsTaken) es))
+taken_by (Desc-F.External es) = one_of_taken _ (external_taken (map (λ e. e.0) es) (each_holds (InVariant IsTaken) es))
+taken_by (Desc-F.Tagged tag es) = one_of_taken _ (tagged_taken tag (map (λ e. e.0) es) (each_holds (InTagged IsTaken) es))
+taken_by (Desc-F.Untagged es) = choice_taken _ (alternatives_taken (map (λ e. e.0) es) (each_holds IsTaken es))
+taken_by (Desc-F.Ref name) = by_parts (sketch_step (Desc-F.Ref name)).parts
 
 pub never_refused : (d : Desc) → refusal_of (schema_value d) ≡ None
-never_refused = ind-Desc IsTaken (λ f. IsTaken f.desc) (λ x y is.
-    let h = subst (λ (z : Desc-F Desc Field). Taken (parts_level z)) is (taken_by y) in
-    rw (fold-roll-Desc Parts FieldParts schema_step field_parts x) h)
-    (λ x y is. subst (λ (z : Field-F Desc Field). IsTaken z.desc) is y.desc.1)
+never_refused = by_levels IsTaken (λ y. subst Taken (sym (parts_row _ (firsts IsTaken y) (out-roll-Desc (firsts IsTaken y)))) (taken_by y))

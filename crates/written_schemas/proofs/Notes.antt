@@ -1,14 +1,14 @@
 -- Annotations in front of a schema's members change what it admits at null alone.
-use Rattle.std.proofs.Common.{◌≡◌, ℕ, Bool, true, false, ◌&&◌, ◌||◌, List, [], ◌∷◌, ◌++◌, Option, Some, None, codes, bytes_eq, refl, ◌∙◌, ap}
+use Rattle.std.proofs.Common.{◌≡◌, ℕ, Bool, true, false, ◌&&◌, ◌||◌, List, [], ◌∷◌, ◌++◌, Option, Some, None, if◌then◌else◌, codes, bytes_eq, refl, ◌∙◌, ap}
 use Rattle.std.specs.List.{list_all}
 use Rattle.std.specs.Option.{option_map_or}
 use Rattle.schema_values.specs.declared.json_value.Json.{Json, Object}
-use Rattle.schema_values.specs.declared.json_value.Json.TheVariants as json
+use Rattle.schema_values.specs.declared.json_value.Json.TheVariants.{outs-Bool, outs-Object}
 use Rattle.schema_values.specs.declared.json_value.Member.{Member}
 use Rattle.schema_values.specs.Get.{first_named}
 use Rattle.openapi_values.specs.Keywords.{keyword_of, is_annotation, bound_or, part_of}
 use Rattle.openapi_values.specs.Levels.{Level, is_null, is_true, as_object}
-use Rattle.openapi_values.specs.Lookup.{definition, reference_in, is_set}
+use Rattle.openapi_values.specs.Lookup.{definition, reference_in, is_set, is_of_type, is_null_form}
 use Rattle.openapi_values.specs.Options.{is_some_and}
 use Rattle.openapi_values.specs.Rows.{row, in_subset, members_hold}
 use Rattle.openapi_values.specs.JsonAdmits.{object_admits, members_admit, schema_admits}
@@ -66,16 +66,27 @@ module _ (n : Bool) (t d : Option (List ℕ)) (ms : List Member) where
   notes_null none = by_cases n t d
     where
       by_cases : (n : Bool) (t d : Option (List ℕ)) → is_set (codes "nullable") (notes n t d ++ ms) ≡ n
-      by_cases true t d = ap is_true (json.outs-Bool true)
+      by_cases true t d = ap is_true (outs-Bool true)
       by_cases false (Some title) (Some text) = rw none refl
       by_cases false (Some title) None = rw none refl
       by_cases false None (Some text) = rw none refl
       by_cases false None None = rw none refl
 
-module _ {X : Type 0} (doc : Json) (smaller : X → Json → Bool) (next : Json → Bool) (j : Level X) (n : Bool) (t d : Option (List ℕ)) where
+  notes_form : is_null_form (notes n t d ++ ms) ≡ is_null_form ms
+  notes_form = rw (notes_passed (codes "type") (refl, refl, refl), notes_passed (codes "enum") (refl, refl, refl)) refl
+
+-- without values a schema is not the null form
+pub no_null_form : (ms : List Member) → first_named (codes "enum") ms ≡ None → is_null_form ms ≡ false
+no_null_form ms e = rw e (never (is_of_type (codes "string") ms))
+  where
+    never : (b : Bool) → (b && false) ≡ false
+    never true = refl
+    never false = refl
+
+module _ {X : Type 0} (doc : Json) (smaller : X → Json → Bool) (next : Json → Bool) (json : Json) (j : Level X) (n : Bool) (t d : Option (List ℕ)) where
   -- the rows of some members of a whole schema
   abbrev pub hold : List Member → List Member → Bool
-  hold schema ms = list_all (λ m. row smaller next j schema (keyword_of m.name) m.value) ms
+  hold schema ms = list_all (λ m. row smaller next json j schema (keyword_of m.name) m.value) ms
 
   notes_hold : (schema ms : List Member) → hold schema (notes n t d ++ ms) ≡ hold schema ms
   unfolding is_annotation bound_or part_of
@@ -104,16 +115,43 @@ module _ {X : Type 0} (doc : Json) (smaller : X → Json → Bool) (next : Json 
       by_cases false None None [] = rw other refl
       by_cases false None None (l ∷ ms) = refl
 
-  object_row : (schema : List Member) → reference_in schema ≡ None → schema_admits doc smaller next j (Object schema) ≡ object_admits smaller next j schema
-  object_row schema none =
-      ap (λ (x : Level Json). is_some_and (as_object x) (members_admit doc smaller next j)) (json.outs-Object schema)
-      ∙ ap (λ (o : Option (List ℕ)). option_map_or (λ name. is_some_and (definition doc name) next) o (object_admits smaller next j schema)) none
+  notes_alone : reference_in (notes n t d ++ []) ≡ None
+  notes_alone = by_cases n t d
+    where
+      by_cases : (n : Bool) (t d : Option (List ℕ)) → reference_in (notes n t d ++ []) ≡ None
+      by_cases true (Some title) (Some text) = refl
+      by_cases true (Some title) None = refl
+      by_cases true None (Some text) = refl
+      by_cases true None None = refl
+      by_cases false (Some title) (Some text) = refl
+      by_cases false (Some title) None = refl
+      by_cases false None (Some text) = refl
+      by_cases false None None = refl
 
-  -- A schema of the subset admits null beside, where it says so, and that of which its members hold.
-  pub noted_admits : (m : Member) (ms : List Member) → bytes_eq m.name (codes "$ref") ≡ false → first_named (codes "nullable") (m ∷ ms) ≡ None → in_subset (m ∷ ms) ≡ true
-      → schema_admits doc smaller next j (Object (notes n t d ++ m ∷ ms)) ≡ (n && is_null j || hold (notes n t d ++ m ∷ ms) (m ∷ ms))
-  noted_admits m ms other no_null read =
-      object_row (notes n t d ++ m ∷ ms) (no_reference m ms other)
-      ∙ ap (λ (b : Bool). b && (is_set (codes "nullable") (notes n t d ++ m ∷ ms) && is_null j || members_hold smaller next j (notes n t d ++ m ∷ ms))) (notes_read n t d (m ∷ ms) ∙ read)
-      ∙ ap (λ (b : Bool). b && is_null j || members_hold smaller next j (notes n t d ++ m ∷ ms)) (notes_null n t d (m ∷ ms) no_null)
-      ∙ ap (λ (b : Bool). n && is_null j || b) (notes_hold (notes n t d ++ m ∷ ms) (m ∷ ms))
+  object_row : (schema : List Member) → reference_in schema ≡ None → schema_admits doc smaller next json j (Object schema) ≡ object_admits smaller next json j schema
+  object_row schema none =
+      ap (λ (x : Level Json). is_some_and (as_object x) (members_admit doc smaller next json j)) (outs-Object schema)
+      ∙ ap (λ (o : Option (List ℕ)). option_map_or (λ name. is_some_and (definition doc name) next) o (object_admits smaller next json j schema)) none
+
+  noted_by : (ms : List Member) (form : Bool) → reference_in (notes n t d ++ ms) ≡ None → first_named (codes "nullable") ms ≡ None → in_subset ms ≡ true → is_null_form ms ≡ form
+      → schema_admits doc smaller next json j (Object (notes n t d ++ ms)) ≡ (n && is_null j || (if form then is_null j else hold (notes n t d ++ ms) ms))
+  noted_by ms form none no_null read formed =
+      let schema = notes n t d ++ ms in
+      object_row schema none
+      ∙ ap (λ (b : Bool). b && (is_set (codes "nullable") schema && is_null j || (if is_null_form schema then is_null j else members_hold smaller next json j schema))) (notes_read n t d ms ∙ read)
+      ∙ ap (λ (b : Bool). b && is_null j || (if is_null_form schema then is_null j else members_hold smaller next json j schema)) (notes_null n t d ms no_null)
+      ∙ ap (λ (b : Bool). n && is_null j || (if b then is_null j else members_hold smaller next json j schema)) (notes_form n t d ms ∙ formed)
+      ∙ ap (λ (b : Bool). n && is_null j || (if form then is_null j else b)) (notes_hold schema ms)
+
+  -- A schema of the subset admits null beside, where it says so, and that of which its members hold; the null form null alone.
+  pub noted_admits : (m : Member) (ms : List Member) (form : Bool) → bytes_eq m.name (codes "$ref") ≡ false → first_named (codes "nullable") (m ∷ ms) ≡ None → in_subset (m ∷ ms) ≡ true → is_null_form (m ∷ ms) ≡ form
+      → schema_admits doc smaller next json j (Object (notes n t d ++ m ∷ ms)) ≡ (n && is_null j || (if form then is_null j else hold (notes n t d ++ m ∷ ms) (m ∷ ms)))
+  noted_admits m ms form other = noted_by (m ∷ ms) form (no_reference m ms other)
+
+  -- without members every value is admitted
+  pub all_admitted : schema_admits doc smaller next json j (Object (notes n t d ++ [])) ≡ true
+  all_admitted = noted_by [] false notes_alone refl refl refl ∙ always (n && is_null j)
+    where
+      always : (b : Bool) → (b || true) ≡ true
+      always true = refl
+      always false = refl

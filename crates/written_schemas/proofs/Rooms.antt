@@ -11,13 +11,13 @@ use Rattle.openapi_values.specs.Room.{values}
 use Rattle.openapi_values.specs.ValuesOfMembers.{member_values}
 use Rattle.typed_values.specs.declared.desc.Desc.{Desc, out-Desc}
 use Rattle.typed_values.specs.declared.desc.Desc.TheOpen.{Desc-F}
-use Rattle.typed_values.specs.declared.desc.Field.{Field}
 use Rattle.typed_values.specs.declared.table.Definition.{Definition}
 use Rattle.typed_values.specs.Checks.{TablePasses}
 use Rattle.typed_values.specs.Definitions.{entry_of}
 use Rattle.typed_values.specs.Guarded.{named_here, Reaches, at_once, through}
 use Rattle.typed_values.specs.SchemaTable.{schema_json_described}
 use Rattle.typed_values.specs.Reached.{IsReached}
+use Rattle.typed_values.specs.Levels.{DescLevel}
 use Rattle.typed_values.proofs.Found.{contains_first, contains_later, definition_is, entry_name, same_or_not}
 use Rattle.typed_values.proofs.Needed.{IsNeeded, of_whole, of_reached, entry_inside, option_needed, alternative_needed, reference_reached, reference_needed}
 use Rattle.typed_values.proofs.Tops.{through_option, through_alternative}
@@ -97,13 +97,21 @@ module _ (table : List Definition) (whole : Desc) (doc : Json) (passes : TablePa
             absurd (passes.guarded y (entry_inside table name y f) (subst (λ (m : List ℕ). Reaches table m y.desc) (sym (entry_name table name y f)) cycle))
       ]
 
-  bounded_by : (n : ℕ) → Bounded n → (left : List Member) (d : Desc) → IsNeeded table whole d → AreLeft left d → (z : Desc-F Desc Field) → out-Desc d ≡ z → cost_by table (cost table n) z ≤ top_cost d + summed (weight table) left
+  bounded_by : (n : ℕ) → Bounded n → (left : List Member) (d : Desc) → IsNeeded table whole d → AreLeft left d → (z : DescLevel) → out-Desc d ≡ z → cost_by table (cost table n) z ≤ top_cost d + summed (weight table) left
   unfolding Bounded
+  bounded_by n bounded left d need inv Desc-F.Any e = omega (arith, top_at d _ e)
+  bounded_by n bounded left d need inv Desc-F.Never e = omega (arith, top_at d _ e)
+  bounded_by n bounded left d need inv Desc-F.Null e = omega (arith, top_at d _ e)
   bounded_by n bounded left d need inv Desc-F.Bool e = omega (arith, top_at d _ e)
+  bounded_by n bounded left d need inv Desc-F.Char e = omega (arith, top_at d _ e)
   bounded_by n bounded left d need inv (Desc-F.Int kind min max) e = omega (arith, top_at d _ e)
   bounded_by n bounded left d need inv (Desc-F.Text min max format) e = omega (arith, top_at d _ e)
+  bounded_by n bounded left d need inv (Desc-F.Enumeration ns) e = omega (arith, top_at d _ e)
   bounded_by n bounded left d need inv (Desc-F.List x min max) e = omega (arith, top_at d _ e)
+  bounded_by n bounded left d need inv (Desc-F.Map x) e = omega (arith, top_at d _ e)
   bounded_by n bounded left d need inv (Desc-F.Struct fs deny) e = omega (arith, top_at d _ e)
+  bounded_by n bounded left d need inv (Desc-F.External vs) e = omega (arith, top_at d _ e)
+  bounded_by n bounded left d need inv (Desc-F.Tagged tag vs) e = omega (arith, top_at d _ e)
   bounded_by n bounded left d need inv (Desc-F.Option x) e =
       omega (arith, top_at d _ e, bounded left x (option_needed table whole d x e need) (go_on left d x (through_option table x e) inv))
   bounded_by n bounded left d need inv (Desc-F.Untagged ds) e =

@@ -1,5 +1,6 @@
 -- The parts of the schema of a descriptor.
-use Rattle.std.proofs.Common.{◌≡◌, ℕ, List, [], ◌∷◌, ◌++◌, Option, Some, None, Bool, refl, sym, ◌∙◌, ap, codes}
+use Rattle.std.proofs.Common.{◌≡◌, ℕ, List, [], ◌∷◌, ◌++◌, Option, Some, None, Bool, true, false, if◌then◌else◌, refl, sym, ◌∙◌, ap, codes}
+use Rattle.std.specs.List.{list_any}
 use Rattle.schema_values.specs.declared.schema.ArrayParts.{ArrayParts}
 use Rattle.schema_values.specs.declared.schema.Items.{Items}
 use Rattle.schema_values.specs.declared.schema.ObjectParts.{ObjectParts, ObjectParts-F}
@@ -7,25 +8,23 @@ use Rattle.schema_values.specs.declared.schema.Property.{Property}
 use Rattle.schema_values.specs.declared.schema.Schema.{Schema}
 use Rattle.schema_values.specs.declared.schema.SchemaObject.{SchemaObject}
 use Rattle.schema_values.specs.declared.schema.Subschemas.{Subschemas, roll-Subschemas}
-use Rattle.typed_values.specs.declared.desc.Desc.{Desc}
-use Rattle.typed_values.specs.declared.desc.Desc.TheFolds.{fold-Field, map-Desc}
-use Rattle.typed_values.specs.declared.desc.Desc.TheOpen.{Desc-F}
-use Rattle.typed_values.specs.declared.desc.Field.{Field}
-use Rattle.typed_values.specs.Schemas.{Parts, FieldParts, object_of, no_parts, annotatable, nothing_more, schema_step, field_parts, schema_parts}
+use Rattle.typed_values.specs.declared.desc.Named.{Named}
+use Rattle.typed_values.specs.SchemaTable.{is_described}
+use Rattle.typed_values.specs.Schemas.{Parts, object_of, no_parts, no_subschemas, annotatable, nothing_more, one_of, choices_of, enumerated, texts_of, enumeration}
 
 abbrev pub of_reference : List ℕ → Parts
 of_reference name = record no_parts { reference = Some (codes "#/components/schemas/" ++ name) }
 
 -- the schema in an `all_of` of one
 abbrev pub in_all_of : Parts → Subschemas
-in_all_of p = roll-Subschemas (record { all_of = Some (object_of p ∷ []); any_of = None })
+in_all_of p = roll-Subschemas (record no_subschemas { all_of = Some (object_of p ∷ []) })
 
 -- the members of a struct
 abbrev pub StructParts : Type 0
 StructParts = ObjectParts-F Items Schema ArrayParts ObjectParts Property SchemaObject Subschemas
 
-abbrev pub struct_parts : List Property → List (List ℕ) → Bool → StructParts
-struct_parts properties required deny = record { properties = properties; required = required; additional = nothing_more deny }
+abbrev pub object_parts : List Property → List (List ℕ) → Bool → StructParts
+object_parts properties required deny = record { properties = properties; required = required; additional = nothing_more deny }
 
 module _ (p : Parts) where
   pub kept : p.reference ≡ None → annotatable p ≡ p
@@ -43,8 +42,9 @@ module _ (p : Parts) where
   pub annotatable_is_free : (annotatable p).reference ≡ None
   annotatable_is_free = annotatable_free p.reference refl
 
-abbrev pub folded_field : Field → FieldParts
-folded_field = fold-Field Parts FieldParts schema_step field_parts
-
-abbrev pub parts_level : Desc-F Desc Field → Parts
-parts_level x = schema_step (map-Desc Desc Field Parts FieldParts schema_parts folded_field x)
+pub enumeration_is_free : (ns : List Named) → (enumeration ns).reference ≡ None
+enumeration_is_free ns = by_case (list_any is_described ns)
+  where
+    by_case : (b : Bool) → (if b then one_of (choices_of ns) else enumerated (texts_of ns)).reference ≡ None
+    by_case true = refl
+    by_case false = refl

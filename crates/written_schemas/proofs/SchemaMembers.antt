@@ -1,51 +1,76 @@
 -- The members of the schema of a descriptor beside its annotations: as they are written, and in the table.
-use Rattle.std.proofs.Common.{◌≡◌, ℕ, ℤ, List, [], ◌∷◌, ◌++◌, map, Option, Some, None, option_map, unwrap_or, Bool, true, false, refl, ◌∙◌, ap, codes, append_assoc}
+use Rattle.std.proofs.Common.{◌≡◌, ℕ, ℤ, List, [], ◌∷◌, ◌++◌, map, Option, Some, None, option_map, unwrap_or, if◌then◌else◌, Bool, true, false, refl, sym, ◌∙◌, ap, codes}
 use Rattle.std.specs.Option.{option_map_or}
-use Rattle.schema_values.specs.declared.json_value.Json.{Json, Text as Words, List as ListOf, Object}
+use Rattle.schema_values.specs.declared.json_value.Json.{Json, Bool as TruthJson, Text as Words, List as ListOf, Object}
 use Rattle.schema_values.specs.declared.json_value.Member.{Member}
 use Rattle.schema_values.specs.declared.schema.ArrayParts.{roll-ArrayParts}
 use Rattle.schema_values.specs.declared.schema.InstanceType.TheVariants as types
+use Rattle.schema_values.specs.declared.schema.InstanceTypes.{InstanceTypes}
+use Rattle.schema_values.specs.declared.schema.InstanceTypes.TheVariants.{Single}
 use Rattle.schema_values.specs.declared.schema.Items.{One}
 use Rattle.schema_values.specs.declared.schema.ObjectParts.{roll-ObjectParts, out-roll-ObjectParts}
 use Rattle.schema_values.specs.declared.schema.Property.{Property}
-use Rattle.schema_values.specs.declared.schema.Schema.{Schema}
-use Rattle.schema_values.specs.declared.schema.SchemaObject.{roll-SchemaObject, out-roll-SchemaObject}
+use Rattle.schema_values.specs.declared.schema.Schema.{Schema, Bool as Truth}
+use Rattle.schema_values.specs.declared.schema.SchemaObject.{SchemaObject-F, roll-SchemaObject, out-roll-SchemaObject}
 use Rattle.schema_values.specs.declared.schema.Subschemas.{roll-Subschemas}
 use Rattle.schema_values.specs.Member.{member}
 use Rattle.openapi_values.specs.Objects.{Entry, pair_member, present, members_of, object_of as entries_object, reference_json, unless_empty}
-use Rattle.openapi_values.specs.SchemaJson.{Written, untitled, additional_json, count_json, names_json, annotations, type_entries, schema_written, array_written, object_parts_written, property_written, subschemas_written, schema_json}
+use Rattle.openapi_values.specs.SchemaJson.{Written, Level, untitled, additional_json, count_json, names_json, annotations, nothing_entries, type_entries, without_values, entries_behind, object_step, schema_written, array_written, object_parts_written, property_written, subschemas_written, schema_json}
 use Rattle.openapi_values.proofs.ObjectLemmas.{members_of-append}
 use Rattle.openapi_values.proofs.SchemaLevels.{truth-is, object-under, items-are, array-is, subschemas-are, object_parts-are, object-is}
 use Rattle.typed_values.specs.declared.desc.IntKind.{IntKind}
-use Rattle.typed_values.specs.SchemaTable.{if_true, if_text, if_number, if_count, if_members, if_names, if_denied, of_type, format_of, reference}
-use Rattle.typed_values.specs.Schemas.{Parts, object_of, of_single, number_bounds, length_bounds, nothing_more, list_of, struct_of, choice_of}
+use Rattle.typed_values.specs.SchemaTable.{nothing, if_true, if_text, if_number, if_count, if_members, if_names, if_denied, of_type, format_of, reference}
+use Rattle.typed_values.specs.Schemas.{Parts, object_of, of_single, no_subschemas, number_bounds, length_bounds, nothing_more, list_of, struct_of, map_of, choice_of, one_of, all_or_none}
 use Rattle.typed_values.proofs.Rows.{two_maps}
-use Rattle.written_schemas.proofs.SchemaForms.{StructParts, struct_parts, of_reference, in_all_of}
+use Rattle.written_schemas.proofs.SchemaForms.{StructParts, object_parts, of_reference, in_all_of}
 
 -- ---- a schema by its parts
 
-abbrev of_the_type : Parts → List Entry
-of_the_type p = type_entries p.instance_type p.format p.number p.string (option_map array_written p.array) (option_map object_parts_written p.object)
+-- parts in which each part with schemas stands as it is written
+abbrev level_of : Parts → Level SchemaObject-F
+level_of p = record {
+  title = p.title;
+  description = p.description;
+  nullable = p.nullable;
+  instance_type = p.instance_type;
+  format = p.format;
+  enum_values = p.enum_values;
+  subschemas = option_map subschemas_written p.subschemas;
+  number = p.number;
+  string = p.string;
+  array = option_map array_written p.array;
+  object = option_map object_parts_written p.object;
+  reference = p.reference;
+}
 
-abbrev of_subschemas : Parts → List Entry
-of_subschemas p = unwrap_or (option_map subschemas_written p.subschemas) []
+-- a level without annotations, which behind them make no difference
+abbrev without_notes : Level SchemaObject-F → Level SchemaObject-F
+without_notes s = record s { title = None; description = None; nullable = false; reference = None }
+
+type_alone : (type : Option InstanceTypes) (s : Level SchemaObject-F) → type_entries type s ≡ type_entries type (without_notes s)
+type_alone None s = refl
+type_alone (Some (Single types.Null)) s = refl
+type_alone (Some (Single types.Boolean)) s = refl
+type_alone (Some (Single types.Object)) s = refl
+type_alone (Some (Single types.Array)) s = refl
+type_alone (Some (Single types.String)) s = refl
+type_alone (Some (Single types.Integer)) s = refl
+
+behind_alone : (s : Level SchemaObject-F) → entries_behind s ≡ entries_behind (without_notes s)
+behind_alone s = ap (λ (es : List Entry). if without_values s.enum_values then nothing_entries else es ++ unwrap_or s.subschemas []) (type_alone s.instance_type s)
 
 -- the members beside the annotations
 abbrev pub beside : Parts → List Member
-beside p = members_of (of_the_type p ++ of_subschemas p)
+beside p = members_of (entries_behind (without_notes (level_of p)))
 
 abbrev pub notes : Bool → Option (List ℕ) → Option (List ℕ) → List Member
 notes nullable title description = if_true nullable (codes "nullable") (if_text title (codes "title") (if_text description (codes "description") []))
 
-abbrev written_parts : Option (List ℕ) → Parts → Json
-written_parts given p =
-    option_map_or reference_json p.reference (entries_object ((annotations given p.title p.description p.nullable ++ of_the_type p) ++ of_subschemas p))
-
-by_parts : (given : Option (List ℕ)) (p : Parts) → schema_json given (object_of p) ≡ written_parts given p
+by_parts : (given : Option (List ℕ)) (p : Parts) → schema_json given (object_of p) ≡ object_step (level_of p) given
 by_parts given p =
     ap (λ (w : Written). w.under given) (object-under (roll-SchemaObject p))
     ∙ object-is (roll-SchemaObject p) given
-    ∙ ap (written_parts given) (out-roll-SchemaObject p)
+    ∙ ap (λ (q : Parts). object_step (level_of q) given) (out-roll-SchemaObject p)
 
 notes_are : (given : Option (List ℕ)) (nullable : Bool) (description : Option (List ℕ)) → members_of (annotations given None description nullable) ≡ notes nullable given description
 notes_are None true None = refl
@@ -57,19 +82,19 @@ notes_are (Some title) true (Some text) = refl
 notes_are (Some title) false None = refl
 notes_are (Some title) false (Some text) = refl
 
-three : (es fs gs : List Entry) → members_of ((es ++ fs) ++ gs) ≡ members_of es ++ members_of (fs ++ gs)
-three es fs gs = ap members_of (append_assoc es fs gs) ∙ members_of-append es (fs ++ gs)
-
 -- parts that are no reference and have no title of their own
 pub written_beside : (given : Option (List ℕ)) (p : Parts) → p.reference ≡ None → p.title ≡ None → schema_json given (object_of p) ≡ Object (notes p.nullable given p.description ++ beside p)
 written_beside given p no_reference no_title =
+    let behind = entries_behind (without_notes (level_of p)) in
     by_parts given p
-    ∙ ap (λ (r : Option (List ℕ)). written_parts given (record p { reference = r })) no_reference
-    ∙ ap (λ (t : Option (List ℕ)). written_parts given (record p { reference = None; title = t })) no_title
-    ∙ ap Object (three (annotations given None p.description p.nullable) (of_the_type p) (of_subschemas p) ∙ ap (λ (ms : List Member). ms ++ beside p) (notes_are given p.nullable p.description))
+    ∙ ap (λ (es : List Entry). option_map_or reference_json p.reference (entries_object (annotations given p.title p.description p.nullable ++ es))) (behind_alone (level_of p))
+    ∙ ap (λ (r : Option (List ℕ)). option_map_or reference_json r (entries_object (annotations given p.title p.description p.nullable ++ behind))) no_reference
+    ∙ ap (λ (t : Option (List ℕ)). entries_object (annotations given t p.description p.nullable ++ behind)) no_title
+    ∙ ap Object (members_of-append (annotations given None p.description p.nullable) behind ∙ ap (λ (ms : List Member). ms ++ beside p) (notes_are given p.nullable p.description))
 
-pub written_reference : (name : List ℕ) → schema_json None (object_of (of_reference name)) ≡ Object (reference name).members
-written_reference name = by_parts None (of_reference name)
+-- a reference is written alone, whatever the title
+pub written_reference : (given : Option (List ℕ)) (name : List ℕ) → schema_json given (object_of (of_reference name)) ≡ Object (reference name).members
+written_reference given name = by_parts given (of_reference name)
 
 -- ---- members that may be absent
 
@@ -123,31 +148,66 @@ list_members item json min max e =
 abbrev pub property_member : Property → Member
 property_member p = pair_member (property_written p)
 
+abbrev object_entries : StructParts → List Entry
+object_entries o =
+    (codes "properties", unless_empty (map pair_member (map property_written o.properties)))
+    ∷ (codes "required", names_json o.required)
+    ∷ (codes "additionalProperties", option_map additional_json (option_map schema_written o.additional))
+    ∷ []
+
+object_members : (o : StructParts) → beside (record (of_single types.Object) { object = Some (roll-ObjectParts o) }) ≡ of_type (codes "object") (members_of (object_entries o))
+object_members o =
+    ap (λ (es : List Entry). members_of (((codes "type", Some (Words (codes "object"))) ∷ es) ++ []))
+    (object_parts-are (roll-ObjectParts o) ∙ ap object_entries (out-roll-ObjectParts o))
+
 pub struct_members : (properties : List Property) (required : List (List ℕ)) (deny : Bool) →
     beside (struct_of properties required deny)
     ≡ of_type (codes "object") (if_members (map property_member properties) (codes "properties") (if_names required (codes "required") (if_denied deny)))
 struct_members properties required deny =
-    let object = struct_parts properties required deny in
     let denied = present (codes "additionalProperties") (option_map additional_json (option_map schema_written (nothing_more deny))) [] in
-    ap (λ (es : List Entry). members_of (((codes "type", Some (Words (codes "object"))) ∷ es) ++ []))
-    (object_parts-are (roll-ObjectParts object) ∙ ap (λ (o : StructParts).
-    (codes "properties", unless_empty (map pair_member (map property_written o.properties)))
-    ∷ (codes "required", names_json o.required)
-    ∷ (codes "additionalProperties", option_map additional_json (option_map schema_written o.additional))
-    ∷ []) (out-roll-ObjectParts object))
+    object_members (object_parts properties required deny)
     ∙ ap (of_type (codes "object")) (
     members_if (map pair_member (map property_written properties)) (codes "properties") (present (codes "required") (names_json required) denied)
     ∙ ap (λ (ms : List Member). if_members ms (codes "properties") (present (codes "required") (names_json required) denied)) (two_maps pair_member property_written property_member (λ p. refl) properties)
     ∙ ap (if_members (map property_member properties) (codes "properties")) (names_if required (codes "required") denied
     ∙ ap (if_names required (codes "required")) (denied_if deny)))
 
+pub map_members : (values : Schema) (json : Json) → additional_json (schema_written values) ≡ json →
+    beside (map_of values) ≡ of_type (codes "object") (member (codes "additionalProperties") json ∷ [])
+map_members values json e =
+    object_members (record { properties = []; required = []; additional = Some values })
+    ∙ ap (λ (j : Json). of_type (codes "object") (member (codes "additionalProperties") j ∷ [])) e
+
+-- the schema of other members: a truth value where it is one
+pub truth_or_written : (truth : Option Bool) (p : Parts) (json : Json) → schema_json None (object_of p) ≡ json →
+    additional_json (schema_written (option_map_or Truth truth (object_of p))) ≡ option_map_or TruthJson truth json
+truth_or_written (Some truth) p json e = ap additional_json (truth-is truth)
+truth_or_written None p json e =
+    ap additional_json (object-under (roll-SchemaObject p))
+    ∙ sym (ap untitled (object-under (roll-SchemaObject p)))
+    ∙ e
+
+listed_schemas : (schemas : List Schema) (jsons : List Json) → map (schema_json None) schemas ≡ jsons → map untitled (map schema_written schemas) ≡ jsons
+listed_schemas schemas jsons e = two_maps untitled schema_written (schema_json None) (λ s. refl) schemas ∙ e
+
 pub choice_members : (schemas : List Schema) (jsons : List Json) → map (schema_json None) schemas ≡ jsons →
     beside (choice_of schemas) ≡ member (codes "anyOf") (ListOf jsons) ∷ []
 choice_members schemas jsons e =
-    ap members_of (subschemas-are (roll-Subschemas (record { all_of = None; any_of = Some schemas })))
-    ∙ ap (λ (js : List Json). member (codes "anyOf") (ListOf js) ∷ []) (two_maps untitled schema_written (schema_json None) (λ s. refl) schemas ∙ e)
+    ap members_of (subschemas-are (roll-Subschemas (record no_subschemas { any_of = Some schemas })))
+    ∙ ap (λ (js : List Json). member (codes "anyOf") (ListOf js) ∷ []) (listed_schemas schemas jsons e)
+
+pub one_of_members : (schemas : List Schema) (jsons : List Json) → map (schema_json None) schemas ≡ jsons →
+    beside (one_of schemas) ≡ member (codes "oneOf") (ListOf jsons) ∷ []
+one_of_members schemas jsons e =
+    ap members_of (subschemas-are (roll-Subschemas (record no_subschemas { one_of = Some schemas })))
+    ∙ ap (λ (js : List Json). member (codes "oneOf") (ListOf js) ∷ []) (listed_schemas schemas jsons e)
+
+pub nothing_members : beside (all_or_none false).parts ≡ nothing
+nothing_members =
+    ap members_of (subschemas-are (roll-Subschemas (record no_subschemas { not = Some (Truth true) })))
+    ∙ ap (λ (w : Written). member (codes "not") (untitled w) ∷ []) (truth-is true)
 
 pub all_of_members : (name : List ℕ) → members_of (subschemas_written (in_all_of (of_reference name))) ≡ member (codes "allOf") (ListOf (Object (reference name).members ∷ [])) ∷ []
 all_of_members name =
     ap members_of (subschemas-are (in_all_of (of_reference name)))
-    ∙ ap (λ (j : Json). member (codes "allOf") (ListOf (j ∷ [])) ∷ []) (written_reference name)
+    ∙ ap (λ (j : Json). member (codes "allOf") (ListOf (j ∷ [])) ∷ []) (written_reference None name)

@@ -1,8 +1,10 @@
 -- How many JSON values the schema of a descriptor has, beside the steps that its top takes.
-use Rattle.std.proofs.Common.{◌≡◌, ℕ, suc, ◌+◌, ◌≤◌, Bool, true, false, List, [], ◌∷◌, ◌++◌, map, sum, Option, codes, refl, ◌∙◌, ap, arith, inl, inr}
+use Rattle.std.proofs.Common.{◌≡◌, ℕ, suc, ◌+◌, ◌≤◌, Bool, true, false, List, [], ◌∷◌, ◌++◌, map, sum, Option, Some, None, codes, cond, refl, sym, ◌∙◌, ap, subst, arith, inl, inr}
+use Rattle.std.specs.List.{list_any}
+use Rattle.std.specs.Option.{option_map_or}
 use Rattle.std.specs.Prelude.{Contains}
 use Rattle.std.proofs.lemmas.List.Sums.{sum_by-cons}
-use Rattle.schema_values.specs.declared.json_value.Json.{Json, out-Json, List as Items, Object, Text as Words}
+use Rattle.schema_values.specs.declared.json_value.Json.{Json, out-Json, Bool as Truth, List as Items, Object, Text as Words}
 use Rattle.schema_values.specs.declared.json_value.Json.TheOpen.{Json-F}
 use Rattle.schema_values.specs.declared.json_value.Json.TheVariants as json
 use Rattle.schema_values.specs.declared.json_value.Member.{Member}
@@ -11,18 +13,25 @@ use Rattle.openapi_values.specs.Room.{values}
 use Rattle.openapi_values.specs.ValuesOfMembers.{member_values}
 use Rattle.openapi_values.proofs.RoomLemmas.{values_is, values_row}
 use Rattle.typed_values.specs.declared.desc.Desc.{Desc, out-Desc}
-use Rattle.typed_values.specs.declared.desc.Desc.TheFolds.{fold-Desc, fold-Field, fold_out-Desc, map-Desc}
+use Rattle.typed_values.specs.declared.desc.Desc.TheFolds.{fold-Desc, fold-Field, fold-TaggedVariant, fold-Variant, fold_out-Desc, map-Desc}
 use Rattle.typed_values.specs.declared.desc.Desc.TheOpen.{Desc-F}
 use Rattle.typed_values.specs.declared.desc.Field.{Field}
-use Rattle.typed_values.specs.Denotes.{field_nodes}
+use Rattle.typed_values.specs.declared.desc.Named.{Named}
+use Rattle.typed_values.specs.declared.desc.TaggedVariant.{TaggedVariant}
+use Rattle.typed_values.specs.declared.desc.Variant.{Variant}
+use Rattle.typed_values.specs.Definitions.{listed_name, tagged_fields}
+use Rattle.typed_values.specs.Denotes.{field_nodes, tagged_nodes, variant_nodes}
 use Rattle.typed_values.specs.Order.{sorted_by}
-use Rattle.typed_values.specs.SchemaTable.{Drawn, drawn, drawn_json, drawn_step, annotated, property_of, required_names, same_name, if_members, if_names, if_denied, schema_json}
-use Rattle.typed_values.proofs.Found.{contains_cases}
+use Rattle.typed_values.specs.SchemaTable.{Drawn, DrawnVariant, drawn, drawn_json, drawn_step, described, annotated, property_of, required_names, same_name, if_members, if_names, if_denied, plain, enumerated, is_described, choices_of, other_members, struct_drawn, bare_names, payload_choices, tagged_choice, schema_json}
+use Rattle.typed_values.specs.Levels.{DescLevel}
+use Rattle.typed_values.proofs.Found.{contains_cases, contains_first, contains_later}
 use Rattle.written_schemas.proofs.Notes.{noted, notes}
 use Rattle.written_schemas.proofs.Composites.{counts}
 use Rattle.written_schemas.proofs.Sorted.{sum_sorted}
-use Rattle.written_schemas.proofs.Fields.{drawn_of, property}
-use Rattle.written_schemas.proofs.Forms.{drawn_row, drawn_level}
+use Rattle.written_schemas.proofs.Fields.{property}
+use Rattle.written_schemas.proofs.Forms.{drawn_of, drawn_row, drawn_level, drawn_variant_of, drawn_tagged_of}
+use Rattle.written_schemas.proofs.Truths.{truth_is}
+use Rattle.written_schemas.proofs.VariantForms.{required_of, behind_tag, tagged_is_struct}
 
 unfoldable pub total : List Member → ℕ
 total ms = sum (map member_values ms)
@@ -65,24 +74,42 @@ annotated_more (a ∷ notes) true ms =
     omega (arith, total_after (a ∷ notes) (wrap ∷ []), total_cons wrap [], values_list (Object ms ∷ []), once, values_object ms)
 annotated_more (a ∷ notes) false ms = total_after (a ∷ notes) ms
 
+drawn_fits : (s : Drawn) → suc (total s.members) ≤ values (drawn_json s)
+drawn_fits s =
+    let all = notes s.nullable s.title s.description in
+    omega (arith, values_object (annotated all s.is_reference s.members), annotated_more all s.is_reference s.members)
+
 -- annotations add to it
 pub bare_fits : (d : Desc) (n : Bool) (t s : Option (List ℕ)) → bare d ≤ values (drawn_json (noted n t s (drawn d)))
-bare_fits d n t s = omega (arith, values_object (annotated (notes n t s) (drawn d).is_reference (drawn d).members), annotated_more (notes n t s) (drawn d).is_reference (drawn d).members)
+bare_fits d n t s = drawn_fits (noted n t s (drawn d))
+
+described_members : (text : Option (List ℕ)) (s : Drawn) → suc (total s.members) ≤ values (drawn_json (described text s))
+described_members None s = drawn_fits s
+described_members (Some text) s = drawn_fits (described (Some text) s)
 
 -- the steps that the top of a descriptor takes: it, and what stands under options and alternatives alone
-abbrev pub top_step : Desc-F ℕ ℕ → ℕ
+abbrev pub top_step : Desc-F ℕ ℕ ℕ ℕ → ℕ
+top_step (Desc-F.Enumeration ns) = 2
+top_step (Desc-F.External ns) = 2
+top_step (Desc-F.Tagged tag ns) = 2
 top_step (Desc-F.Option n) = n
 top_step (Desc-F.Untagged ns) = suc (sum ns)
 top_step (Desc-F.Ref name) = 2
 top_step _ = 1
 
 unfoldable pub top_cost : Desc → ℕ
-top_cost = fold-Desc ℕ ℕ top_step field_nodes
+top_cost = fold-Desc ℕ ℕ ℕ ℕ top_step field_nodes tagged_nodes variant_nodes
 
-module _ (d : Desc) (z : Desc-F Desc Field) (e : out-Desc d ≡ z) where
-  pub top_at : top_cost d ≡ top_step (map-Desc Desc Field ℕ ℕ top_cost (fold-Field ℕ ℕ top_step field_nodes) z)
+abbrev pub top_level : DescLevel → ℕ
+top_level z = top_step (map-Desc Desc Field TaggedVariant Variant ℕ ℕ ℕ ℕ top_cost
+    (fold-Field ℕ ℕ ℕ ℕ top_step field_nodes tagged_nodes variant_nodes)
+    (fold-TaggedVariant ℕ ℕ ℕ ℕ top_step field_nodes tagged_nodes variant_nodes)
+    (fold-Variant ℕ ℕ ℕ ℕ top_step field_nodes tagged_nodes variant_nodes) z)
+
+module _ (d : Desc) (z : DescLevel) (e : out-Desc d ≡ z) where
+  pub top_at : top_cost d ≡ top_level z
   unfolding top_cost
-  top_at = fold_out-Desc ℕ ℕ top_step field_nodes d ∙ ap (λ (x : Desc-F Desc Field). top_step (map-Desc Desc Field ℕ ℕ top_cost (fold-Field ℕ ℕ top_step field_nodes) x)) e
+  top_at = fold_out-Desc ℕ ℕ ℕ ℕ top_step field_nodes tagged_nodes variant_nodes d ∙ ap (λ (x : DescLevel). top_level x) e
 
   bare_at : bare d ≡ suc (total (drawn_step (drawn_level z)).members)
   bare_at = ap (λ (x : Drawn). suc (total x.members)) (drawn_row d z e)
@@ -95,6 +122,15 @@ no_total : total [] ≡ 0
 unfolding total
 no_total = refl
 
+-- the schemas that admit all or nothing have at most two values
+told_bare : (x : Desc) (b : Bool) → (drawn x).truth ≡ Some b → bare x ≤ 2
+told_bare x b f = elim (truth_is x b f) [
+  | inl any ↦ let none : total [] ≡ 0 = no_total in omega (arith, bare_at x Desc-F.Any any.0, none)
+  | inr never ↦
+      let none : total [] ≡ 0 = no_total in
+      omega (arith, bare_at x Desc-F.Never never.0, total_cons (member (codes "not") (Object [])) [], values_object [], none)
+]
+
 module _ (d : Desc) where
   pub option_size : (x : Desc) → out-Desc d ≡ Desc-F.Option x → (bare d ≡ bare x) × (top_cost d ≡ top_cost x)
   option_size x e = (bare_at d (Desc-F.Option x) e, top_at d (Desc-F.Option x) e)
@@ -104,6 +140,27 @@ module _ (d : Desc) where
       let item = member (codes "items") (schema_json x) in
       let rest = counts min max in
       omega (arith, bare_at d (Desc-F.List x min max) e, first_counts (member (codes "type") (Words (codes "array"))) (item ∷ rest), total_cons item rest)
+
+  -- the schema of a map's values, or a truth value in its place
+  pub map_size : (x : Desc) → out-Desc d ≡ Desc-F.Map x → suc (bare x) ≤ bare d
+  map_size x e =
+      let others = member (codes "additionalProperties") (other_members (drawn x)) in
+      omega (arith, bare_at d (Desc-F.Map x) e, first_counts (member (codes "type") (Words (codes "object"))) (others ∷ []), total_cons others [], by_truth (drawn x).truth refl)
+    where
+      by_truth : (truth : Option Bool) → (drawn x).truth ≡ truth → bare x ≤ suc (values (option_map_or Truth truth (drawn_json (drawn x))))
+      by_truth None f = omega (arith, bare_fits x (drawn x).nullable (drawn x).title (drawn x).description)
+      by_truth (Some b) f = omega (arith, told_bare x b f, values_positive (Truth b))
+
+  pub enumeration_size : (ns : List Named) → out-Desc d ≡ Desc-F.Enumeration ns → 2 ≤ bare d
+  enumeration_size ns e = omega (arith, bare_at d (Desc-F.Enumeration ns) e, by_test (list_any is_described ns))
+    where
+      by_names : (names : List (List ℕ)) → 1 ≤ total (enumerated names).members
+      by_names [] = omega (arith, first_counts (member (codes "not") (Object [])) [])
+      by_names (name ∷ names) = omega (arith, first_counts (member (codes "type") (Words (codes "string"))) (member (codes "enum") (Items (map Words (name ∷ names))) ∷ []))
+
+      by_test : (b : Bool) → 1 ≤ total (cond b (plain (member (codes "oneOf") (Items (choices_of ns)) ∷ [])) (enumerated (map listed_name ns))).members
+      by_test true = omega (arith, first_counts (member (codes "oneOf") (Items (choices_of ns))) [])
+      by_test false = by_names (map listed_name ns)
 
   pub choice_size : (ds : List Desc) → out-Desc d ≡ Desc-F.Untagged ds → bare d ≡ suc (suc (sum (map values (map drawn_json (map drawn ds)))))
   choice_size ds e =
@@ -127,11 +184,80 @@ members_size : (ps rest : List Member) → total ps ≤ total (if_members ps (co
 members_size [] rest = let none : total [] ≡ 0 = no_total in omega (arith, none)
 members_size (p ∷ ps) rest = omega (arith, total_cons (member (codes "properties") (Object (p ∷ ps))) rest, values_object (p ∷ ps))
 
-pub field_size : (d : Desc) (fs : List Field) (deny : Bool) (f : Field) → out-Desc d ≡ Desc-F.Struct fs deny → Contains fs f → 2 + values (property f).value ≤ bare d
+struct_size : (fs : List Field) (deny : Bool) (f : Field) → Contains fs f → suc (values (property f).value) ≤ total (struct_drawn (map drawn_of fs) deny).members
 unfolding total
-field_size d fs deny f e c =
+struct_size fs deny f c =
     let ps = map property_of (map drawn_of fs) in
     let rest = if_names (sorted_by same_name (required_names (map drawn_of fs))) (codes "required") (if_denied deny) in
     let members = if_members (sorted_by name_of ps) (codes "properties") rest in
     let same : total (sorted_by name_of ps) ≡ total ps = sum_sorted name_of member_values ps in
-    omega (arith, bare_at d (Desc-F.Struct fs deny) e, first_counts (member (codes "type") (Words (codes "object"))) members, members_size (sorted_by name_of ps) rest, same, property_size fs f c)
+    omega (arith, first_counts (member (codes "type") (Words (codes "object"))) members, members_size (sorted_by name_of ps) rest, same, property_size fs f c)
+
+pub field_size : (d : Desc) (fs : List Field) (deny : Bool) (f : Field) → out-Desc d ≡ Desc-F.Struct fs deny → Contains fs f → 2 + values (property f).value ≤ bare d
+field_size d fs deny f e c = omega (arith, bare_at d (Desc-F.Struct fs deny) e, struct_size fs deny f c)
+
+-- ---- choices
+
+choices_size : (ss : List Json) → total (member (codes "oneOf") (Items ss) ∷ []) ≡ suc (sum (map values ss))
+choices_size ss = let none : total [] ≡ 0 = no_total in omega (arith, total_cons (member (codes "oneOf") (Items ss)) [], values_list ss, none)
+
+later_size : (first ss : List Json) → sum (map values ss) ≤ sum (map values (first ++ ss))
+later_size [] ss = omega arith
+later_size (x ∷ first) ss = omega (arith, later_size first ss, sum_by-cons (λ n. n) (values x) (map values (first ++ ss)))
+
+payload_choice : Variant → Desc → Json
+payload_choice v x = drawn_json (described v.description (struct_drawn (map drawn_of (required_of v.name x ∷ [])) true))
+
+payload_here : (v : Variant) (x : Desc) (rest : List DrawnVariant) → v.payload ≡ Some x → 2 + values (schema_json x) ≤ sum (map values (payload_choices (drawn_variant_of v ∷ rest)))
+unfolding payload_choice
+payload_here v x rest e =
+    let f = required_of v.name x in
+    rw e (omega (
+      arith,
+      sum_by-cons (λ n. n) (values (payload_choice v x)) (map values (payload_choices rest)),
+      described_members v.description (struct_drawn (map drawn_of (f ∷ [])) true),
+      struct_size (f ∷ []) true f (contains_first f []),
+    ))
+
+payload_later : (v : Variant) (rest : List DrawnVariant) (o : Option Desc) → v.payload ≡ o → sum (map values (payload_choices rest)) ≤ sum (map values (payload_choices (drawn_variant_of v ∷ rest)))
+unfolding payload_choice
+payload_later v rest None e = rw e (omega arith)
+payload_later v rest (Some x) e = rw e (omega (arith, sum_by-cons (λ n. n) (values (payload_choice v x)) (map values (payload_choices rest))))
+
+payloads_size : (vs : List Variant) (v : Variant) (x : Desc) → Contains vs v → v.payload ≡ Some x → 2 + values (schema_json x) ≤ sum (map values (payload_choices (map drawn_variant_of vs)))
+payloads_size [] v x c e = absurd (omega (arith, c.1))
+payloads_size (w ∷ vs) v x c e = elim (contains_cases w vs v c) [
+  | inl same ↦ payload_here w x (map drawn_variant_of vs) (ap (λ (u : Variant). u.payload) same ∙ e)
+  | inr later ↦ omega (arith, payloads_size vs v x later e, payload_later w (map drawn_variant_of vs) w.payload refl)
+]
+
+pub payload_size : (d : Desc) (vs : List Variant) (v : Variant) (x : Desc) → out-Desc d ≡ Desc-F.External vs → Contains vs v → v.payload ≡ Some x → 2 + values (schema_json x) ≤ bare d
+payload_size d vs v x e c f =
+    let names = choices_of (bare_names (map drawn_variant_of vs)) in
+    let payloads = payload_choices (map drawn_variant_of vs) in
+    omega (arith, bare_at d (Desc-F.External vs) e, choices_size (names ++ payloads), later_size names payloads, payloads_size vs v x c f)
+
+tagged_size : (tag : List ℕ) (vs : List TaggedVariant) (v : TaggedVariant) (f : Field) → Contains vs v → Contains (tagged_fields v) f → 2 + values (property f).value ≤ sum (map values (map (tagged_choice tag) (map drawn_tagged_of vs)))
+tagged_size tag [] v f c k = absurd (omega (arith, c.1))
+tagged_size tag (w ∷ vs) v f c k =
+    let choice = tagged_choice tag (drawn_tagged_of w) in
+    let added = sum_by-cons (λ n. n) (values choice) (map values (map (tagged_choice tag) (map drawn_tagged_of vs))) in
+    elim (contains_cases w vs v c) [
+      | inl same ↦
+          let inside = subst (λ (u : TaggedVariant). Contains (tagged_fields u) f) (sym same) k in
+          omega (
+            arith,
+            added,
+            ap values (tagged_is_struct tag w),
+            described_members (drawn_tagged_of w).description (struct_drawn (map drawn_of (behind_tag tag w)) false),
+            struct_size (behind_tag tag w) false f (contains_later _ (tagged_fields w) f inside),
+          )
+      | inr later ↦ omega (arith, added, tagged_size tag vs v f later k)
+    ]
+
+pub variant_size : (d : Desc) (tag : List ℕ) (vs : List TaggedVariant) (v : TaggedVariant) (f : Field) → out-Desc d ≡ Desc-F.Tagged tag vs → Contains vs v → Contains (tagged_fields v) f → 2 + values (property f).value ≤ bare d
+variant_size d tag vs v f e c k = omega (arith, bare_at d (Desc-F.Tagged tag vs) e, choices_size (map (tagged_choice tag) (map drawn_tagged_of vs)), tagged_size tag vs v f c k)
+
+-- the two choices take two steps
+pub one_of_fits : (d : Desc) (ss : List Json) → drawn d ≡ plain (member (codes "oneOf") (Items ss) ∷ []) → 2 ≤ bare d
+one_of_fits d ss e = omega (arith, ap (λ (x : Drawn). suc (total x.members)) e, choices_size ss)

@@ -1,8 +1,9 @@
 -- What it is for the schema of a descriptor to say in a document what the descriptor says.
-use Rattle.std.specs.Prelude.{◌↔◌, List}
+use Rattle.std.specs.Prelude.{◌≡◌, ◌↔◌, ◌≤◌, ℕ, List}
 use Rattle.schema_values.specs.declared.json_value.Json.{Json}
 use Rattle.schema_values.specs.Sound.{IsSound}
-use Rattle.openapi_values.specs.JsonAdmits.{JsonAdmits}
+use Rattle.openapi_values.specs.JsonAdmits.{admits_within, JsonAdmits}
+use Rattle.openapi_values.specs.Room.{room}
 use Rattle.typed_values.specs.declared.desc.Desc.{Desc}
 use Rattle.typed_values.specs.declared.table.Definition.{Definition}
 use Rattle.typed_values.specs.declared.tree.Tree.{Tree}
@@ -19,3 +20,7 @@ pub record IsWritten (doc : Json) (table : List Definition) (desc : Desc) : Type
 -- of the sound values, a schema admits exactly those that denote a tree
 abbrev pub AdmitsDenoted : Json → Json → List Definition → Desc → Type 0
 AdmitsDenoted doc schema table desc = (json : Json) → IsSound json → JsonAdmits doc schema json ↔ ((tree : Tree) × JsonDenotes table desc json tree)
+
+-- from the room on, more steps do not change whether a schema admits a sound value
+abbrev pub StepsSuffice : Json → Json → Type 0
+StepsSuffice doc schema = (json : Json) → IsSound json → (steps : ℕ) → room doc schema ≤ steps → admits_within doc steps json steps schema ≡ admits_within doc (room doc schema) json (room doc schema) schema

@@ -1,17 +1,14 @@
-ghost use Rattle.std.specs.Prelude.{◌≡◌, ◌≢◌, ◌↔◌, ℕ, ◌≤◌, List, Option, Some, None};
+ghost use Rattle.std.specs.Prelude.{◌≡◌, ◌↔◌, ℕ, ◌≤◌, List, Option, Some, None};
 ghost use Rattle.schema_values.specs.declared.json_value.Json.{Json as JsonValue};
 ghost use Rattle.schema_values.specs.Reading.{Reads};
-ghost use Rattle.schema_values.specs.Sound.{IsSound};
 ghost use Rattle.openapi_values.specs.declared.document.OpenApi.{OpenApi as Document};
 ghost use Rattle.openapi_values.specs.declared.request.WireRequest.{WireRequest as Request};
 ghost use Rattle.openapi_values.specs.Admits.{Admits};
 ghost use Rattle.openapi_values.specs.Document.{open_api_json};
-ghost use Rattle.openapi_values.specs.JsonAdmits.{admits_within, JsonAdmits};
+ghost use Rattle.openapi_values.specs.JsonAdmits.{JsonAdmits};
 ghost use Rattle.openapi_values.specs.Refusal.{refusal_of};
-ghost use Rattle.openapi_values.specs.Room.{room};
 ghost use Rattle.openapi_values.specs.SchemaJson.{schema_json as json_written};
 ghost use Rattle.typed_values.specs.declared.desc.Desc.{Desc as Descriptor};
-ghost use Rattle.typed_values.specs.declared.desc.Desc.TheVariants.{Ref};
 ghost use Rattle.typed_values.specs.declared.table.Definition.{Definition as Entry};
 ghost use Rattle.typed_values.specs.declared.tree.Tree.{Tree as Value};
 ghost use Rattle.typed_values.specs.Checks.{TablePasses, DescPasses};
@@ -21,7 +18,7 @@ ghost use Rattle.typed_values.specs.Fits.{Fits};
 ghost use Rattle.typed_values.specs.SchemaTable.{schema_json, schema_json_titled, schema_json_described};
 ghost use Rattle.typed_values.specs.Schemas.{schema_value, in_header};
 ghost use Rattle.written_schemas.specs.Bodies.{TakesJson};
-ghost use Rattle.written_schemas.specs.Written.{IsWritten, AdmitsDenoted};
+ghost use Rattle.written_schemas.specs.Written.{IsWritten, AdmitsDenoted, StepsSuffice};
 
 /// The schema of a descriptor admits exactly the JSON values that denote a tree; so it does under a title or
 /// a description.
@@ -36,7 +33,8 @@ pub fn schemas_agree()
         → AdmitsDenoted doc (schema_json_described text desc) table desc }
 {}
 
-/// A written document admits a request exactly where its body's JSON denotes a tree.
+/// Where an operation of a written document takes JSON under a descriptor's titled schema, a request whose
+/// body reads as JSON is admitted exactly where that JSON denotes a tree.
 pub fn bodies_agree()
     ensures { (document : Document) (path method name : List ℕ) (table : List Entry) (desc : Descriptor)
         → TakesJson document path method name desc → IsWritten (open_api_json document) table desc
@@ -51,31 +49,39 @@ pub fn steps_suffice()
     ensures told { (table : List Entry) (desc : Descriptor) → TablePasses table → DescPasses table desc
         → (json : JsonValue) (steps : ℕ) → steps_of_table table desc ≤ steps
         → told_within table steps json steps desc ≡ told table desc json desc }
-    ensures admitted { (doc : JsonValue) (table : List Entry) (desc : Descriptor) → IsWritten doc table desc
-        → (json : JsonValue) → IsSound json → (steps : ℕ) → room doc (schema_json desc) ≤ steps
-        → admits_within doc steps json steps (schema_json desc) ≡ admits_within doc
-        (room doc (schema_json desc)) json (room doc (schema_json desc)) (schema_json desc) }
+    ensures plain { (doc : JsonValue) (table : List Entry) (desc : Descriptor) → IsWritten doc table desc
+        → StepsSuffice doc (schema_json desc) }
+    ensures titled { (doc : JsonValue) (table : List Entry) (desc : Descriptor) (name : List ℕ)
+        → IsWritten doc table desc → StepsSuffice doc (schema_json_titled name desc) }
+    ensures described { (doc : JsonValue) (table : List Entry) (desc : Descriptor) (text : Option (List ℕ))
+        → IsWritten doc table desc → StepsSuffice doc (schema_json_described text desc) }
 {}
 
-/// What is written for a value of a descriptor is admitted by the descriptor's schema.
+/// What is written for a value of a descriptor is admitted by the descriptor's schema; so it is under a title
+/// or a description.
 pub fn encodings_agree()
-    ensures admitted { (doc : JsonValue) (table : List Entry) (desc : Descriptor) (tree : Value)
+    ensures plain { (doc : JsonValue) (table : List Entry) (desc : Descriptor) (tree : Value)
         → IsWritten doc table desc → Fits table desc tree
         → JsonAdmits doc (schema_json desc) (json_of_tree table desc tree) }
+    ensures titled { (doc : JsonValue) (table : List Entry) (desc : Descriptor) (name : List ℕ) (tree : Value)
+        → IsWritten doc table desc → Fits table desc tree
+        → JsonAdmits doc (schema_json_titled name desc) (json_of_tree table desc tree) }
+    ensures described { (doc : JsonValue) (table : List Entry) (desc : Descriptor) (text : Option (List ℕ))
+        (tree : Value) → IsWritten doc table desc → Fits table desc tree
+        → JsonAdmits doc (schema_json_described text desc) (json_of_tree table desc tree) }
 {}
 
 /// The schema of a descriptor is never refused. It is written as the table of schemas has it, also under a
-/// title where the descriptor is no reference; so is the schema that stands in a header.
+/// title, which a reference does not show; so is the schema that stands in a header.
 pub fn schemas_written()
     ensures accepted { (desc : Descriptor) → refusal_of (schema_value desc) ≡ None }
     ensures plain { (desc : Descriptor) → json_written None (schema_value desc) ≡ schema_json desc }
-    ensures titled { (desc : Descriptor) (name : List ℕ) → ((other : List ℕ) → desc ≢ Ref other)
+    ensures titled { (desc : Descriptor) (name : List ℕ)
         → json_written (Some name) (schema_value desc) ≡ schema_json_titled name desc }
     ensures header_accepted { (desc : Descriptor) → refusal_of (schema_value (in_header desc)) ≡ None }
     ensures header_plain { (desc : Descriptor) → json_written None (schema_value (in_header desc))
         ≡ schema_json (in_header desc) }
     ensures header_titled { (desc : Descriptor) (name : List ℕ)
-        → ((other : List ℕ) → in_header desc ≢ Ref other)
         → json_written (Some name) (schema_value (in_header desc))
         ≡ schema_json_titled name (in_header desc) }
 {}

@@ -2,9 +2,7 @@
 #![tactic(auto)]
 
 mod laws;
-#[cfg(test)]
-mod tests;
 mod writing;
 
-pub use laws::{bodies_agree, encodings_agree, schemas_agree, steps_suffice};
+pub use laws::{bodies_agree, encodings_agree, schemas_agree, schemas_written, steps_suffice};
 pub use writing::{definition_schema, titled_schema};

@@ -10,7 +10,7 @@ use schema_values::{Json, Schema, Text};
 use std::alloc::{AllocError, Global};
 use typed_values::{Definition, Desc, DescTable, SchemaPlace, schema_of, schema_of_definition};
 
-/// The schema of a type, with its name as title where it is no reference.
+/// The schema of a type, with its name as title, which a reference does not show.
 pub fn titled_schema(
     alloc: Global,
     table: &DescTable,
@@ -20,10 +20,7 @@ pub fn titled_schema(
     ensures { IfOk result (λ json. json ≡ schema_json_titled name.now desc.now) }
 {
     let schema = schema_of(alloc, table, desc, SchemaPlace::Plain)?;
-    match desc {
-        Desc::Ref(_) => written(alloc, None, &schema),
-        _ => written(alloc, Some(name.as_str()), &schema),
-    }
+    written(alloc, Some(name.as_str()), &schema)
 }
 
 /// The schema of a definition, with its description.
@@ -44,6 +41,11 @@ fn written(alloc: Global, title: Option<&str>, schema: &Schema) -> Result<Json, 
     match j2oas_schema(alloc, title, schema) {
         Ok(json) => Ok(json),
         Err(J2oasError::OutOfMemory) => Err(AllocError),
-        Err(J2oasError::NoItems | J2oasError::BadSubschema) => unreachable!(),
+        Err(
+            J2oasError::NoItems
+            | J2oasError::EnumWithoutType
+            | J2oasError::BadEnumValue
+            | J2oasError::BadSubschema,
+        ) => unreachable!(),
     }
 }

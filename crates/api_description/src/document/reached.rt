@@ -3,14 +3,14 @@ ghost use Rattle.std.specs.Prelude.{◌≡◌, ◌++◌, IfOk, OnOk, length};
 ghost use Rattle.std.specs.List.{flat_map};
 ghost use Rattle.api_description.specs.Documents.{reached_within, references, referred_by, roots_of};
 ghost use Rattle.api_description.specs.Documents.{roots_of_content, roots_of_error, roots_of_slot};
-ghost use Rattle.api_description.specs.Documents.{with_texts};
+ghost use Rattle.api_description.specs.Documents.{references_in_tagged, references_in_variant, with_texts};
 
 use crate::api_extract::Slot;
 use crate::api_respond::{ApiEndpointErrorResponse, ContentShape, HandlerShape};
 use schema_values::{List, Text};
 use std::alloc::{AllocError, Global};
 use std::collections::BTreeSet;
-use typed_values::{Definition, Desc, Field};
+use typed_values::{Definition, Desc, Field, TaggedVariant, Variant};
 
 /// The names of the definitions that the schemas of an operation refer to, directly or through others.
 pub(crate) fn reached(alloc: Global, shape: &HandlerShape) -> Result<BTreeSet<Text>, AllocError>
@@ -114,10 +114,14 @@ fn add_references(alloc: Global, names: &mut List<Text>, desc: &Desc) -> Result<
     ensures { OnOk result (names.new ≡ names.old ++ references desc.now) }
 {
     match desc {
-        Desc::Bool | Desc::Int { .. } | Desc::Text { .. } => Ok(()),
+        Desc::Any | Desc::Never | Desc::Null | Desc::Enumeration { .. } => Ok(()),
+        Desc::Bool | Desc::Char | Desc::Int { .. } | Desc::Text { .. } => Ok(()),
+        Desc::Map(value) => add_references(alloc, names, value.get()),
         Desc::Option(inner) => add_references(alloc, names, inner.get()),
         Desc::List { item, .. } => add_references(alloc, names, item.get()),
         Desc::Struct { fields, .. } => add_field_references(alloc, names, fields.as_slice()),
+        Desc::External { variants } => add_payload_references(alloc, names, variants.as_slice()),
+        Desc::Tagged { variants, .. } => add_variant_references(alloc, names, variants.as_slice()),
         Desc::Untagged { alternatives } => {
             add_alternative_references(alloc, names, alternatives.as_slice())
         }
@@ -135,6 +139,36 @@ fn add_field_references(
 {
     for field in fields {
         add_references(alloc, names, &field.desc)?;
+    }
+    Ok(())
+}
+
+#[cycle(references)]
+fn add_payload_references(
+    alloc: Global,
+    names: &mut List<Text>,
+    variants: &[Variant],
+) -> Result<(), AllocError>
+    ensures { OnOk result (names.new ≡ names.old ++ flat_map references_in_variant variants.now) }
+{
+    for variant in variants {
+        if let Some(payload) = &variant.payload {
+            add_references(alloc, names, payload)?;
+        }
+    }
+    Ok(())
+}
+
+#[cycle(references)]
+fn add_variant_references(
+    alloc: Global,
+    names: &mut List<Text>,
+    variants: &[TaggedVariant],
+) -> Result<(), AllocError>
+    ensures { OnOk result (names.new ≡ names.old ++ flat_map references_in_tagged variants.now) }
+{
+    for variant in variants {
+        add_field_references(alloc, names, variant.fields.as_slice())?;
     }
     Ok(())
 }

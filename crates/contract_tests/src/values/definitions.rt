@@ -3,11 +3,11 @@ use schema_values::{Boxed, List, Text};
 use std::alloc::{AllocError, Global};
 use typed_values::{Desc, DescTable, Field, IntKind, Presence};
 
-fn int(kind: IntKind, min: Option<i128>, max: Option<i128>) -> Desc {
+pub fn int(kind: IntKind, min: Option<i128>, max: Option<i128>) -> Desc {
     Desc::Int { kind, min, max }
 }
 
-fn text(min: Option<u32>, max: Option<u32>) -> Desc {
+pub fn text(min: Option<u32>, max: Option<u32>) -> Desc {
     Desc::Text {
         min,
         max,
@@ -15,11 +15,16 @@ fn text(min: Option<u32>, max: Option<u32>) -> Desc {
     }
 }
 
-fn option(alloc: Global, inner: Desc) -> Result<Desc, AllocError> {
+pub fn option(alloc: Global, inner: Desc) -> Result<Desc, AllocError> {
     Ok(Desc::Option(Boxed::new(alloc, inner)?))
 }
 
-fn list(alloc: Global, item: Desc, min: Option<u32>, max: Option<u32>) -> Result<Desc, AllocError> {
+pub fn list(
+    alloc: Global,
+    item: Desc,
+    min: Option<u32>,
+    max: Option<u32>,
+) -> Result<Desc, AllocError> {
     Ok(Desc::List {
         item: Boxed::new(alloc, item)?,
         min,
@@ -32,7 +37,7 @@ pub fn named(alloc: Global, name: &str) -> Result<Desc, AllocError> {
     Ok(Desc::Ref(Text::from_str(alloc, name)?))
 }
 
-fn push(
+pub fn push(
     alloc: Global,
     fields: &mut List<Field>,
     name: &str,
@@ -202,7 +207,7 @@ fn record(alloc: Global) -> Result<Desc, AllocError> {
     })
 }
 
-fn define(table: &mut DescTable, name: &str, desc: Desc) -> Result<(), AllocError> {
+pub fn define(table: &mut DescTable, name: &str, desc: Desc) -> Result<(), AllocError> {
     match table.add(name, desc) {
         Ok(_) => Ok(()),
         Err(_) => Err(AllocError),

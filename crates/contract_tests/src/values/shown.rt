@@ -1,10 +1,11 @@
 //! Trees as texts, and how many folders stand in them.
 use schema_values::Text;
 use std::alloc::{AllocError, Global};
-use typed_values::Tree;
+use typed_values::{Pair, Tree};
 
-/// A tree as a text: fields in parentheses, items in brackets, texts in quotes, `-` for `None`, `+` before
-/// what a `Some` holds, and the place of an alternative and a colon before its value.
+/// A tree as a text: fields in parentheses, items in brackets, pairs in braces with a colon behind each key,
+/// texts in quotes, `-` for `None`, `+` before what a `Some` holds, the place of an alternative and a colon
+/// before its value, `unit` for the value of null, and any JSON value between angle brackets.
 pub fn shown(alloc: Global, tree: &Tree) -> Result<Text, AllocError> {
     let mut text = Text::new(alloc);
     show(alloc, &mut text, tree)?;
@@ -14,6 +15,7 @@ pub fn shown(alloc: Global, tree: &Tree) -> Result<Text, AllocError> {
 #[cycle(show)]
 fn show(alloc: Global, text: &mut Text, tree: &Tree) -> Result<(), AllocError> {
     match tree {
+        Tree::Unit => text.push_str("unit"),
         Tree::Bool(truth) => text.push_str(if *truth { "true" } else { "false" }),
         Tree::Int(number) => text.push_number(alloc, *number),
         Tree::Text(words) => show_words(text, words),
@@ -23,11 +25,17 @@ fn show(alloc: Global, text: &mut Text, tree: &Tree) -> Result<(), AllocError> {
             show(alloc, text, inner.get())
         }
         Tree::List(items) => show_all(alloc, text, '[', items.as_slice(), ']'),
+        Tree::Map(pairs) => show_pairs(alloc, text, pairs.as_slice()),
         Tree::Fields(parts) => show_all(alloc, text, '(', parts.as_slice(), ')'),
         Tree::Variant(place, inner) => {
             text.push_number(alloc, i128::from(*place))?;
             text.push(':')?;
             show(alloc, text, inner.get())
+        }
+        Tree::Any(json) => {
+            text.push('<')?;
+            text.push_text(&json.compact(alloc)?)?;
+            text.push('>')
         }
     }
 }
@@ -54,6 +62,20 @@ fn show_all(
         show(alloc, text, tree)?;
     }
     text.push(closing)
+}
+
+#[cycle(show)]
+fn show_pairs(alloc: Global, text: &mut Text, pairs: &[Pair]) -> Result<(), AllocError> {
+    text.push('{')?;
+    for (i, pair) in pairs.iter().enumerate() {
+        if i > 0 {
+            text.push(' ')?;
+        }
+        show_words(text, &pair.key)?;
+        text.push(':')?;
+        show(alloc, text, &pair.value)?;
+    }
+    text.push('}')
 }
 
 /// The number of folders in the tree of a folder: each is the fields of one.

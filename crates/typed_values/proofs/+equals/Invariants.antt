@@ -12,3 +12,15 @@ invariant-equal::same_fields-loop-field l = record {
   same : (l.fields ≡ l.others) ↔ (l.field-iterator.a.rest.now ≡ l.field-iterator.b.rest.now);
   lengths : length l.field-iterator.a.rest.now ≡ length l.field-iterator.b.rest.now;
 }
+
+abbrev pub invariant-equal::same_tagged-loop-variant : goal.invariant-equal::same_tagged-loop-variant
+invariant-equal::same_tagged-loop-variant l = record {
+  same : (l.variants ≡ l.others) ↔ (l.variant-iterator.a.rest.now ≡ l.variant-iterator.b.rest.now);
+  lengths : length l.variant-iterator.a.rest.now ≡ length l.variant-iterator.b.rest.now;
+}
+
+abbrev pub invariant-equal::same_variants-loop-variant : goal.invariant-equal::same_variants-loop-variant
+invariant-equal::same_variants-loop-variant l = record {
+  same : (l.variants ≡ l.others) ↔ (l.variant-iterator.a.rest.now ≡ l.variant-iterator.b.rest.now);
+  lengths : length l.variant-iterator.a.rest.now ≡ length l.variant-iterator.b.rest.now;
+}

@@ -1,7 +1,7 @@
 use Rattle.std.proofs.Common.{rules, sym, ap, ◌∙◌}
 use Rattle.openapi_values.specs.Refusal.{refusal_of, object_refusal}
 use Rattle.openapi_values.proofs.OneVariant.{bound-is}
-use Rattle.openapi_values.proofs.RefusalLevels.{truth-is, object-is, items-are, property-is, array-is, object_parts-are, one_kind-is, inner-is, parts-are}
+use Rattle.openapi_values.proofs.RefusalLevels.{truth-is, object-is, items-are, property-is, array-is, object_parts-are, inner-is, parts-are}
 use Rattle.openapi_values.proofs.refusal.+refusal.Goals as goal
 
 pub refusal-returns-in-Bool : goal.refusal-returns-in-Bool
@@ -13,20 +13,11 @@ refusal-returns-in-Object t c = c.object_refusal.ensures ∙ ap object_refusal c
 pub object_refusal-returns-in-Some : goal.object_refusal-returns-in-Some
 object_refusal-returns-in-Some t c = rw (parts-are c.args.schema.now) (search rules)
 
-pub object_refusal-returns-in-None-instance_type : goal.object_refusal-returns-in-None-instance_type
-object_refusal-returns-in-None-instance_type t c = rw (parts-are c.args.schema.now) (search rules)
+pub object_refusal-returns-in-Some-own_refusal : goal.object_refusal-returns-in-Some-own_refusal
+object_refusal-returns-in-Some-own_refusal t c = rw (parts-are c.args.schema.now) (search rules)
 
-pub object_refusal-returns-in-Some-kind_refusal : goal.object_refusal-returns-in-Some-kind_refusal
-object_refusal-returns-in-Some-kind_refusal t c = rw (parts-are c.args.schema.now) (search rules)
-
-pub object_refusal-returns-in-None-kind_refusal : goal.object_refusal-returns-in-None-kind_refusal
-object_refusal-returns-in-None-kind_refusal t c = rw (parts-are c.args.schema.now) (search rules)
-
-pub untyped_refusal-returns-in-Some : goal.untyped_refusal-returns-in-Some
-untyped_refusal-returns-in-Some t c = rw (c.in-Some.is) (rw (one_kind-is c.in-Some.subschemas) (search rules))
-
-pub untyped_refusal-returns-in-Some-2 : goal.untyped_refusal-returns-in-Some-2
-untyped_refusal-returns-in-Some-2 t c = rw (c.in-Some.is) (rw (one_kind-is c.in-Some.subschemas) (search rules))
+pub object_refusal-returns-in-None-own_refusal : goal.object_refusal-returns-in-None-own_refusal
+object_refusal-returns-in-None-own_refusal t c = rw (parts-are c.args.schema.now) (search rules)
 
 pub array_refusal-returns-in-Some : goal.array_refusal-returns-in-Some
 array_refusal-returns-in-Some t c = rw (array-is c.args.array.now) (search rules)
@@ -49,5 +40,11 @@ property_refusal-returns t c = c.refusal.ensures ∙ sym (property-is c.args.pro
 pub subschemas_refusal-returns-in-Some : goal.subschemas_refusal-returns-in-Some
 subschemas_refusal-returns-in-Some t c = rw (inner-is c.args.subschemas.now) (search rules)
 
-pub subschemas_refusal-returns-in-None : goal.subschemas_refusal-returns-in-None
-subschemas_refusal-returns-in-None t c = rw (inner-is c.args.subschemas.now) (search rules)
+pub subschemas_refusal-returns-in-Some-schemas_refusal : goal.subschemas_refusal-returns-in-Some-schemas_refusal
+subschemas_refusal-returns-in-Some-schemas_refusal t c = rw (inner-is c.args.subschemas.now) (search rules)
+
+pub subschemas_refusal-returns-in-Some-schemas_refusal-2 : goal.subschemas_refusal-returns-in-Some-schemas_refusal-2
+subschemas_refusal-returns-in-Some-schemas_refusal-2 t c = rw (inner-is c.args.subschemas.now) (search rules)
+
+pub subschemas_refusal-returns : goal.subschemas_refusal-returns
+subschemas_refusal-returns t c = rw (inner-is c.args.subschemas.now) (search rules)

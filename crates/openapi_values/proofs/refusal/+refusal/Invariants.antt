@@ -1,4 +1,4 @@
-use Rattle.std.proofs.Common.{◌≡◌, ◌+◌, ◌*◌, drop, map}
+use Rattle.std.proofs.Common.{◌≡◌, ◌+◌, ◌*◌, [], drop, map, option_map, unwrap_or}
 use denote.Param.Weighed.{most}
 use Rattle.schema_values.specs.declared.schema.ArrayParts.{size-ArrayParts}
 use Rattle.schema_values.specs.declared.schema.Items.{size-Items}
@@ -16,14 +16,11 @@ decreases-refusal l = 8 * size-Schema l.schema.now
 abbrev pub decreases-object_refusal : goal.decreases-object_refusal
 decreases-object_refusal l = 8 * size-SchemaObject l.schema.now + 3
 
-abbrev pub decreases-untyped_refusal : goal.decreases-untyped_refusal
-decreases-untyped_refusal l = 8 * size-SchemaObject l.schema.now + 1
-
-abbrev pub decreases-kind_refusal : goal.decreases-kind_refusal
-decreases-kind_refusal l = 8 * size-SchemaObject l.schema.now + 1
-
 abbrev pub decreases-inner_refusal : goal.decreases-inner_refusal
-decreases-inner_refusal l = 8 * size-SchemaObject l.schema.now + 1
+decreases-inner_refusal l = 8 * size-SchemaObject l.schema.now + 2
+
+abbrev pub decreases-type_refusal : goal.decreases-type_refusal
+decreases-type_refusal l = 8 * size-SchemaObject l.schema.now + 1
 
 abbrev pub decreases-array_refusal : goal.decreases-array_refusal
 decreases-array_refusal l = 8 * size-ArrayParts l.array.now + 1
@@ -34,8 +31,8 @@ decreases-items_refusal l = 8 * size-Items l.items.now + 1
 abbrev pub decreases-object_parts_refusal : goal.decreases-object_parts_refusal
 decreases-object_parts_refusal l = 8 * size-ObjectParts l.object.now + 4
 
-abbrev pub decreases-additional_refusal : goal.decreases-additional_refusal
-decreases-additional_refusal l = 8 * size-ObjectParts l.object.now + 3
+abbrev pub decreases-schema_refusal : goal.decreases-schema_refusal
+decreases-schema_refusal l = 8 * unwrap_or (option_map size-Schema l.schema.now) 0 + 1
 
 abbrev pub decreases-properties_refusal : goal.decreases-properties_refusal
 decreases-properties_refusal l = 8 * most size-Property l.properties.now + 2
@@ -44,13 +41,10 @@ abbrev pub decreases-property_refusal : goal.decreases-property_refusal
 decreases-property_refusal l = 8 * size-Property l.property.now + 1
 
 abbrev pub decreases-subschemas_refusal : goal.decreases-subschemas_refusal
-decreases-subschemas_refusal l = 8 * size-Subschemas l.subschemas.now + 2
+decreases-subschemas_refusal l = 8 * size-Subschemas l.subschemas.now + 3
 
-abbrev pub decreases-all_of_refusal : goal.decreases-all_of_refusal
-decreases-all_of_refusal l = 8 * size-Subschemas l.subschemas.now + 1
-
-abbrev pub decreases-any_of_refusal : goal.decreases-any_of_refusal
-decreases-any_of_refusal l = 8 * size-Subschemas l.subschemas.now + 1
+abbrev pub decreases-schemas_refusal : goal.decreases-schemas_refusal
+decreases-schemas_refusal l = 8 * most size-Schema (unwrap_or l.schemas.now []) + 2
 
 abbrev pub decreases-list_refusal : goal.decreases-list_refusal
 decreases-list_refusal l = 8 * most size-Schema l.schemas.now + 1

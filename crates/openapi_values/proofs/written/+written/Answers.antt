@@ -1,8 +1,8 @@
-use Rattle.std.proofs.Common.{◌≡◌, None, [], IfOk, map, option_map, unwrap_or, codes, sym, subst, ap, ◌∙◌}
+use Rattle.std.proofs.Common.{◌≡◌, false, None, [], IfOk, map, option_map, unwrap_or, codes, sym, subst, ap, ◌∙◌}
 use Rattle.schema_values.specs.declared.schema.ObjectParts.{out-ObjectParts}
 use Rattle.schema_values.specs.declared.schema.SchemaObject.{out-SchemaObject}
 use Rattle.openapi_values.specs.Objects.{unless_empty, pair_member}
-use Rattle.openapi_values.specs.SchemaJson.{untitled, annotations, type_entries, additional_json, schemas_json, names_json, count_json, schema_written, object_written, items_written, array_written, object_parts_written, property_written, subschemas_written}
+use Rattle.openapi_values.specs.SchemaJson.{untitled, annotations, type_entries, without_values, entries_behind, object_level, additional_json, schemas_json, names_json, count_json, schema_written, object_written, items_written, property_written}
 use Rattle.openapi_values.proofs.ObjectLemmas.{Adds, first, added, joined, object}
 use Rattle.openapi_values.proofs.OneVariant.{bound-is}
 use Rattle.openapi_values.proofs.SchemaLevels.{truth-is, object-under, items-are, property-is, array-is, subschemas-are, object_parts-are, reference-is, parts-are}
@@ -26,9 +26,15 @@ pub object_json-returns : goal.object_json-returns
 object_json-returns t c =
     let schema = out-SchemaObject c.args.schema.now in
     let annotated : Adds _ (annotations c.args.title.now schema.title schema.description schema.nullable) _ = record { are = c.in_ok-add_annotations.ensures } in
-    let typed = joined annotated (type_entries schema.instance_type schema.format schema.number schema.string (option_map array_written schema.array) (option_map object_parts_written schema.object)) _ c.in_ok-add_type.ensures in
-    object c.new-members.ensures (joined typed (unwrap_or (option_map subschemas_written schema.subschemas) []) _ c.in_ok-add_subschemas.ensures)
+    object c.new-members.ensures (joined annotated (entries_behind (object_level c.args.schema.now)) _ c.in_ok-add_behind.ensures)
     ∙ sym (parts-are c.args.schema.now c.args.title.now c.in_default.not-Some)
+
+pub add_behind-returns : goal.add_behind-returns
+add_behind-returns t c =
+    let level = object_level c.args.schema.now in
+    let given : without_values level.enum_values ≡ false = sym c.is_without_values.ensures ∙ c.if-is_without_values.false in
+    let typed : Adds _ (type_entries level.instance_type level) _ = record { are = c.in_ok-add_type.ensures } in
+    rw given (joined typed (unwrap_or level.subschemas []) _ c.in_ok-add_subschemas.ensures).are
 
 pub add_array-returns : goal.add_array-returns
 add_array-returns t c =
@@ -65,4 +71,6 @@ pub add_schemas-returns : goal.add_schemas-returns
 add_schemas-returns t c =
     let subschemas = c.args.subschemas.now in
     let all_of = first (codes "allOf") (schemas_json (option_map (map schema_written) subschemas.all_of)) _ _ _ c.in_ok-add.ensures c.in_ok-all_of.ensures in
-    rw (subschemas-are subschemas) (added all_of (codes "anyOf") (schemas_json (option_map (map schema_written) subschemas.any_of)) _ _ c.in_ok-add-2.ensures c.in_ok-any_of.ensures).are
+    let any_of = added all_of (codes "anyOf") (schemas_json (option_map (map schema_written) subschemas.any_of)) _ _ c.in_ok-add-2.ensures c.in_ok-any_of.ensures in
+    let one_of = added any_of (codes "oneOf") (schemas_json (option_map (map schema_written) subschemas.one_of)) _ _ c.in_ok-add-3.ensures c.in_ok-one_of.ensures in
+    rw (subschemas-are subschemas) (added one_of (codes "not") (option_map untitled (option_map schema_written subschemas.not)) _ _ c.in_ok-add-4.ensures c.in_ok-not.ensures).are

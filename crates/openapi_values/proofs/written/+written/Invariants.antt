@@ -1,4 +1,4 @@
-use Rattle.std.proofs.Common.{◌≡◌, ◌+◌, ◌*◌, take, map}
+use Rattle.std.proofs.Common.{◌≡◌, ◌+◌, ◌*◌, [], take, map, option_map, unwrap_or}
 use denote.Param.Weighed.{most}
 use Rattle.schema_values.specs.declared.schema.ArrayParts.{size-ArrayParts}
 use Rattle.schema_values.specs.declared.schema.Items.{size-Items}
@@ -15,7 +15,10 @@ abbrev pub decreases-written : goal.decreases-written
 decreases-written l = 8 * size-Schema l.schema.now
 
 abbrev pub decreases-object_json : goal.decreases-object_json
-decreases-object_json l = 8 * size-SchemaObject l.schema.now + 3
+decreases-object_json l = 8 * size-SchemaObject l.schema.now + 4
+
+abbrev pub decreases-add_behind : goal.decreases-add_behind
+decreases-add_behind l = 8 * size-SchemaObject l.schema.now + 3
 
 abbrev pub decreases-add_type : goal.decreases-add_type
 decreases-add_type l = 8 * size-SchemaObject l.schema.now + 2
@@ -56,11 +59,11 @@ decreases-property_member l = 8 * size-Property l.property.now + 1
 abbrev pub decreases-add_schemas : goal.decreases-add_schemas
 decreases-add_schemas l = 8 * size-Subschemas l.subschemas.now + 2
 
-abbrev pub decreases-all_of_json : goal.decreases-all_of_json
-decreases-all_of_json l = 8 * size-Subschemas l.subschemas.now + 1
+abbrev pub decreases-schemas_json : goal.decreases-schemas_json
+decreases-schemas_json l = 8 * most size-Schema (unwrap_or l.schemas.now []) + 2
 
-abbrev pub decreases-any_of_json : goal.decreases-any_of_json
-decreases-any_of_json l = 8 * size-Subschemas l.subschemas.now + 1
+abbrev pub decreases-not_json : goal.decreases-not_json
+decreases-not_json l = 8 * unwrap_or (option_map size-Schema l.schema.now) 0 + 1
 
 abbrev pub decreases-list_json : goal.decreases-list_json
 decreases-list_json l = 8 * most size-Schema l.schemas.now + 1

@@ -7,8 +7,8 @@ pub returns : goal.returns
 returns c = record {
   accepted = never_refused;
   plain = written_plain;
-  titled = λ desc name other. written_titled name desc other;
+  titled = λ desc name. written_titled name desc;
   header_accepted = λ desc. never_refused (in_header desc);
   header_plain = λ desc. written_plain (in_header desc);
-  header_titled = λ desc name other. written_titled name (in_header desc) other;
+  header_titled = λ desc name. written_titled name (in_header desc);
 }

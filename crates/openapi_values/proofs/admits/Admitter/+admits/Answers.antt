@@ -53,7 +53,7 @@ schema_admits-returns-in-Object t c =
     let next = admits_within self.doc.now (room_at self) c.args.value.now (left c.args.next.now) in
     let level : out-Json c.args.schema.now ≡ Json-F.Object c.in-Object.members = ap out-Json c.in-Object.is ∙ json.outs-Object c.in-Object.members in
     c.members_admit.ensures
-    ∙ rw c.as_slice.ensures (ap (λ s. is_some_and (as_object s) (members_admit self.doc.now (smaller_admits self.doc.now (room_at self)) next (out-Json c.args.value.now))) (sym level))
+    ∙ rw c.as_slice.ensures (ap (λ s. is_some_and (as_object s) (members_admit self.doc.now (smaller_admits self.doc.now (room_at self)) next c.args.value.now (out-Json c.args.value.now))) (sym level))
 
 pub items_hold-items_admitted-requires : goal.items_hold-items_admitted-requires
 items_hold-items_admitted-requires t c =

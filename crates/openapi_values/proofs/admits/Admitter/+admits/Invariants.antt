@@ -79,8 +79,8 @@ decreases-other_admitted l = member_measure (room_at l.self.now) l.member.now
 
 abbrev pub invariant-members_hold-loop-member : goal.invariant-members_hold-loop-member
 invariant-members_hold-loop-member l =
-    list_all (λ (m : Member). row (smaller_admits l.self.doc.now (room_at l.self)) (admits_within l.self.doc.now (room_at l.self) l.value (left l.next)) (out-Json l.value) l.schema (keyword_of m.name) m.value) (drop l.member-index l.schema)
-    ≡ list_all (λ (m : Member). row (smaller_admits l.self.doc.now (room_at l.self)) (admits_within l.self.doc.now (room_at l.self) l.value (left l.next)) (out-Json l.value) l.schema (keyword_of m.name) m.value) l.fn.schema
+    list_all (λ (m : Member). row (smaller_admits l.self.doc.now (room_at l.self)) (admits_within l.self.doc.now (room_at l.self) l.value (left l.next)) l.value (out-Json l.value) l.schema (keyword_of m.name) m.value) (drop l.member-index l.schema)
+    ≡ list_all (λ (m : Member). row (smaller_admits l.self.doc.now (room_at l.self)) (admits_within l.self.doc.now (room_at l.self) l.value (left l.next)) l.value (out-Json l.value) l.schema (keyword_of m.name) m.value) l.fn.schema
 
 abbrev pub invariant-all_admit-loop-schema : goal.invariant-all_admit-loop-schema
 invariant-all_admit-loop-schema l =

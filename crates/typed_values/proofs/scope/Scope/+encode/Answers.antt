@@ -1,17 +1,19 @@
-use Rattle.std.proofs.Common.{rules, suc, ◌≡◌, Some, None, refl, sym, ◌∙◌, ap, arith, length}
+use Rattle.std.proofs.Common.{rules, suc, ◌≡◌, Some, None, IfSome, refl, sym, ◌∙◌, ap, subst, arith, length}
 use Rattle.std.proofs.lemmas.List.{length-append}
 use Rattle.std.proofs.lemmas.Option.{slice_get_read, slice_get_past}
 use Rattle.std.proofs.lemmas.Slice.Zip.{zip_turn, zip_end}
 use denote.Param.Weighed.{most}
+use Rattle.typed_values.specs.declared.tree.Pair.{size-Pair}
 use Rattle.typed_values.specs.declared.tree.Tree.{size-Tree}
 use Rattle.typed_values.specs.Encoding.{written_under}
+use Rattle.typed_values.specs.Parts.{IsPart}
 use Rattle.typed_values.proofs.Arms.{definition_is_part}
-use Rattle.typed_values.proofs.EncodeRows.{members_kept, members_end, written_scalar, written_option, written_list, written_struct, written_untagged, written_ref, chosen_row}
+use Rattle.typed_values.proofs.EncodeRows.{members_kept, members_end, written_any, written_null, written_scalar, written_enumeration, written_option, written_list, written_map, written_struct, written_external, written_tagged, written_untagged, written_ref, chosen_row, external_row, tagged_row, tagged_members, untagged}
 use Rattle.typed_values.proofs.EncodeSteps.{skipped_written, is_none_tree}
 use Rattle.typed_values.proofs.FitRows.{skipped_desc, below_true, below_false}
-use Rattle.typed_values.proofs.Inside.{part_of_option, part_of_list, parts_of_untagged, fields_of_struct}
+use Rattle.typed_values.proofs.Inside.{part_of_option, part_of_list, part_of_map, parts_of_untagged, fields_of_struct, payloads_of_external, variants_of_tagged}
 use Rattle.typed_values.proofs.Measure.{ref-lt, alone-lt-at, at-lt-any, alone-lt-any, any-lt-alone, at-lt-alone}
-use Rattle.typed_values.proofs.TreeSizes.{size_some, size_items, size_choice, tree_smaller}
+use Rattle.typed_values.proofs.TreeSizes.{size_some, size_items, size_entries, size_parts, size_choice, tree_smaller, value_smaller}
 use Rattle.typed_values.proofs.scope.Scope.+encode.Goals as goal
 
 pub encode_at-encode_option-requires : goal.encode_at-encode_option-requires
@@ -24,10 +26,25 @@ encode_at-encode_list-requires t c =
     let less = alone-lt-at c.args.self.now.table.now c.args.self.now.whole.now (size-Tree c.args.tree.now) c.args.desc.now in
     (omega (arith, c.decreases, less), rw c.get-in-List.ensures (part_of_list c.requires c.in-List.item _ _ c.in-List.is))
 
+pub encode_at-encode_map-requires : goal.encode_at-encode_map-requires
+encode_at-encode_map-requires t c =
+    let less = alone-lt-at c.args.self.now.table.now c.args.self.now.whole.now (size-Tree c.args.tree.now) c.args.desc.now in
+    (omega (arith, c.decreases, less), rw c.get-in-Map.ensures (part_of_map c.requires c.in-Map.value c.in-Map.is))
+
 pub encode_at-encode_struct-requires : goal.encode_at-encode_struct-requires
 encode_at-encode_struct-requires t c =
     let less = alone-lt-at c.args.self.now.table.now c.args.self.now.whole.now (size-Tree c.args.tree.now) c.args.desc.now in
-    (omega (arith, c.decreases, less), rw c.as_slice.ensures (fields_of_struct c.requires c.in-Struct.fields c.in-Struct.deny_unknown c.in-Struct.is))
+    (omega (arith, c.decreases, less), rw c.as_slice-in-Struct.ensures (fields_of_struct c.requires c.in-Struct.fields c.in-Struct.deny_unknown c.in-Struct.is))
+
+pub encode_at-encode_external-requires : goal.encode_at-encode_external-requires
+encode_at-encode_external-requires t c =
+    let less = alone-lt-at c.args.self.now.table.now c.args.self.now.whole.now (size-Tree c.args.tree.now) c.args.desc.now in
+    (omega (arith, c.decreases, less), rw c.as_slice-in-External.ensures (payloads_of_external c.requires c.in-External.variants c.in-External.is))
+
+pub encode_at-encode_tagged-requires : goal.encode_at-encode_tagged-requires
+encode_at-encode_tagged-requires t c =
+    let less = alone-lt-at c.args.self.now.table.now c.args.self.now.whole.now (size-Tree c.args.tree.now) c.args.desc.now in
+    (omega (arith, c.decreases, less), rw c.as_slice-in-Tagged.ensures (variants_of_tagged c.requires c.in-Tagged.tag c.in-Tagged.variants c.in-Tagged.is))
 
 pub encode_at-encode_choice-requires : goal.encode_at-encode_choice-requires
 encode_at-encode_choice-requires t c =
@@ -40,9 +57,20 @@ encode_at-encode_at-requires t c =
     let less = ref-lt c.args.self.now.table.now c.args.self.now.whole.now (size-Tree c.args.tree.now) c.args.desc.now (c.args.self.now.sound _ c.requires) c.in-Ref.name c.in-Some.definition.now c.in-Ref.is found in
     (omega (arith, c.decreases, less), definition_is_part _ _ c.in-Ref.name c.in-Some.definition.now found)
 
+pub encode_at-returns-in-Any : goal.encode_at-returns-in-Any
+encode_at-returns-in-Any t c =
+    rw (written_any _ _ c.args.tree.now c.args.desc.now (c.args.self.now.sound _ c.requires) c.in-Any.is) c.encode_whole.ensures
+
+pub encode_at-returns-in-Never : goal.encode_at-returns-in-Never
+encode_at-returns-in-Never t c = sym (written_null _ _ c.args.tree.now c.args.desc.now (c.args.self.now.sound _ c.requires) c.in-Never.is)
+
 pub encode_at-returns-in-Bool : goal.encode_at-returns-in-Bool
 encode_at-returns-in-Bool t c =
     rw (written_scalar _ _ c.args.tree.now c.args.desc.now (c.args.self.now.sound _ c.requires) c.in-Bool.is) c.encode_scalar.ensures
+
+pub encode_at-returns-in-Enumeration : goal.encode_at-returns-in-Enumeration
+encode_at-returns-in-Enumeration t c =
+    rw (written_enumeration _ _ c.args.tree.now c.args.desc.now (c.args.self.now.sound _ c.requires) c.in-Enumeration.names c.in-Enumeration.is, ← c.as_slice.ensures) c.encode_name.ensures
 
 pub encode_at-returns-in-Option : goal.encode_at-returns-in-Option
 encode_at-returns-in-Option t c = rw (written_option _ _ c.args.tree.now c.args.desc.now (c.args.self.now.sound _ c.requires) c.in-Option.inner c.in-Option.is, ← c.get.ensures) c.encode_option.ensures
@@ -50,8 +78,17 @@ encode_at-returns-in-Option t c = rw (written_option _ _ c.args.tree.now c.args.
 pub encode_at-returns-in-List : goal.encode_at-returns-in-List
 encode_at-returns-in-List t c = rw (written_list _ _ c.args.tree.now c.args.desc.now (c.args.self.now.sound _ c.requires) c.in-List.item _ _ c.in-List.is, ← c.get-in-List.ensures) c.encode_list.ensures
 
+pub encode_at-returns-in-Map : goal.encode_at-returns-in-Map
+encode_at-returns-in-Map t c = rw (written_map _ _ c.args.tree.now c.args.desc.now (c.args.self.now.sound _ c.requires) c.in-Map.value c.in-Map.is, ← c.get-in-Map.ensures) c.encode_map.ensures
+
 pub encode_at-returns-in-Struct : goal.encode_at-returns-in-Struct
-encode_at-returns-in-Struct t c = rw (written_struct _ _ c.args.tree.now c.args.desc.now (c.args.self.now.sound _ c.requires) c.in-Struct.fields _ c.in-Struct.is, ← c.as_slice.ensures) c.encode_struct.ensures
+encode_at-returns-in-Struct t c = rw (written_struct _ _ c.args.tree.now c.args.desc.now (c.args.self.now.sound _ c.requires) c.in-Struct.fields _ c.in-Struct.is, ← c.as_slice-in-Struct.ensures) c.encode_struct.ensures
+
+pub encode_at-returns-in-External : goal.encode_at-returns-in-External
+encode_at-returns-in-External t c = rw (written_external _ _ c.args.tree.now c.args.desc.now (c.args.self.now.sound _ c.requires) c.in-External.variants c.in-External.is, ← c.as_slice-in-External.ensures) c.encode_external.ensures
+
+pub encode_at-returns-in-Tagged : goal.encode_at-returns-in-Tagged
+encode_at-returns-in-Tagged t c = rw (written_tagged _ _ c.args.tree.now c.args.desc.now (c.args.self.now.sound _ c.requires) c.in-Tagged.tag c.in-Tagged.variants c.in-Tagged.is, ← c.as_slice-in-Tagged.ensures) c.encode_tagged.ensures
 
 pub encode_at-returns-in-Untagged : goal.encode_at-returns-in-Untagged
 encode_at-returns-in-Untagged t c = rw (written_untagged _ _ c.args.tree.now c.args.desc.now (c.args.self.now.sound _ c.requires) c.in-Untagged.alternatives c.in-Untagged.is, ← c.as_slice-in-Untagged.ensures) c.encode_choice.ensures
@@ -76,6 +113,17 @@ encode_list-encode_each-requires t c =
 pub encode_each-encode_at-requires : goal.encode_each-encode_at-requires
 encode_each-encode_at-requires t c =
     let less = at-lt-alone c.args.self.now.table.now c.args.self.now.whole.now (size-Tree c.tree-item.result) (suc (most size-Tree c.args.trees.now)) c.args.item.now (tree_smaller c.args.trees.now c.loop-tree.tree-index c.tree-item.result (omega arith) c.tree-item.is) in
+    (omega (arith, c.decreases, less), c.requires)
+
+pub encode_map-encode_pairs-requires : goal.encode_map-encode_pairs-requires
+encode_map-encode_pairs-requires t c =
+    let size : size-Tree c.args.tree.now ≡ suc (most size-Pair c.in-Map.pairs) = ap size-Tree c.in-Map.is ∙ size_entries c.in-Map.pairs in
+    rw (c.as_slice.ensures, ← size) (omega (arith, c.decreases), c.requires)
+
+pub encode_pairs-encode_at-requires : goal.encode_pairs-encode_at-requires
+encode_pairs-encode_at-requires t c =
+    let smaller = value_smaller c.args.pairs.now c.loop-pair.pair-index c.pair-item.result (omega arith) c.pair-item.is in
+    let less = at-lt-alone c.args.self.now.table.now c.args.self.now.whole.now (size-Tree c.pair-item.result.value) (suc (most size-Pair c.args.pairs.now)) c.args.value.now (omega (arith, smaller)) in
     (omega (arith, c.decreases, less), c.requires)
 
 pub encode_fields-encode_field-requires : goal.encode_fields-encode_field-requires
@@ -109,6 +157,53 @@ encode_field-encode_option-requires t c =
 pub encode_field-returns-in-Skipped : goal.encode_field-returns-in-Skipped
 encode_field-returns-in-Skipped t c =
     rw (skipped_desc c.args.field.now c.in-Skipped.is, skipped_written c.args.self.now.table.now c.args.self.now.whole.now c.args.tree.now c.args.field.now.desc) c.encode_option.ensures
+
+pub encode_external-encode_variant-requires : goal.encode_external-encode_variant-requires
+encode_external-encode_variant-requires t c =
+    let size : size-Tree c.args.tree.now ≡ suc (size-Tree c.in-Variant.tree) = ap size-Tree c.in-Variant.is ∙ size_choice c.in-Variant.place c.in-Variant.tree in
+    let less = any-lt-alone c.args.self.now.table.now c.args.self.now.whole.now (size-Tree c.in-Variant.tree) (size-Tree c.args.tree.now) (omega arith) in
+    rw c.get-in-Some.ensures (omega (arith, c.decreases, less), c.requires c.in-Some.variant.now (c.in-Variant.place, below_true _ _ c.in-Some.ensures.lookup.0, sym c.in-Some.ensures.lookup.1))
+
+pub encode_external-returns-in-Some : goal.encode_external-returns-in-Some
+encode_external-returns-in-Some t c =
+    rw (external_row (written_under c.args.self.now.table.now c.args.self.now.whole.now) c.args.variants.now c.args.tree.now c.in-Variant.place c.in-Variant.tree (Some c.in-Some.variant.now) c.in-Variant.is (slice_get_read c.args.variants.now _ c.in-Variant.place c.in-Some.variant.now refl (below_true _ _ c.in-Some.ensures.lookup.0) c.in-Some.ensures.lookup.1), ← c.get-in-Some.ensures) c.encode_variant.ensures
+
+pub encode_external-returns-in-None : goal.encode_external-returns-in-None
+encode_external-returns-in-None t c =
+    rw (external_row (written_under c.args.self.now.table.now c.args.self.now.whole.now) c.args.variants.now c.args.tree.now c.in-Variant.place c.in-Variant.tree None c.in-Variant.is (slice_get_past c.args.variants.now c.in-Variant.place (below_false _ _ c.in-None.ensures.lookup.0))) refl
+
+pub encode_variant-encode_at-requires : goal.encode_variant-encode_at-requires
+encode_variant-encode_at-requires t c =
+    let less = at-lt-any c.args.self.now.table.now c.args.self.now.whole.now (size-Tree c.args.tree.now) c.in-Some.payload in
+    (omega (arith, c.decreases, less), subst (λ o. IfSome o (IsPart c.args.self.now.table.now c.args.self.now.whole.now)) c.in-Some.is c.requires)
+
+pub encode_tagged-encode_tagged_variant-requires : goal.encode_tagged-encode_tagged_variant-requires
+encode_tagged-encode_tagged_variant-requires t c =
+    let size : size-Tree c.args.tree.now ≡ suc (size-Tree c.in-Variant.tree) = ap size-Tree c.in-Variant.is ∙ size_choice c.in-Variant.place c.in-Variant.tree in
+    let less = any-lt-alone c.args.self.now.table.now c.args.self.now.whole.now (size-Tree c.in-Variant.tree) (size-Tree c.args.tree.now) (omega arith) in
+    let least = alone-lt-any c.args.self.now.table.now c.args.self.now.whole.now (size-Tree c.in-Variant.tree) in
+    rw c.get-in-Some.ensures (omega (arith, c.decreases, less, least), c.requires c.in-Some.variant.now (c.in-Variant.place, below_true _ _ c.in-Some.ensures.lookup.0, sym c.in-Some.ensures.lookup.1))
+
+pub encode_tagged-returns-in-Some : goal.encode_tagged-returns-in-Some
+encode_tagged-returns-in-Some t c =
+    rw (tagged_row (written_under c.args.self.now.table.now c.args.self.now.whole.now) c.args.tag.now c.args.variants.now c.args.tree.now c.in-Variant.place c.in-Variant.tree (Some c.in-Some.variant.now) c.in-Variant.is (slice_get_read c.args.variants.now _ c.in-Variant.place c.in-Some.variant.now refl (below_true _ _ c.in-Some.ensures.lookup.0) c.in-Some.ensures.lookup.1), ← c.get-in-Some.ensures) c.encode_tagged_variant.ensures
+
+pub encode_tagged-returns-in-None : goal.encode_tagged-returns-in-None
+encode_tagged-returns-in-None t c =
+    rw (tagged_row (written_under c.args.self.now.table.now c.args.self.now.whole.now) c.args.tag.now c.args.variants.now c.args.tree.now c.in-Variant.place c.in-Variant.tree None c.in-Variant.is (slice_get_past c.args.variants.now c.in-Variant.place (below_false _ _ c.in-None.ensures.lookup.0))) refl
+
+pub encode_tagged_variant-encode_fields-requires : goal.encode_tagged_variant-encode_fields-requires
+encode_tagged_variant-encode_fields-requires t c =
+    let size : size-Tree c.args.tree.now ≡ suc (most size-Tree c.in-Fields.trees) = ap size-Tree c.in-Fields.is ∙ size_parts c.in-Fields.trees in
+    rw (c.as_slice.ensures, c.as_slice-fields.ensures, ← size) (omega (arith, c.decreases), c.requires)
+
+pub encode_tagged_variant-returns : goal.encode_tagged_variant-returns
+encode_tagged_variant-returns t c =
+    tagged_members c.args.self.now.table.now c.args.self.now.whole.now c.args.tree.now c.args.tag.now c.args.variant.now c.in-Fields.trees c.in-Fields.is c.in_ok-copy.field-0 c.in_ok-copy-2.field-0 _ _ _ _ _ c.in_ok-copy.ensures c.in_ok-copy-2.ensures
+    c.new-members.ensures c.in_ok-push.ensures.ok c.as_slice-fields.ensures c.as_slice.ensures c.in_ok-encode_fields.ensures
+
+pub encode_tagged_variant-returns-in_default : goal.encode_tagged_variant-returns-in_default
+encode_tagged_variant-returns-in_default t c = sym (untagged c.args.self.now.table.now c.args.self.now.whole.now c.args.tree.now c.args.tag.now c.args.variant.now c.in_default.not-Fields)
 
 pub encode_choice-encode_at-requires : goal.encode_choice-encode_at-requires
 encode_choice-encode_at-requires t c =

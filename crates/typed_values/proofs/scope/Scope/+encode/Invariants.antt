@@ -1,7 +1,8 @@
 use Rattle.std.proofs.Common.{◌≡◌, ◌++◌, suc, map, take, drop, length}
 use denote.Param.Weighed.{most}
+use Rattle.typed_values.specs.declared.tree.Pair.{size-Pair}
 use Rattle.typed_values.specs.declared.tree.Tree.{size-Tree, out-Tree}
-use Rattle.typed_values.specs.Encoding.{is_none_level, members_written, written_under}
+use Rattle.typed_values.specs.Encoding.{is_none_level, pair_written, members_written, written_under}
 use Rattle.typed_values.proofs.Measure.{at_size, any_at_size, size_alone}
 use Rattle.typed_values.proofs.scope.Scope.+encode.Given as goal
 
@@ -17,6 +18,12 @@ decreases-encode_list l = suc (size_alone l.self.now.table.now l.self.now.whole.
 abbrev pub decreases-encode_each : goal.decreases-encode_each
 decreases-encode_each l = size_alone l.self.now.table.now l.self.now.whole.now (suc (most size-Tree l.trees.now))
 
+abbrev pub decreases-encode_map : goal.decreases-encode_map
+decreases-encode_map l = suc (size_alone l.self.now.table.now l.self.now.whole.now (size-Tree l.tree.now))
+
+abbrev pub decreases-encode_pairs : goal.decreases-encode_pairs
+decreases-encode_pairs l = size_alone l.self.now.table.now l.self.now.whole.now (suc (most size-Pair l.pairs.now))
+
 abbrev pub decreases-encode_struct : goal.decreases-encode_struct
 decreases-encode_struct l = suc (size_alone l.self.now.table.now l.self.now.whole.now (size-Tree l.tree.now))
 
@@ -29,10 +36,25 @@ decreases-encode_field l = any_at_size l.self.now.table.now l.self.now.whole.now
 abbrev pub decreases-encode_choice : goal.decreases-encode_choice
 decreases-encode_choice l = suc (size_alone l.self.now.table.now l.self.now.whole.now (size-Tree l.tree.now))
 
+abbrev pub decreases-encode_external : goal.decreases-encode_external
+decreases-encode_external l = suc (size_alone l.self.now.table.now l.self.now.whole.now (size-Tree l.tree.now))
+
+abbrev pub decreases-encode_variant : goal.decreases-encode_variant
+decreases-encode_variant l = any_at_size l.self.now.table.now l.self.now.whole.now (size-Tree l.tree.now)
+
+abbrev pub decreases-encode_tagged : goal.decreases-encode_tagged
+decreases-encode_tagged l = suc (size_alone l.self.now.table.now l.self.now.whole.now (size-Tree l.tree.now))
+
+abbrev pub decreases-encode_tagged_variant : goal.decreases-encode_tagged_variant
+decreases-encode_tagged_variant l = suc (size_alone l.self.now.table.now l.self.now.whole.now (size-Tree l.tree.now))
+
 abbrev pub invariant-encode_each-loop-tree : goal.invariant-encode_each-loop-tree
 invariant-encode_each-loop-tree l = l.items ≡ map (λ t. written_under l.self.table.now l.self.whole.now t l.item) (take l.tree-index l.trees)
 
+abbrev pub invariant-encode_pairs-loop-pair : goal.invariant-encode_pairs-loop-pair
+invariant-encode_pairs-loop-pair l = l.members ≡ map (pair_written (λ t. written_under l.self.table.now l.self.whole.now t l.value)) (take l.pair-index l.pairs)
+
 abbrev pub invariant-encode_fields-loop-field : goal.invariant-encode_fields-loop-field
 invariant-encode_fields-loop-field l =
-    members_written (λ t. is_none_level (out-Tree t)) (written_under l.self.table.now l.self.whole.now) l.fields l.trees
+    l.fn.members ++ members_written (λ t. is_none_level (out-Tree t)) (written_under l.self.table.now l.self.whole.now) l.fields l.trees
     ≡ l.members ++ members_written (λ t. is_none_level (out-Tree t)) (written_under l.self.table.now l.self.whole.now) (drop (length l.yielded) l.fields) (drop (length l.yielded) l.trees)

@@ -1,0 +1,14 @@
+pub mod Narrower
+pub mod Inner
+pub mod Reaching
+pub mod Forms
+pub mod Leaves
+pub mod Characters
+pub mod Composites
+pub mod Entries
+pub mod AddedInOrder
+pub mod Names
+pub mod References
+pub mod Structs
+pub mod Admitted
+pub mod Refusing

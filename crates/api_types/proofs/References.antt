@@ -1,0 +1,92 @@
+-- A reference to a definition, which stands behind those that it reaches itself.
+use Rattle.std.proofs.Common.{◌≡◌, ℕ, List, [], ◌∷◌, ◌++◌, map, option_map, Some, refl, sym, ◌∙◌, ap, subst, ◌⊎◌, inl, inr}
+use Rattle.std.proofs.lemmas.List.{map-append}
+use Rattle.std.proofs.lemmas.List.Elements.{Contains-append_left, Contains-append_right, Contains-append_cases}
+use Rattle.std.specs.Prelude.{Contains}
+use Rattle.typed_values.specs.declared.desc.Desc.{Desc, out-Desc}
+use Rattle.typed_values.specs.declared.desc.Desc.TheOpen.{Desc-F}
+use Rattle.typed_values.specs.declared.desc.Desc.TheVariants as descs
+use Rattle.typed_values.specs.declared.table.Definition.{Definition}
+use Rattle.typed_values.specs.declared.tree.Tree.{Tree}
+use Rattle.typed_values.specs.Definitions.{entry_of, definition_name}
+use Rattle.typed_values.specs.Fits.{fits_under}
+use Rattle.typed_values.specs.Parts.{the_whole, IsPart, of_table}
+use Rattle.typed_values.specs.Reached.{Mentions, IsReached, directly, through}
+use Rattle.typed_values.proofs.FitRows.{fits_ref}
+use Rattle.typed_values.proofs.Found.{contains_first, same_or_not, definition_is}
+use Rattle.typed_values.proofs.Needed.{entry_inside}
+use Rattle.typed_values.proofs.Within.{parts_at}
+use Rattle.api_types.specs.Types.{HoldsAll, IsTableOf, FitsEach, FitsOne, ReachesExactly}
+use Rattle.api_types.proofs.AddedInOrder.{only_one}
+use Rattle.api_types.proofs.Inner.{part_each, part_one}
+use Rattle.api_types.proofs.Reaching.{rests}
+
+itself : (name : List ℕ) → Mentions (descs.Ref name) name
+itself name = (descs.Ref name, the_whole, descs.outs-Ref name)
+
+only_itself : (name other : List ℕ) → Mentions (descs.Ref name) other → name ≡ other
+only_itself name other m =
+    elim (same_or_not name other) [
+      | inl same ↦ same
+      | inr differ ↦
+          absurd
+          ((parts_at (λ d. out-Desc d ≡ Desc-F.Ref other) (descs.Ref name) (Desc-F.Ref name) (descs.outs-Ref name)
+          (λ q. let levels : Desc-F.Ref name ≡ Desc-F.Ref other = sym (descs.outs-Ref name) ∙ q in let same : name ≡ other = cc levels in differ same)).0
+          m)
+    ]
+
+module _ {table : List Definition} (e : Definition) (held : entry_of table e.name ≡ Some e) where
+  forth : (name : List ℕ) → IsReached table (descs.Ref e.name) name → (e.name ≡ name) ⊎ IsReached table e.desc name
+  forth _ (directly name m) = inl (only_itself e.name name m)
+  forth _ (through other name x r f m) =
+      elim (forth other r) [
+        | inl same ↦ let q : Some e ≡ Some x = sym held ∙ ap (entry_of table) same ∙ f in let own : e ≡ x = cc q in inr (directly name (subst (λ (y : Definition). Mentions y.desc name) (sym own) m))
+        | inr inside ↦ inr (through other name x inside f m)
+      ]
+
+  back : (name : List ℕ) → IsReached table e.desc name → IsReached table (descs.Ref e.name) name
+  back _ (directly name m) = through e.name name e (directly e.name (itself e.name)) held m
+  back _ (through other name x r f m) = through other name x (back other r) f m
+
+module _ (ds : List Definition) (e : Definition) where
+  abbrev all : List Definition
+  all = ds ++ e ∷ []
+
+  abbrev refers : Desc
+  refers = descs.Ref e.name
+
+  before : (d : Definition) → Contains ds d → Contains all d
+  before d c = Contains-append_left ds (e ∷ []) d c
+
+  own : (table : List Definition) → HoldsAll table all → entry_of table e.name ≡ Some e
+  own table held = held e (Contains-append_right ds (e ∷ []) e (contains_first e []))
+
+  names_split : map definition_name all ≡ map definition_name ds ++ e.name ∷ []
+  names_split = map-append definition_name ds (e ∷ [])
+
+  pub ref_reaches : ReachesExactly ds e.desc → ReachesExactly all refers
+  ref_reaches reaches table held name =
+      let names = map definition_name ds in
+      let there = reaches table (λ d c. held d (before d c)) name in (
+        λ r. subst (λ (ns : List (List ℕ)). Contains ns name) (sym names_split)
+            (elim (forth e (own table held) name r) [
+              | inl same ↦ subst (Contains (names ++ e.name ∷ [])) same (Contains-append_right names (e.name ∷ []) e.name (contains_first e.name []))
+              | inr inside ↦ Contains-append_left names (e.name ∷ []) name (there.0 inside)
+            ]),
+        λ c. elim (Contains-append_cases names (e.name ∷ []) name (subst (λ (ns : List (List ℕ)). Contains ns name) names_split c)) [
+          | inl inside ↦ back e (own table held) name (there.1 inside)
+          | inr last ↦ subst (IsReached table refers) (only_one e.name name last) (directly e.name (itself e.name))
+        ],
+      )
+
+  part_of : (table : List Definition) → IsTableOf all refers table → IsPart table refers e.desc
+  part_of table is = of_table e (entry_inside table e.name e (own table is.holds)) the_whole
+
+  ref_row : (t : Tree) (table : List Definition) → IsTableOf all refers table → fits_under table refers t refers ≡ fits_under table refers t e.desc
+  ref_row t table is = fits_ref table refers t refers (rests is) e.name (Some e.desc) refl (definition_is table e.name ∙ ap (option_map (λ (d : Definition). d.desc)) (own table is.holds))
+
+  pub ref_each : (t : Tree) → FitsEach ds e.desc t → FitsEach all refers t
+  ref_each t each table is = ref_row t table is ∙ part_each all ds refers e.desc before part_of t each table is
+
+  pub ref_one : (t : Tree) → FitsOne all refers t → FitsOne ds e.desc t
+  ref_one t (table, is, fit) = part_one all ds refers e.desc before part_of t table is (sym (ref_row t table is) ∙ fit)

@@ -1,0 +1,98 @@
+//! The table that a type's values need.
+ghost use Rattle.std.specs.Prelude.{◌≡◌, [], IfOk, IfErr};
+ghost use Rattle.api_types.specs.Additions.{with_all};
+ghost use Rattle.api_types.specs.TypeTables.{flaw_of, HasNoTable};
+ghost use Rattle.api_types.specs.Types.{IsTableOf};
+
+use crate::api_type::ApiType;
+use schema_values::Text;
+use std::alloc::{AllocError, Global};
+use typed_values::{AddError, DescTable, TableError, check_desc, check_table};
+
+/// Why a type has no table.
+#[derive(Drop)]
+pub enum TypeError {
+    /// Two of the type's definitions differ and have this name. The first clash is told.
+    Clash(Text),
+    /// The first flaw of the table of the type's definitions.
+    Table(Flaw),
+    /// The first flaw of the type's descriptor beside that table.
+    Descriptor(Flaw),
+    OutOfMemory,
+}
+
+/// What is wrong with a table or a descriptor, as `TableError` tells, without a borrow.
+#[derive(Drop)]
+pub enum Flaw {
+    DoubledName,
+    BadName,
+    Dangling,
+    Unguarded(Text),
+    EmptyEnumeration,
+    NullOfNull,
+    TagClash,
+    BadRange,
+    BadPresence,
+}
+
+impl From<AllocError> for TypeError {
+    ghost use Rattle.std.specs.Prelude.{◌≡◌};
+    ghost use Rattle.api_types.specs.declared.type_table.TypeError.TheVariants.{OutOfMemory};
+
+    ghost from_gives = { λ _ e. e ≡ OutOfMemory };
+
+    fn from(_: AllocError) -> TypeError {
+        TypeError::OutOfMemory
+    }
+}
+
+impl From<AddError> for TypeError {
+    ghost use Rattle.std.specs.Prelude.{◌≡◌};
+    ghost use Rattle.api_types.specs.TypeTables.{error_of};
+
+    ghost from_gives = { λ error e. e ≡ error_of error };
+
+    fn from(error: AddError) -> TypeError {
+        match error {
+            AddError::Clash(name) => TypeError::Clash(name),
+            AddError::OutOfMemory => TypeError::OutOfMemory,
+        }
+    }
+}
+
+impl Flaw {
+    /// The flaw that an error tells.
+    fn of(alloc: Global, error: TableError) -> Result<Flaw, AllocError>
+        ensures { IfOk result (λ flaw. flaw ≡ flaw_of error.entry) }
+    {
+        match error {
+            TableError::DoubledName => Ok(Flaw::DoubledName),
+            TableError::BadName => Ok(Flaw::BadName),
+            TableError::Dangling => Ok(Flaw::Dangling),
+            TableError::Unguarded(name) => Ok(Flaw::Unguarded(Text::from_str(alloc, name)?)),
+            TableError::EmptyEnumeration => Ok(Flaw::EmptyEnumeration),
+            TableError::NullOfNull => Ok(Flaw::NullOfNull),
+            TableError::TagClash => Ok(Flaw::TagClash),
+            TableError::BadRange => Ok(Flaw::BadRange),
+            TableError::BadPresence => Ok(Flaw::BadPresence),
+        }
+    }
+}
+
+/// The table of a type's definitions, with which `value_json` and `json_value` take the type's values.
+pub fn table_of<T: ApiType>(alloc: Global) -> Result<DescTable, TypeError>
+    ensures ok { IfOk result (IsTableOf T.definitions_of T.desc_of) }
+    ensures made { IfOk result (λ table. table ≡ with_all [] T.definitions_of) }
+    ensures refused { IfErr result (HasNoTable T.definitions_of T.desc_of) }
+{
+    let mut table = DescTable::new(alloc);
+    T::add_definitions(alloc, &mut table)?;
+    let desc = T::descriptor(alloc)?;
+    if let Err(error) = check_table(&table) {
+        return Err(TypeError::Table(Flaw::of(alloc, error)?));
+    }
+    if let Err(error) = check_desc(&table, &desc) {
+        return Err(TypeError::Descriptor(Flaw::of(alloc, error)?));
+    }
+    Ok(table)
+}

@@ -1,0 +1,96 @@
+ghost use Rattle.std.specs.Prelude.{◌≡◌, [], codes, IsTrue, Ok, Err, if◌then◌else◌};
+ghost use Rattle.typed_values.specs.declared.tree.Tree.TheVariants as trees;
+ghost use Rattle.api_types.specs.Types.{FitsOne};
+ghost use Rattle.own_types.specs.Labels.{is_label, label_desc};
+
+use api_types::ApiType;
+use schema_values::Text;
+use std::alloc::{AllocError, Global};
+use std::marker::Model;
+use typed_values::{AddError, Desc, DescTable, Tree};
+
+/// A text of 1 to 16 characters.
+#[derive(Drop)]
+pub struct Label {
+    text: Text,
+}
+
+impl Model for Label {
+    ghost use Rattle.std.specs.Prelude.{List, ℕ, IsTrue};
+    ghost use Rattle.own_types.specs.Labels.{is_label};
+
+    ghost Value = { List ℕ };
+
+    ghost view = { λ label. label.text };
+
+    ghost invariant = { λ label. IsTrue (is_label label.text) };
+}
+
+impl Label {
+    /// The label of a text. One that is too short or too long is handed back. Takes no memory.
+    pub fn new(text: Text) -> Result<Label, Text>
+        ensures { result ≡ (if is_label text then Ok text else Err text) }
+    {
+        let length = text.chars_count();
+        if 1 <= length && length <= 16 {
+            Ok(Label { text })
+        } else {
+            Err(text)
+        }
+    }
+
+    /// The text of the label.
+    pub fn text(&self) -> &Text
+        ensures is { result.now ≡ self.now }
+        ensures right { IsTrue (is_label self.now) }
+    {
+        &self.text
+    }
+}
+
+impl ApiType for Label {
+    ghost name_of = { codes "Label" };
+
+    ghost desc_of = { label_desc };
+
+    ghost definitions_of = { [] };
+
+    ghost tree_of = { λ text. trees.Text text };
+
+    fn type_name(alloc: Global) -> Result<Text, AllocError> {
+        Text::from_ascii(alloc, "Label")
+    }
+
+    fn descriptor(_alloc: Global) -> Result<Desc, AllocError> {
+        Ok(Desc::Text {
+            min: Some(1),
+            max: Some(16),
+            format: None,
+        })
+    }
+
+    fn add_definitions(_alloc: Global, _table: &mut DescTable) -> Result<(), AddError> {
+        Ok(())
+    }
+
+    fn to_tree(&self, alloc: Global) -> Result<Tree, AllocError> {
+        Ok(Tree::Text(self.text().copy(alloc)?))
+    }
+
+    fn from_tree(alloc: Global, tree: &Tree) -> Result<Label, AllocError> {
+        Ok(Label {
+            text: label_in(tree).copy(alloc)?,
+        })
+    }
+}
+
+fn label_in(tree: &Tree) -> &Text
+    requires { FitsOne [] label_desc tree.now }
+    ensures is { tree.now ≡ trees.Text result.now }
+    ensures right { IsTrue (is_label result.now) }
+{
+    match tree {
+        Tree::Text(text) => text,
+        _ => unreachable!(),
+    }
+}

@@ -1,0 +1,12 @@
+//! Types of one's own in documents and on the wire: an example of each kind.
+#![tactic(auto)]
+
+mod color;
+mod label;
+mod point;
+#[cfg(test)]
+mod tests;
+
+pub use color::Color;
+pub use label::Label;
+pub use point::Point;

@@ -1,0 +1,110 @@
+ghost use Rattle.std.specs.Prelude.{◌≡◌, codes, IfOk, IsTrue};
+ghost use Rattle.schema_values.specs.Ascii.{all_ascii};
+ghost use Rattle.typed_values.specs.declared.tree.Tree.TheVariants as trees;
+ghost use Rattle.api_types.specs.Structs.{FieldsFitOne};
+ghost use Rattle.api_types.specs.Types.{FitsOne};
+ghost use Rattle.own_types.specs.Points.{field as field_with, point_parts, point_desc};
+ghost use Rattle.own_types.specs.Points.{point_definition, point_definitions, point_tree};
+
+use crate::color::{self, Color};
+use crate::label::Label;
+use api_types::{ApiType, add_all};
+use schema_values::{List, Text};
+use std::alloc::{AllocError, Global};
+use typed_values::{AddError, Definition, Desc, DescTable, Field, Presence, Tree};
+
+/// A point on the map.
+#[derive(Drop)]
+pub struct Point {
+    pub label: Label,
+    pub color: Option<Color>,
+    pub n: i32,
+}
+
+impl ApiType for Point {
+    ghost name_of = { codes "Point" };
+
+    ghost desc_of = { point_desc };
+
+    ghost definitions_of = { point_definitions };
+
+    ghost tree_of = { point_tree };
+
+    fn type_name(alloc: Global) -> Result<Text, AllocError> {
+        Text::from_ascii(alloc, "Point")
+    }
+
+    fn descriptor(alloc: Global) -> Result<Desc, AllocError> {
+        Ok(Desc::Ref(Text::from_ascii(alloc, "Point")?))
+    }
+
+    fn add_definitions(alloc: Global, table: &mut DescTable) -> Result<(), AddError> {
+        add_all(
+            alloc,
+            table,
+            &[color::definition(alloc)?, definition(alloc)?],
+        )
+    }
+
+    fn to_tree(&self, alloc: Global) -> Result<Tree, AllocError> {
+        let mut trees = List::new(alloc);
+        trees.push(self.label.to_tree(alloc)?)?;
+        trees.push(self.color.to_tree(alloc)?)?;
+        trees.push(self.n.to_tree(alloc)?)?;
+        Ok(Tree::Fields(trees))
+    }
+
+    fn from_tree(alloc: Global, tree: &Tree) -> Result<Point, AllocError> {
+        match trees_in(tree) {
+            [label, color, n] => Ok(Point {
+                label: Label::from_tree(alloc, label)?,
+                color: <Option<Color>>::from_tree(alloc, color)?,
+                n: i32::from_tree(alloc, n)?,
+            }),
+            _ => unreachable!(),
+        }
+    }
+}
+
+fn trees_in(tree: &Tree) -> &[Tree]
+    requires { FitsOne point_definitions point_desc tree.now }
+    ensures is { tree.now ≡ trees.Fields result.now }
+    ensures fit { FieldsFitOne point_parts result.now }
+{
+    match tree {
+        Tree::Fields(trees) => trees.as_slice(),
+        _ => unreachable!(),
+    }
+}
+
+fn definition(alloc: Global) -> Result<Definition, AllocError>
+    ensures { IfOk result (λ made. made ≡ point_definition) }
+{
+    let label = Label::descriptor(alloc)?;
+    let color = <Option<Color>>::descriptor(alloc)?;
+    let n = i32::descriptor(alloc)?;
+    let mut fields = List::new(alloc);
+    fields.push(field(alloc, "label", label, Presence::Required)?)?;
+    fields.push(field(alloc, "color", color, Presence::Nullable)?)?;
+    fields.push(field(alloc, "n", n, Presence::Required)?)?;
+    Ok(Definition {
+        name: Text::from_ascii(alloc, "Point")?,
+        description: Some(Text::from_ascii(alloc, "a point on the map")?),
+        desc: Desc::Struct {
+            fields,
+            deny_unknown: false,
+        },
+    })
+}
+
+fn field(alloc: Global, name: &str, desc: Desc, presence: Presence) -> Result<Field, AllocError>
+    requires { IsTrue (all_ascii name.now) }
+    ensures { IfOk result (λ made. made ≡ field_with name.now desc presence) }
+{
+    Ok(Field {
+        name: Text::from_ascii(alloc, name)?,
+        desc,
+        presence,
+        description: None,
+    })
+}

@@ -1,0 +1,148 @@
+// Decoding under external and tagged enumerations.
+ghost use Rattle.std.specs.Prelude.{◌≡◌, ◌≤◌, false, length};
+ghost use Rattle.schema_values.specs.declared.json_value.Json.{out-Json};
+ghost use Rattle.typed_values.specs.Answer.{Tells};
+ghost use Rattle.typed_values.specs.Definitions.{tagged_fields, variant_name};
+ghost use Rattle.typed_values.specs.Denotes as meant;
+ghost use Rattle.typed_values.specs.Denotes.{told, external, tagged, at_tag, chosen, where_found, refused};
+ghost use Rattle.typed_values.specs.Denotes.{named_from, with_payload, without_payload};
+ghost use Rattle.typed_values.specs.Rows.{struct_row, told_struct, ArePayloadsOf, AreVariantsOf};
+ghost use Rattle.typed_values.specs.declared.fault.FaultKind.TheVariants.{NotListed};
+
+use crate::desc::{TaggedVariant, Variant};
+use crate::fault::{FaultKind, Place, Stop};
+use crate::members::Members;
+use crate::order::find_named;
+use crate::scope::Scope;
+use crate::tree::Tree;
+use schema_values::{Boxed, Json, Member, Text};
+use std::alloc::Global;
+
+/// Decodes a variant by its name alone.
+fn decode_bare(alloc: Global, variants: &[Variant], name: &Text) -> Result<Tree, Stop>
+    requires { length variants.now ≤ 4294967296 }
+    ensures { Tells result (where_found (refused NotListed) without_payload
+        (named_from variant_name 0 variants.now name.now)) }
+{
+    match find_named(variants, name) {
+        Some((place, Variant { payload: None, .. })) => {
+            Ok(Tree::Variant(place as u32, Boxed::new(alloc, Tree::Unit)?))
+        }
+        _ => Err(Stop::refused(alloc, FaultKind::NotListed)),
+    }
+}
+
+fn are_all_named(name: &Text, members: &[Member]) -> bool
+    ensures { result ≡ meant.are_all_named name.now members.now }
+{
+    members.iter().all(|member| member.name.equals(name))
+}
+
+impl Scope<'_> {
+    /// Decodes the name of a variant without payload, or an object of one name, that of a variant with
+    /// payload.
+    #[cycle(decode)]
+    pub(crate) fn decode_external(
+        &self,
+        alloc: Global,
+        variants: &[Variant],
+        json: &Json,
+    ) -> Result<Tree, Stop>
+        requires parts { ArePayloadsOf self.now.table.now self.now.whole.now variants.now }
+        requires few { length variants.now ≤ 4294967296 }
+        ensures { Tells result (external (told self.now.table.now self.now.whole.now) variants.now
+            (out-Json json.now)) }
+    {
+        match json {
+            Json::Text(name) => decode_bare(alloc, variants, name),
+            Json::Object(members) => match members.as_slice().split_first() {
+                Some((member, others)) if are_all_named(&member.name, others) => {
+                    self.decode_payload(alloc, variants, member)
+                }
+                _ => Err(Stop::refused(alloc, FaultKind::WrongKind)),
+            },
+            _ => Err(Stop::refused(alloc, FaultKind::WrongKind)),
+        }
+    }
+
+    /// Decodes a payload under the name of its variant.
+    #[cycle(decode)]
+    fn decode_payload(
+        &self,
+        alloc: Global,
+        variants: &[Variant],
+        member: &Member,
+    ) -> Result<Tree, Stop>
+        requires parts { ArePayloadsOf self.now.table.now self.now.whole.now variants.now }
+        requires few { length variants.now ≤ 4294967296 }
+        ensures { Tells result (where_found (refused NotListed)
+            (with_payload (told self.now.table.now self.now.whole.now member.now.value))
+            (named_from variant_name 0 variants.now member.now.name)) }
+    {
+        let Some((place, variant)) = find_named(variants, &member.name) else {
+            return Err(Stop::refused(alloc, FaultKind::NotListed));
+        };
+        let Some(payload) = &variant.payload else {
+            return Err(Stop::refused(alloc, FaultKind::NotListed));
+        };
+        match self.decode_at(alloc, payload, &member.value) {
+            Ok(tree) => Ok(Tree::Variant(place as u32, Boxed::new(alloc, tree)?)),
+            Err(stop) => Err(stop.below(Place::Name(member.name.copy(alloc)?))),
+        }
+    }
+
+    /// Decodes an object whose tag names a variant.
+    #[cycle(decode)]
+    pub(crate) fn decode_tagged(
+        &self,
+        alloc: Global,
+        tag: &Text,
+        variants: &[TaggedVariant],
+        json: &Json,
+    ) -> Result<Tree, Stop>
+        requires parts { AreVariantsOf self.now.table.now self.now.whole.now variants.now }
+        requires few { length variants.now ≤ 4294967296 }
+        ensures { Tells result (tagged (λ json. json)
+            (λ fields. struct_row self.now.table.now self.now.whole.now fields false (out-Json json.now))
+            tag.now variants.now (out-Json json.now)) }
+    {
+        let Json::Object(members) = json else {
+            return Err(Stop::refused(alloc, FaultKind::WrongKind));
+        };
+        let members = Members::new(alloc, members.as_slice())?;
+        match members.value_named(tag) {
+            Some(name) => self.decode_variant(alloc, tag, variants, name, &members),
+            None => Err(Stop::refused(alloc, FaultKind::Missing(tag.copy(alloc)?))),
+        }
+    }
+
+    /// Decodes the fields of the variant that a tag names.
+    #[cycle(decode)]
+    fn decode_variant(
+        &self,
+        alloc: Global,
+        tag: &Text,
+        variants: &[TaggedVariant],
+        name: &Json,
+        members: &Members,
+    ) -> Result<Tree, Stop>
+        requires parts { AreVariantsOf self.now.table.now self.now.whole.now variants.now }
+        requires few { length variants.now ≤ 4294967296 }
+        ensures { Tells result (at_tag tag.now
+            (λ place variant. chosen place (told_struct self.now.table.now self.now.whole.now
+            (tagged_fields variant) false members.now.items.now)) variants.now name.now) }
+    {
+        let Json::Text(name) = name else {
+            return Err(Stop::refused(alloc, FaultKind::WrongKind).below(Place::Name(tag.copy(
+                alloc,
+            )?)));
+        };
+        let Some((place, variant)) = find_named(variants, name) else {
+            return Err(Stop::refused(alloc, FaultKind::NotListed).below(Place::Name(tag.copy(
+                alloc,
+            )?)));
+        };
+        let tree = self.decode_fields(alloc, variant.fields.as_slice(), members)?;
+        Ok(Tree::Variant(place as u32, Boxed::new(alloc, tree)?))
+    }
+}

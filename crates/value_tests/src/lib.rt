@@ -1,0 +1,13 @@
+//! Tests of values: tables and trees, the schemas of descriptors, and what documents admit.
+#![tactic(auto)]
+
+#[cfg(test)]
+mod documents;
+#[cfg(test)]
+mod schemas;
+#[cfg(test)]
+mod tables;
+#[cfg(test)]
+mod trees;
+#[cfg(test)]
+mod written;
