@@ -1,5 +1,6 @@
 //! What bodies denote under one record, and what the tables of definitions are told.
 
+mod defaults;
 mod definitions;
 mod form_rows;
 mod form_schemas;
@@ -115,6 +116,11 @@ fn values_of_each_form_are_written_again(rt: HostRuntime) -> Result<(), Fail> {
             "Event",
             r#"{"x":1,"kind":"move"}"#,
             r#"{"kind":"move","x":1}"#,
+        ),
+        (
+            "Settings",
+            r#"{"limit":2}"#,
+            r#"{"level":3,"tags":[],"shape":"dot","limit":2}"#,
         ),
     ];
     let alloc = rt.alloc();

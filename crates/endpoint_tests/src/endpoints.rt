@@ -4,6 +4,7 @@ ghost use Rattle.api_description.specs.Endpoints.{boxed};
 ghost use Rattle.api_description.specs.Registering.{AreAccepted};
 
 mod copies;
+mod error_bodies;
 mod failures;
 mod folders;
 mod handler;
@@ -216,12 +217,18 @@ fn bodies_that_are_no_json_are_refused(rt: HostRuntime) -> Result<(), Fail> {
     Ok(())
 }
 
-fn document(alloc: Global, api: &ApiDescription) -> Result<Text, AllocError> {
+fn document(alloc: Global, api: &ApiDescription) -> Result<Text, AllocError>
+    requires { AreAccepted
+        (boxed ⟦<dyn RouteHandler as RouteHandler>⟧) [] api.now.endpoints.items }
+{
     api.openapi(alloc, "flags", Version::new(1, 0, 0))?
         .text(alloc)
 }
 
-fn write(alloc: Global, api: &ApiDescription, sink: &mut MemorySink) -> Result<(), WriteError> {
+fn write(alloc: Global, api: &ApiDescription, sink: &mut MemorySink) -> Result<(), WriteError>
+    requires { AreAccepted
+        (boxed ⟦<dyn RouteHandler as RouteHandler>⟧) [] api.now.endpoints.items }
+{
     api.openapi(alloc, "flags", Version::new(1, 0, 0))?
         .write(alloc, sink)
 }

@@ -4,7 +4,7 @@ use std::alloc::{AllocError, Global};
 use std::test::Fail;
 use typed_values::{
     AddError, Added, Definition, Desc, DescTable, Field, IntKind, Named, Presence, TableError,
-    TaggedVariant, Variant, check_desc, check_table,
+    TaggedVariant, Tree, Variant, check_desc, check_table,
 };
 
 pub(crate) fn reference(alloc: Global, name: &str) -> Result<Desc, AllocError> {
@@ -215,10 +215,15 @@ fn null_of_null(alloc: Global) -> Result<Desc, AllocError> {
     option(alloc, either(alloc, Desc::Bool, inner)?)
 }
 
-fn bad_presence(alloc: Global) -> Result<Desc, AllocError> {
+/// A struct with a field of the name `n`.
+fn with_field(alloc: Global, presence: Presence, desc: Desc) -> Result<Desc, AllocError> {
     let mut fields = List::new(alloc);
-    push(alloc, &mut fields, "n", Presence::Nullable, Desc::Bool)?;
+    push(alloc, &mut fields, "n", presence, desc)?;
     Ok(structure(fields))
+}
+
+fn bad_presence(alloc: Global) -> Result<Desc, AllocError> {
+    with_field(alloc, Presence::Nullable, Desc::Bool)
 }
 
 fn no_alternatives(alloc: Global) -> Desc {
@@ -243,11 +248,12 @@ fn map(alloc: Global, value: Result<Desc, AllocError>) -> Result<Desc, AllocErro
     Ok(Desc::Map(Boxed::new(alloc, value?)?))
 }
 
-/// A struct with a field of the name `n`, which may be left out.
 fn skipped(alloc: Global, desc: Desc) -> Result<Desc, AllocError> {
-    let mut fields = List::new(alloc);
-    push(alloc, &mut fields, "n", Presence::Skipped, desc)?;
-    Ok(structure(fields))
+    with_field(alloc, Presence::Skipped, desc)
+}
+
+fn defaulted(alloc: Global, tree: Tree) -> Result<Desc, AllocError> {
+    with_field(alloc, Presence::Default(tree), Desc::Bool)
 }
 
 fn option_of_any_choice(alloc: Global) -> Result<Desc, AllocError> {
@@ -344,6 +350,9 @@ fn any_and_null_take_null(rt: HostRuntime) {
     assert_eq!(rt; of(skipped(alloc, Desc::Any)), "bad presence");
     assert_eq!(rt; of(skipped(alloc, Desc::Null)), "bad presence");
     assert_eq!(rt; of(skipped(alloc, Desc::Never)), "passes");
+    assert_eq!(rt; of(defaulted(alloc, Tree::Bool(true))), "passes");
+    assert_eq!(rt; of(defaulted(alloc, Tree::Int(1))), "bad presence");
+    assert_eq!(rt; of(defaulted(alloc, Tree::None)), "bad presence");
 }
 
 #[test]
@@ -360,6 +369,9 @@ fn told_of_null_behind_references(alloc: Global) -> Result<&'static str, AllocEr
     define(&mut table, "A", reference(alloc, "B")?)?;
     define(&mut table, "B", option(alloc, Desc::Bool)?)?;
     let whole = option(alloc, reference(alloc, "A")?)?;
+    if check_table(&table).is_err() {
+        return Err(AllocError);
+    }
     Ok(told(check_desc(&table, &whole)))
 }
 
