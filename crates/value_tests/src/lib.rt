@@ -4,6 +4,8 @@
 #[cfg(test)]
 mod documents;
 #[cfg(test)]
+mod refusals;
+#[cfg(test)]
 mod schemas;
 #[cfg(test)]
 mod tables;
