@@ -280,11 +280,10 @@ fn endpoints_take_json(rt: HostRuntime) -> Result<(), Fail> {
 fn refused_media_types_are_printed(rt: HostRuntime) -> Result<(), Fail> {
     let alloc = rt.alloc();
     let error = NewEndpointError::UnsupportedMime(text(alloc, "text/plain")?).copy(alloc)?;
-    assert!(rt;
-        format!(in alloc; "{error}")?
-            .as_str()
-            .ends_with("text/plain")
-    );
+    let told = format!(in alloc; "{error}")?;
+    assert_eq!(rt; told.as_str(), "unsupported media type: text/plain");
+    let wanting = format!(in alloc; "{}", NewEndpointError::OutOfMemory)?;
+    assert_eq!(rt; wanting.as_str(), "out of memory");
     Ok(())
 }
 

@@ -32,10 +32,10 @@ fn refused(alloc: Global) -> Result<Response, Fail> {
     }
 }
 
-// What is written of the body.
-fn written(alloc: Global) -> Result<Text, Fail> {
+// What is written of a body.
+fn written(alloc: Global, body: &HttpErrorResponseBody) -> Result<Json, Fail> {
     match table_of::<HttpErrorResponseBody>(alloc) {
-        Ok(table) => Ok(value_json(alloc, &table, &body(alloc)?)?.pretty(alloc)?),
+        Ok(table) => Ok(value_json(alloc, &table, body)?),
         Err(_) => Err("no table".into()),
     }
 }
@@ -54,11 +54,51 @@ fn read(alloc: Global, bytes: &[u8]) -> Result<HttpErrorResponseBody, Fail> {
     }
 }
 
+// A body with a code, or without one.
+fn coded(alloc: Global, code: Option<&str>) -> Result<HttpErrorResponseBody, AllocError> {
+    let error_code = match code {
+        Some(code) => Some(text(alloc, code)?),
+        None => None,
+    };
+    Ok(HttpErrorResponseBody {
+        request_id: text(alloc, "123")?,
+        error_code,
+        message: text(alloc, "oy!")?,
+    })
+}
+
+#[test]
+fn bodies_with_and_without_a_code_come_back(rt: HostRuntime) -> Result<(), Fail> {
+    let alloc = rt.alloc();
+    for (code, json) in [
+        (None, r#"{"request_id":"123","message":"oy!"}"#),
+        (
+            Some("err"),
+            r#"{"request_id":"123","error_code":"err","message":"oy!"}"#,
+        ),
+    ] {
+        let body = coded(alloc, code)?;
+        let written = written(alloc, &body)?.compact(alloc)?;
+        assert_eq!(rt; written.as_str(), json);
+        let read = read(alloc, json.as_bytes())?;
+        assert!(rt; read.to_tree(alloc)?.equals(&body.to_tree(alloc)?));
+        assert_eq!(rt; read.error_code.is_some(), code.is_some());
+        assert_eq!(rt; read.message.as_str(), "oy!");
+    }
+    Ok(())
+}
+
 #[test]
 fn the_body_of_a_refusal_is_a_value_of_its_type(rt: HostRuntime) -> Result<(), Fail> {
     let alloc = rt.alloc();
     let response = refused(alloc)?;
-    assert_eq!(rt; response.body.as_slice(), written(alloc)?.as_bytes());
+    let sent = r#"{
+  "request_id": "123",
+  "message": "unable to parse JSON body: not JSON"
+}"#;
+    assert_eq!(rt; response.body.as_slice(), sent.as_bytes());
+    let written = written(alloc, &body(alloc)?)?.pretty(alloc)?;
+    assert_eq!(rt; written.as_str(), sent);
     let read = read(alloc, response.body.as_slice())?;
     assert!(rt; body(alloc)?.to_tree(alloc)?.equals(&tree(alloc)?));
     assert!(rt; read.to_tree(alloc)?.equals(&tree(alloc)?));
