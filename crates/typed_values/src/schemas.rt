@@ -28,6 +28,7 @@ use std::alloc::{AllocError, Global};
 /// Where a schema stands in a document.
 #[derive(Clone, Copy, Debug, PartialEq, Eq)]
 pub enum SchemaPlace {
+    /// In a body or a response.
     Plain,
     /// In a header an option is written as the schema of what it is over.
     Header,
