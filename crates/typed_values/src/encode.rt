@@ -37,7 +37,7 @@ pub fn encode_json(
     written(alloc, table, desc, tree)
 }
 
-/// The same of any tree in any guarded table.
+/// The same of any tree and any descriptor, where the table passes the check.
 pub(crate) fn written(
     alloc: Global,
     table: &DescTable,
