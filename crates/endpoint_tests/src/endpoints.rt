@@ -9,6 +9,7 @@ mod failures;
 mod folders;
 mod handler;
 mod refusals;
+mod types;
 mod variants;
 
 use crate::endpoints::handler::Returns;
@@ -17,11 +18,12 @@ use api_description::api_respond::{
     ApiEndpointErrorResponse, ApiEndpointResponse, ContentShape, HandlerShape, RouteHandler,
 };
 use api_description::api_versions::ApiEndpointVersions;
-use api_description::http_status::{Response, error_definition};
+use api_description::http_status::{HttpErrorResponseBody, Response};
 use api_description::tree_store::Store;
 use api_description::{
     ApiDescription, ApiEndpoint, Exchange, NewEndpointError, TagConfig, WriteError,
 };
+use api_types::ApiType;
 use http::{Method, StatusCode};
 use line_session::MemorySink;
 use schema_values::{List, Text};
@@ -29,7 +31,7 @@ use semver::Version;
 use std::alloc::{AllocError, Global};
 use std::num::NonZeroU32;
 use std::test::Fail;
-use typed_values::{Definition, Desc, DescTable};
+use typed_values::{Desc, DescTable};
 
 fn text(alloc: Global, text: &str) -> Result<Text, AllocError> {
     Text::from_str(alloc, text)
@@ -41,13 +43,8 @@ fn named(alloc: Global, name: &str) -> Result<Desc, AllocError> {
 
 // Adds the definition of errors.
 fn define_error(alloc: Global, table: &mut DescTable) -> Result<(), AllocError> {
-    let Definition {
-        name,
-        description,
-        desc,
-    } = error_definition(alloc)?;
-    match table.add_described(name.as_str(), description, desc) {
-        Ok(_) => Ok(()),
+    match HttpErrorResponseBody::add_definitions(alloc, table) {
+        Ok(()) => Ok(()),
         Err(_) => Err(AllocError),
     }
 }
