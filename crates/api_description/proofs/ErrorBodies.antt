@@ -26,7 +26,7 @@ use Rattle.api_types.proofs.Composites.{none_each, some_each}
 use Rattle.api_types.proofs.Forms.{both, option_form}
 use Rattle.api_types.proofs.Inner.{part_each, part_one}
 use Rattle.api_types.proofs.Leaves.{words_reach, words_each, words_one}
-use Rattle.api_types.proofs.Narrower.{inner_passes}
+use Rattle.typed_values.proofs.Narrower.{inner_passes}
 use Rattle.api_types.proofs.Reaching.{rests}
 use Rattle.api_types.proofs.References.{ref_reaches, ref_each, ref_one}
 use Rattle.api_types.proofs.Structs.{struct_one}
