@@ -17,10 +17,9 @@ use Rattle.typed_values.specs.declared.desc.Desc.{Desc}
 use Rattle.typed_values.specs.declared.desc.Field.{Field}
 use Rattle.typed_values.specs.declared.desc.Presence.{Presence}
 use Rattle.typed_values.specs.declared.desc.Presence.TheVariants.{Required, Nullable, Skipped, Default}
-use Rattle.typed_values.specs.declared.fault.Place.TheVariants.{Name}
 use Rattle.typed_values.specs.declared.table.Definition.{Definition}
 use Rattle.typed_values.specs.Definitions.{field_name}
-use Rattle.typed_values.specs.Denotes.{Told, value_named, is_declared, told, below, by_presence, if_absent, if_present}
+use Rattle.typed_values.specs.Denotes.{Told, value_named, is_declared, told, by_presence, if_absent, if_present}
 use Rattle.typed_values.specs.Order.{sorted_by}
 use Rattle.typed_values.specs.Rows.{value_denotes, told_field, told_fields, told_struct}
 use Rattle.typed_values.specs.SchemaTable.{same_name}
@@ -78,11 +77,11 @@ absent_row Nullable name = refl
 absent_row Skipped name = refl
 absent_row (Default tree) name = refl
 
-present_row : (p : Presence) (name : List ℕ) (admitted : Bool) (o : Told) → admitted ≡ is_ok o → (admitted && if_required p true) ≡ is_ok (if_present p (below (Name name) o))
-present_row Required name admitted o same = and-true admitted ∙ same ∙ sym (ok_below (Name name) o)
-present_row Nullable name admitted o same = and-true admitted ∙ same ∙ sym (ok_below (Name name) o)
-present_row Skipped name admitted o same = and-true admitted ∙ same ∙ sym (ok_below (Name name) o) ∙ sym (ok_just (below (Name name) o))
-present_row (Default tree) name admitted o same = and-true admitted ∙ same ∙ sym (ok_below (Name name) o)
+present_row : (p : Presence) (admitted : Bool) (o : Told) → admitted ≡ is_ok o → (admitted && if_required p true) ≡ is_ok (if_present p o)
+present_row Required admitted o same = and-true admitted ∙ same
+present_row Nullable admitted o same = and-true admitted ∙ same
+present_row Skipped admitted o same = and-true admitted ∙ same ∙ sym (ok_just o)
+present_row (Default tree) admitted o same = and-true admitted ∙ same
 
 module _ (table : List Definition) (whole : Desc) (smaller : Json → Json → Bool) where
   required_row : (p : Presence) (q : List ℕ → Bool) (f : Field) (fs : List Field) → f.presence ≡ p
@@ -107,7 +106,7 @@ module _ (table : List Definition) (whole : Desc) (smaller : Json → Json → B
   field_row : (f : Field) (fs : List Field) (o : Option Json) → MatchOption o ⊤ (AgreesOn (f ∷ fs))
       → (is_none_or o (λ v. smaller v (field_property table f).value) && if_required f.presence (is_some o)) ≡ is_ok (by_presence f (value_denotes table whole f.desc o))
   field_row f fs None h = absent_row f.presence f.name
-  field_row f fs (Some v) h = present_row f.presence f.name (smaller v (field_property table f).value) (told table whole v f.desc) (h f (contains_first f fs))
+  field_row f fs (Some v) h = present_row f.presence (smaller v (field_property table f).value) _ (h f (contains_first f fs) ∙ sym (ok_below _ (told table whole v f.desc)))
 
   both_rows : (v p r names : Bool) → ((v && p) && (r && names)) ≡ ((v && r) && (p && names))
   both_rows true true r names = refl
