@@ -57,7 +57,10 @@ fn a_type_of_ones_own_is_taken_and_given(rt: HostRuntime) -> Result<(), Fail> {
         ),
         (
             r#"{"label":"","n":1}"#,
-            "refused 400 {\n  \"request_id\": \"123\",\n  \"message\": \"unable to parse JSON body: label: length out of range\"\n}",
+            concat!(
+                "refused 400 {\n  \"request_id\": \"123\",\n",
+                "  \"message\": \"unable to parse JSON body: label: length out of range\"\n}"
+            ),
         ),
     ] {
         let exchange = answer(alloc, &api, body.as_bytes())?;
