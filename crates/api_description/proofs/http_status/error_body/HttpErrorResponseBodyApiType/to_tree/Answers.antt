@@ -1,4 +1,3 @@
-use Rattle.std.proofs.Common.{[], ◌∷◌}
 use Rattle.api_description.proofs.ErrorBodies.{error_each}
 use Rattle.api_description.proofs.http_status.error_body.HttpErrorResponseBodyApiType.to_tree.Goals as goal
 
