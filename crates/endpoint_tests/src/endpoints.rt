@@ -222,6 +222,16 @@ fn document(alloc: Global, api: &ApiDescription) -> Result<Text, AllocError>
         .text(alloc)
 }
 
+// The document without white space, under a title.
+fn compact_document(alloc: Global, api: &ApiDescription, title: &str) -> Result<Text, AllocError>
+    requires { AreAccepted
+        (boxed ⟦<dyn RouteHandler as RouteHandler>⟧) [] api.now.endpoints.items }
+{
+    api.openapi(alloc, title, Version::new(1, 0, 0))?
+        .json(alloc)?
+        .compact(alloc)
+}
+
 fn write(alloc: Global, api: &ApiDescription, sink: &mut MemorySink) -> Result<(), WriteError>
     requires { AreAccepted
         (boxed ⟦<dyn RouteHandler as RouteHandler>⟧) [] api.now.endpoints.items }
