@@ -50,11 +50,12 @@ use Rattle.api_description.proofs.Listed.{HaveListedMethods, operation_listed, i
 use Rattle.api_description.proofs.References.{mentioned}
 
 -- a body of one descriptor, under its media type
-abbrev body_with : ApiEndpointBodyContentType → Desc → List ℕ → RequestBody
-body_with kind desc name = record { content = media (mime_of kind) (schema_json_titled name desc) ∷ []; required = true }
+abbrev body_with : ApiEndpointBodyContentType → List Definition → Desc → List ℕ → RequestBody
+body_with kind table desc name = record { content = media (mime_of kind) (schema_json_titled table name desc) ∷ []; required = true }
 
-under_json : (kind : ApiEndpointBodyContentType) (desc : Desc) (name : List ℕ) → value_at (codes "application/json") (body_with kind desc name).content ≡ Some (record { schema = schema_json_titled name desc })
-under_json JsonBody desc name = refl
+under_json : (kind : ApiEndpointBodyContentType) (table : List Definition) (desc : Desc) (name : List ℕ)
+    → value_at (codes "application/json") (body_with kind table desc name).content ≡ Some (record { schema = schema_json_titled table name desc })
+under_json JsonBody table desc name = refl
 
 -- one slot is given one argument
 one_given : (table : List Definition) (body : List ℕ) (desc : Desc) (name : List ℕ) (slots : List Slot) → slots ≡ TypedBody desc name ∷ []
@@ -82,7 +83,7 @@ module _ {X : Type 0} {F : X → Type 0} (m : Meanings X F) (e : ApiEndpoint X F
   doc = document_of m (e ∷ []) title version
 
   abbrev schema : Json
-  schema = schema_json_titled name desc
+  schema = schema_json_titled table name desc
 
   roots_cover : (other : List ℕ) → Mentions desc other → is_among other (roots_of (shape_at m e)) ≡ true
   roots_cover other mentions =
@@ -101,14 +102,14 @@ module _ {X : Type 0} {F : X → Type 0} (m : Meanings X F) (e : ApiEndpoint X F
   written : IsWritten doc table desc
   written = record { table_passes = may.passes.table; desc_passes = passes; defined = defines }
 
-  has_body : (operation_of m e).request_body ≡ Some (body_with e.body_content_type desc name)
-  has_body = ap (body_of e.body_content_type) slots
+  has_body : (operation_of m e).request_body ≡ Some (body_with e.body_content_type table desc name)
+  has_body = ap (body_of e.body_content_type table) slots
 
   module _ (path method : List ℕ) (listed : operation_in open_api path method ≡ Some (operation_of m e)) where
     -- the document admits a body exactly where it denotes a tree
     body_agrees : (body : List ℕ) → Admits doc path method (record { body = body }) ↔ ((tree : Tree) × BodyDenotes table desc body tree)
     body_agrees body =
-        let admitted = bodies-admitted open_api path method (operation_of m e) (body_with e.body_content_type desc name) (record { schema = schema }) (record { body = body }) listed has_body (under_json e.body_content_type desc name) in
+        let admitted = bodies-admitted open_api path method (operation_of m e) (body_with e.body_content_type table desc name) (record { schema = schema }) (record { body = body }) listed has_body (under_json e.body_content_type table desc name) in
         let denoted = λ (json : Json) (reads : Reads body json). titled_agrees doc table desc written name json (reading_sound body json reads) in (
           λ a. let read = admitted.0 a in let tree = (denoted read.0 read.1).0 read.2 in (tree.0, (read.0, read.1, tree.1)),
           λ d. let (json, reads, denotes) = d.1 in admitted.1 (json, reads, (denoted json reads).1 (d.0, denotes)),

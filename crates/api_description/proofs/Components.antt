@@ -118,42 +118,43 @@ module _ {X : Type 0} (name : List ℕ) where
 
 -- ---- the definitions that are reached
 
-schema_of : Definition → Json
-schema_of e = schema_json_described e.description e.desc
+schema_of : List Definition → Definition → Json
+schema_of table e = schema_json_described table e.description e.desc
 
-module _ (name : List ℕ) (q : List ℕ → Bool) where
-  found_filtered : (es : List Definition) → found name (map schema_entry (filter (λ e. q e.name) es)) ≡ cond (q name) (option_map schema_of (entry_of es name)) None
+module _ (table : List Definition) (name : List ℕ) (q : List ℕ → Bool) where
+  found_filtered : (es : List Definition) → found name (map (schema_entry table) (filter (λ e. q e.name) es)) ≡ cond (q name) (option_map (schema_of table) (entry_of es name)) None
   unfolding schema_of
   found_filtered [] = either_way (q name) None
   found_filtered (e ∷ es) = by_tests (q e.name) (bytes_eq e.name name) refl refl (found_filtered es)
     where
       by_tests : (b c : Bool) → q e.name ≡ b → bytes_eq e.name name ≡ c
-          → found name (map schema_entry (filter (λ e. q e.name) es)) ≡ cond (q name) (option_map schema_of (entry_of es name)) None
-          → found name (map schema_entry (cond b (e ∷ filter (λ e. q e.name) es) (filter (λ e. q e.name) es))) ≡ cond (q name) (option_map schema_of (cond c (Some e) (entry_of es name))) None
+          → found name (map (schema_entry table) (filter (λ e. q e.name) es)) ≡ cond (q name) (option_map (schema_of table) (entry_of es name)) None
+          → found name (map (schema_entry table) (cond b (e ∷ filter (λ e. q e.name) es) (filter (λ e. q e.name) es))) ≡ cond (q name) (option_map (schema_of table) (cond c (Some e) (entry_of es name))) None
       by_tests true true f g h =
           let here : q name ≡ true = ap q (sym ((bytes_eq-Decides e.name name).0 g)) ∙ f in
-          ap (λ (b : Bool). cond b (Some (schema_of e)) (found name (map schema_entry (filter (λ e. q e.name) es)))) (is_eq-slice_cmp name e.name ∙ swapped_test name e.name ∙ g)
-          ∙ sym (ap (λ (b : Bool). cond b (Some (schema_of e)) None) here)
+          ap (λ (b : Bool). cond b (Some (schema_of table e)) (found name (map (schema_entry table) (filter (λ e. q e.name) es)))) (is_eq-slice_cmp name e.name ∙ swapped_test name e.name ∙ g)
+          ∙ sym (ap (λ (b : Bool). cond b (Some (schema_of table e)) None) here)
       by_tests true false f g h =
-          ap (λ (b : Bool). cond b (Some (schema_of e)) (found name (map schema_entry (filter (λ e. q e.name) es)))) (is_eq-slice_cmp name e.name ∙ swapped_test name e.name ∙ g)
+          ap (λ (b : Bool). cond b (Some (schema_of table e)) (found name (map (schema_entry table) (filter (λ e. q e.name) es)))) (is_eq-slice_cmp name e.name ∙ swapped_test name e.name ∙ g)
           ∙ h
       by_tests false true f g h =
           let here : q name ≡ false = ap q (sym ((bytes_eq-Decides e.name name).0 g)) ∙ f in
-          h ∙ ap (λ (b : Bool). cond b (option_map schema_of (entry_of es name)) None) here ∙ sym (ap (λ (b : Bool). cond b (Some (schema_of e)) None) here)
+          h ∙ ap (λ (b : Bool). cond b (option_map (schema_of table) (entry_of es name)) None) here ∙ sym (ap (λ (b : Bool). cond b (Some (schema_of table e)) None) here)
       by_tests false false f g h = h
 
 module _ {X : Type 0} {F : X → Type 0} (m : Meanings X F) (version : Parts) where
   -- the schemas of the definitions that the only endpoint reaches stand under their names
   pub schema_found : (e : ApiEndpoint X F) (name : List ℕ) (d : Definition) → holds e.versions version ≡ true
       → is_among name (reached_within (shape_at m e).table (roots_of (shape_at m e)) (length (shape_at m e).table)) ≡ true
-      → entry_of (shape_at m e).table name ≡ Some d → value_at name (components_of m version (e ∷ [])).schemas ≡ Some (schema_json_described d.description d.desc)
+      → entry_of (shape_at m e).table name ≡ Some d → value_at name (components_of m version (e ∷ [])).schemas ≡ Some (schema_json_described (shape_at m e).table d.description d.desc)
   unfolding schema_of
   schema_found e name d held reached is =
-      let schemas = map schema_entry (reached_definitions (shape_at m e)) in
+      let table = (shape_at m e).table in
+      let schemas = map (schema_entry table) (reached_definitions (shape_at m e)) in
       ap (λ (b : Bool). value_at name (by_name (schema_entries m (cond b (e ∷ []) [])))) held
       ∙ value_found name (by_name (schemas ++ []))
       ∙ found_all name (schemas ++ []) []
       ∙ ap (found name) (append-nil schemas)
-      ∙ found_filtered name (λ other. is_among other (reached_within (shape_at m e).table (roots_of (shape_at m e)) (length (shape_at m e).table))) (shape_at m e).table
-      ∙ ap (λ (b : Bool). cond b (option_map schema_of (entry_of (shape_at m e).table name)) None) reached
-      ∙ ap (option_map schema_of) is
+      ∙ found_filtered table name (λ other. is_among other (reached_within table (roots_of (shape_at m e)) (length table))) table
+      ∙ ap (λ (b : Bool). cond b (option_map (schema_of table) (entry_of table name)) None) reached
+      ∙ ap (option_map (schema_of table)) is

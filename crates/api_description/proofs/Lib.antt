@@ -17,3 +17,5 @@ mod Components
 pub mod Agreed
 pub mod Followed
 pub mod CloneLemmas
+mod Options
+pub mod ErrorBodies

@@ -62,17 +62,17 @@ abbrev pub media : List ℕ → Json → List ℕ × MediaType
 media type schema = (type, record { schema = schema })
 
 -- the body stands under the endpoint's media type
-abbrev pub body_of : ApiEndpointBodyContentType → List Slot → Option RequestBody
-body_of kind [] = None
-body_of kind (TypedBody desc name ∷ slots) = Some (record { content = media (mime_of kind) (schema_json_titled name desc) ∷ []; required = true })
+abbrev pub body_of : ApiEndpointBodyContentType → List Definition → List Slot → Option RequestBody
+body_of kind table [] = None
+body_of kind table (TypedBody desc name ∷ slots) = Some (record { content = media (mime_of kind) (schema_json_titled table name desc) ∷ []; required = true })
 
 -- the content of a success, as JSON
-abbrev pub content_of : ContentShape → List (List ℕ × MediaType)
-content_of (JsonShape desc name) = media (codes "application/json") (schema_json_titled name desc) ∷ []
+abbrev pub content_of : List Definition → ContentShape → List (List ℕ × MediaType)
+content_of table (JsonShape desc name) = media (codes "application/json") (schema_json_titled table name desc) ∷ []
 
 -- the response of a success, in full
-abbrev pub response_of_success : ApiEndpointResponse → ResponseObject
-response_of_success response = record { description = Some response.description; content = content_of response.content; reference = None }
+abbrev pub response_of_success : List Definition → ApiEndpointResponse → ResponseObject
+response_of_success table response = record { description = Some response.description; content = content_of table response.content; reference = None }
 
 -- the response of an error, by reference to its component
 abbrev pub reference_to : ApiEndpointErrorResponse → ResponseObject
@@ -84,16 +84,16 @@ error_references None = []
 error_references (Some error) = (codes "4XX", reference_to error) ∷ (codes "5XX", reference_to error) ∷ []
 
 -- the success under its code, and errors by reference; without a code the response stands as `default`
-abbrev pub responses_by : Option ℕ → ApiEndpointResponse → Option ApiEndpointErrorResponse → List (List ℕ × ResponseObject)
-responses_by None response error = (codes "default", response_of_success response) ∷ []
-responses_by (Some code) response error = (decimal code, response_of_success response) ∷ error_references error
+abbrev pub responses_by : Option ℕ → List Definition → ApiEndpointResponse → Option ApiEndpointErrorResponse → List (List ℕ × ResponseObject)
+responses_by None table response error = (codes "default", response_of_success table response) ∷ []
+responses_by (Some code) table response error = (decimal code, response_of_success table response) ∷ error_references error
 
 -- the operation that an endpoint is listed as
 abbrev pub operation_of : {X : Type 0} {F : X → Type 0} → Meanings X F → ApiEndpoint X F → Operation
 operation_of m e = record {
   operation_id = e.operation_id;
-  request_body = body_of e.body_content_type (shape_at m e).slots;
-  responses = responses_by (shape_at m e).response.success (shape_at m e).response (shape_at m e).error;
+  request_body = body_of e.body_content_type (shape_at m e).table (shape_at m e).slots;
+  responses = responses_by (shape_at m e).response.success (shape_at m e).table (shape_at m e).response (shape_at m e).error;
 }
 
 -- the operation at a template and a method, of the endpoint that serves them at the version
@@ -202,29 +202,29 @@ abbrev pub reached_definitions : HandlerShape → List Definition
 reached_definitions shape = filter (λ e. is_among e.name (reached_within shape.table (roots_of shape) (length shape.table))) shape.table
 
 -- a definition's name, and its schema with the description
-abbrev pub schema_entry : Definition → List ℕ × Json
-schema_entry e = (e.name, schema_json_described e.description e.desc)
+abbrev pub schema_entry : List Definition → Definition → List ℕ × Json
+schema_entry table e = (e.name, schema_json_described table e.description e.desc)
 
 -- the definitions that the endpoints reach, each with its schema
 abbrev pub schema_entries : {X : Type 0} {F : X → Type 0} → Meanings X F → List (ApiEndpoint X F) → List (List ℕ × Json)
-schema_entries m = flat_map (λ e. map schema_entry (reached_definitions (shape_at m e)))
+schema_entries m = flat_map (λ e. map (schema_entry (shape_at m e).table) (reached_definitions (shape_at m e)))
 
 -- the response of an error, in full
-abbrev pub error_object : ApiEndpointErrorResponse → ResponseObject
-error_object error = record {
+abbrev pub error_object : List Definition → ApiEndpointErrorResponse → ResponseObject
+error_object table error = record {
   description = Some error.name;
-  content = media (codes "application/json") (schema_json_titled error.name error.desc) ∷ [];
+  content = media (codes "application/json") (schema_json_titled table error.name error.desc) ∷ [];
   reference = None;
 }
 
 -- the response of an error under its name, where the shape names one
-abbrev pub entries_of_error : Option ApiEndpointErrorResponse → List (List ℕ × ResponseObject)
-entries_of_error None = []
-entries_of_error (Some error) = (error.name, error_object error) ∷ []
+abbrev pub entries_of_error : List Definition → Option ApiEndpointErrorResponse → List (List ℕ × ResponseObject)
+entries_of_error table None = []
+entries_of_error table (Some error) = (error.name, error_object table error) ∷ []
 
 -- the responses of the endpoints' errors, under their names
 abbrev pub error_entries : {X : Type 0} {F : X → Type 0} → Meanings X F → List (ApiEndpoint X F) → List (List ℕ × ResponseObject)
-error_entries m = flat_map (λ e. entries_of_error (shape_at m e).error)
+error_entries m = flat_map (λ e. entries_of_error (shape_at m e).table (shape_at m e).error)
 
 -- one more entry at its place in the order of names, unless its name is there
 abbrev pub with_entry : {X : Type 0} → List (List ℕ × X) → List ℕ × X → List (List ℕ × X)

@@ -1,7 +1,8 @@
 -- Endpoints, each with the meaning of the handler in its box.
-use Rattle.std.specs.Prelude.{ℕ, Bool, ◌&&◌, List, [], ◌∷◌, filter, Option, Some, None, if◌then◌else◌, bytes_eq}
+use Rattle.std.specs.Prelude.{ℕ, Bool, ◌&&◌, List, [], ◌∷◌, filter, All, Option, Some, None, if◌then◌else◌, bytes_eq}
 use Rattle.std.specs.Str.{encode_utf8_all}
 use Rattle.semver.specs.Parse.{Parts}
+use Rattle.typed_values.specs.Checks.{TablePasses}
 use Rattle.api_description.specs.declared.api_respond.handler.RouteHandler.{Ghosts}
 use Rattle.api_description.specs.declared.api_respond.shape.HandlerShape.{HandlerShape}
 use Rattle.api_description.specs.declared.endpoint.ApiEndpoint.{ApiEndpoint}
@@ -19,6 +20,10 @@ boxed m e = m e.handler.vtable
 -- the shape of an endpoint's handler
 abbrev pub shape_at : {X : Type 0} {F : X → Type 0} → Meanings X F → ApiEndpoint X F → HandlerShape
 shape_at m e = (m e).shape_of e.handler.value
+
+-- the table of each endpoint's shape passes its checks
+abbrev pub HavePassingTables : {X : Type 0} {F : X → Type 0} → Meanings X F → List (ApiEndpoint X F) → Type 0
+HavePassingTables m endpoints = All (λ e. TablePasses (shape_at m e).table) endpoints
 
 -- the bytes of the path, without a trailing slash
 abbrev pub served_path : {X : Type 0} {F : X → Type 0} → ApiEndpoint X F → List ℕ

@@ -1,6 +1,7 @@
 //! When an endpoint may be registered.
 ghost use Rattle.std.specs.Prelude.{◌≡◌, ◌↔◌, ◌⊎◌, [], ◌∷◌, codes, IsTrue, IfOk, Some, None, MatchOption};
 ghost use Rattle.std.specs.Str.{chars};
+ghost use Rattle.typed_values.specs.Checks.{TablePasses};
 ghost use Rattle.typed_values.specs.Definitions.{entry_of};
 ghost use Rattle.typed_values.specs.declared.desc.Desc.{Ref};
 ghost use Rattle.api_description.specs.Endpoints.{boxed};
@@ -130,6 +131,7 @@ fn passes(shape: &HandlerShape) -> bool
 }
 
 fn slots_pass(table: &DescTable, slots: &[Slot]) -> bool
+    requires { TablePasses table.now }
     ensures { IsTrue result ↔ SlotsPass table.now slots.now }
 {
     for slot in slots {
@@ -141,6 +143,7 @@ fn slots_pass(table: &DescTable, slots: &[Slot]) -> bool
 }
 
 fn slot_passes(table: &DescTable, slot: &Slot) -> bool
+    requires { TablePasses table.now }
     ensures { IsTrue result ↔ SlotPasses table.now slot.now }
 {
     match slot {
@@ -149,6 +152,7 @@ fn slot_passes(table: &DescTable, slot: &Slot) -> bool
 }
 
 fn content_passes(table: &DescTable, content: &ContentShape) -> bool
+    requires { TablePasses table.now }
     ensures { IsTrue result ↔ ContentPasses table.now content.now }
 {
     match content {
@@ -157,6 +161,7 @@ fn content_passes(table: &DescTable, content: &ContentShape) -> bool
 }
 
 fn error_passes(table: &DescTable, error: &Option<ApiEndpointErrorResponse>) -> bool
+    requires { TablePasses table.now }
     ensures { IsTrue result ↔ ErrorPasses table.now error.now }
 {
     match error {

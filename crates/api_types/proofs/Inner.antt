@@ -6,8 +6,8 @@ use Rattle.typed_values.specs.declared.table.Definition.{Definition}
 use Rattle.typed_values.specs.declared.tree.Tree.{Tree}
 use Rattle.typed_values.specs.Fits.{fits_under}
 use Rattle.typed_values.specs.Parts.{IsPart}
+use Rattle.typed_values.proofs.Narrower.{inner_passes, same_fits}
 use Rattle.api_types.specs.Types.{IsTableOf, FitsEach, FitsOne}
-use Rattle.api_types.proofs.Narrower.{inner_passes, same_fits}
 
 module _ (ds es : List Definition) (whole inner : Desc) (fewer : (e : Definition) → Contains es e → Contains ds e) (inside : (table : List Definition) → IsTableOf ds whole table → IsPart table whole inner) where
   -- a table of the whole is one of the other
@@ -19,7 +19,7 @@ module _ (ds es : List Definition) (whole inner : Desc) (fewer : (e : Definition
   }
 
   pub part_each : (t : Tree) → FitsEach es inner t → (table : List Definition) → IsTableOf ds whole table → fits_under table whole t inner ≡ true
-  part_each t each table is = same_fits table whole inner (inside table is) is.table_passes is.desc_passes t ∙ each table (inner_table table is)
+  part_each t each table is = same_fits table whole inner (inside table is) is.table_passes.guarded t ∙ each table (inner_table table is)
 
   pub part_one : (t : Tree) (table : List Definition) → IsTableOf ds whole table → fits_under table whole t inner ≡ true → FitsOne es inner t
-  part_one t table is fit = (table, inner_table table is, sym (same_fits table whole inner (inside table is) is.table_passes is.desc_passes t) ∙ fit)
+  part_one t table is fit = (table, inner_table table is, sym (same_fits table whole inner (inside table is) is.table_passes.guarded t) ∙ fit)

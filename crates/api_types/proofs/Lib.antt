@@ -1,4 +1,3 @@
-pub mod Narrower
 pub mod Inner
 pub mod Reaching
 pub mod Forms

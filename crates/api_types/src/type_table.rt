@@ -18,20 +18,31 @@ pub enum TypeError {
     Table(Flaw),
     /// The first flaw of the type's descriptor beside that table.
     Descriptor(Flaw),
+    /// There was not enough memory.
     OutOfMemory,
 }
 
 /// What is wrong with a table or a descriptor, as `TableError` tells, without a borrow.
 #[derive(Drop)]
 pub enum Flaw {
+    /// Two fields, names or variants of one descriptor have one name.
     DoubledName,
+    /// A definition's name is empty, or has another character than a component's name may have.
     BadName,
+    /// A reference names no definition.
     Dangling,
+    /// The first definition that leads back to itself at one value.
     Unguarded(Text),
+    /// An enumeration or a choice has no members, or an external enumeration no payload.
     EmptyEnumeration,
+    /// An option is over a descriptor that takes null.
     NullOfNull,
+    /// A field is named as the tag.
     TagClash,
+    /// A least bound is above the greatest, a bound is outside its kind, or there are too many places.
     BadRange,
+    /// A field may be null without an option, is left out though it takes null, or has a default that is no
+    /// value of it.
     BadPresence,
 }
 

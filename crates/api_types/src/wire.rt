@@ -31,9 +31,9 @@ pub fn value_json<T: ApiType>(
     ensures again { ReachesNoUntagged table.now T.desc_of
         → IfOk result (λ json. JsonDenotes table.now T.desc_of json (T.tree_of value.now)) }
     ensures plain { (doc : JsonValue) → IsWritten doc table.now T.desc_of
-        → IfOk result (JsonAdmits doc (schema_json T.desc_of)) }
+        → IfOk result (JsonAdmits doc (schema_json table.now T.desc_of)) }
     ensures titled { (doc : JsonValue) → IsWritten doc table.now T.desc_of
-        → IfOk result (JsonAdmits doc (schema_json_titled T.name_of T.desc_of)) }
+        → IfOk result (JsonAdmits doc (schema_json_titled table.now T.name_of T.desc_of)) }
 {
     let desc = T::descriptor(alloc)?;
     let tree = value.to_tree(alloc)?;
@@ -55,7 +55,8 @@ pub fn json_value<T: ApiType>(
     ensures refused { IfErr result (λ error. IfFault error
         (λ fault. (tree : Value) → JsonDenotes table.now T.desc_of json.now tree → ⊥)) }
     ensures admitted { (doc : JsonValue) → IsWritten doc table.now T.desc_of
-        → JsonAdmits doc (schema_json T.desc_of) json.now → IfErr result (λ error. IfFault error (λ _. ⊥)) }
+        → JsonAdmits doc (schema_json table.now T.desc_of) json.now
+        → IfErr result (λ error. IfFault error (λ _. ⊥)) }
 {
     let desc = T::descriptor(alloc)?;
     let tree = decode_json(alloc, table, &desc, json)?;

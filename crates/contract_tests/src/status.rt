@@ -2,29 +2,26 @@ use crate::session::{plain, run_session};
 use api_description::api_respond::RouteHandler;
 use contract_tool::sample::{self, PointCreate};
 use contract_tool::{ToolConfig, ToolStatus};
-use std::alloc::Global;
 use std::test::Fail;
 
-fn is_told_in_one_line(alloc: Global, status: &ToolStatus) -> Result<bool, Fail> {
-    let told = format!(in alloc; "{status}")?;
-    Ok(!told.is_empty() && !told.as_bytes().contains(&b'\n'))
-}
-
 #[test]
-fn each_status_but_done_is_told_in_one_line(rt: HostRuntime) -> Result<(), Fail> {
+fn each_status_is_told_by_its_text(rt: HostRuntime) -> Result<(), Fail> {
     let alloc = rt.alloc();
-    let statuses = [
-        ToolStatus::Usage,
-        ToolStatus::ReadFault,
-        ToolStatus::WriteFault,
-        ToolStatus::LineTooLong(11),
-        ToolStatus::OutOfMemory,
-        ToolStatus::TooMuchInput(11),
-    ];
-    for status in &statuses {
-        assert!(rt; is_told_in_one_line(alloc, status)?, "at {}", status.code());
+    let usage = "usage: contract-tool session VERSION < REQUEST-LINES";
+    for (status, text) in [
+        (ToolStatus::Done, ""),
+        (ToolStatus::Usage, usage),
+        (ToolStatus::ReadFault, "the input could not be read"),
+        (ToolStatus::WriteFault, "the output could not be written"),
+        (ToolStatus::LineTooLong(11), "a line is too long"),
+        (ToolStatus::OutOfMemory, "out of memory"),
+        (ToolStatus::TooMuchInput(11), "there is too much input"),
+    ] {
+        let copy = status.copy(alloc)?;
+        let told = format!(in alloc; "{copy}")?;
+        assert_eq!(rt; told.as_str(), text);
+        assert_eq!(rt; copy.code(), status.code(), "at {text}");
     }
-    assert!(rt; !is_told_in_one_line(alloc, &ToolStatus::Done)?);
     Ok(())
 }
 

@@ -1,5 +1,8 @@
 //! What bodies denote under one record, and what the tables of definitions are told.
 
+mod copies;
+mod deep;
+mod defaults;
 mod definitions;
 mod form_rows;
 mod form_schemas;
@@ -21,7 +24,7 @@ use typed_values::{
     decode_json, encode_json,
 };
 
-/// The tree that a body denotes, or the text of the fault.
+/// The tree that a body denotes, as its copy is shown, or the text of the fault.
 fn told(alloc: Global, table: &DescTable, desc: &Desc, body: &str) -> Result<Text, AllocError> {
     match Json::read(alloc, body.as_bytes()) {
         Ok(json) => told_of(alloc, table, desc, &json),
@@ -35,7 +38,7 @@ fn told_of(alloc: Global, table: &DescTable, desc: &Desc, json: &Json) -> Result
         return Text::from_str(alloc, "unchecked");
     }
     match decode_json(alloc, table, desc, json) {
-        Ok(tree) => shown(alloc, &tree),
+        Ok(tree) => shown(alloc, &tree.copy(alloc)?),
         Err(DecodeError::Fault(fault)) => fault.text(alloc),
         Err(DecodeError::OutOfMemory) => Err(AllocError),
     }
@@ -115,6 +118,11 @@ fn values_of_each_form_are_written_again(rt: HostRuntime) -> Result<(), Fail> {
             "Event",
             r#"{"x":1,"kind":"move"}"#,
             r#"{"kind":"move","x":1}"#,
+        ),
+        (
+            "Settings",
+            r#"{"limit":2}"#,
+            r#"{"level":3,"tags":[],"shape":"dot","limit":2}"#,
         ),
     ];
     let alloc = rt.alloc();

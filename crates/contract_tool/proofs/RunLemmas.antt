@@ -1,5 +1,5 @@
 -- How a run ends, by how its session ends.
-use Rattle.std.proofs.Common.{◌≡◌, ◌≢◌, ◌+◌, ℕ, List, [], ◌∷◌, ◌++◌, Option, take, ◌⊎◌, Result, Err, sym, ap, ◌∙◌, inl, inr, subst, true, false, refl}
+use Rattle.std.proofs.Common.{◌≡◌, ◌≢◌, ◌+◌, ℕ, List, [], Option, take, ◌⊎◌, Result, Err, sym, ap, ◌∙◌, inl, inr, subst, refl}
 use Rattle.line_session.specs.Lines.{HasLongLine, IsTooMuch, PassesNoLimit}
 use Rattle.line_session.specs.Session.{IsAnswered}
 use Rattle.line_session.specs.Status.{IsServed}

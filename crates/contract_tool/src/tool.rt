@@ -105,6 +105,7 @@ fn front(
     config: &ToolConfig,
     version: &Version,
 ) -> Result<List<u8>, AllocError>
+    requires { AreAccepted (boxed ⟦<dyn RouteHandler as RouteHandler>⟧) [] api.now.endpoints.items }
     ensures { IfOk result (λ front. front ≡ front_of (boxed ⟦<dyn RouteHandler as RouteHandler>⟧)
         config.now (parts_of version.now) api.now.endpoints.items) }
 {

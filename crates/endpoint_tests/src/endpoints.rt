@@ -4,10 +4,12 @@ ghost use Rattle.api_description.specs.Endpoints.{boxed};
 ghost use Rattle.api_description.specs.Registering.{AreAccepted};
 
 mod copies;
+mod error_bodies;
 mod failures;
 mod folders;
 mod handler;
 mod refusals;
+mod types;
 mod variants;
 
 use crate::endpoints::handler::Returns;
@@ -16,11 +18,12 @@ use api_description::api_respond::{
     ApiEndpointErrorResponse, ApiEndpointResponse, ContentShape, HandlerShape, RouteHandler,
 };
 use api_description::api_versions::ApiEndpointVersions;
-use api_description::http_status::{Response, error_definition};
+use api_description::http_status::{HttpErrorResponseBody, Response};
 use api_description::tree_store::Store;
 use api_description::{
     ApiDescription, ApiEndpoint, Exchange, NewEndpointError, TagConfig, WriteError,
 };
+use api_types::ApiType;
 use http::{Method, StatusCode};
 use line_session::MemorySink;
 use schema_values::{List, Text};
@@ -28,7 +31,7 @@ use semver::Version;
 use std::alloc::{AllocError, Global};
 use std::num::NonZeroU32;
 use std::test::Fail;
-use typed_values::{Definition, Desc, DescTable};
+use typed_values::{Desc, DescTable};
 
 fn text(alloc: Global, text: &str) -> Result<Text, AllocError> {
     Text::from_str(alloc, text)
@@ -40,13 +43,8 @@ fn named(alloc: Global, name: &str) -> Result<Desc, AllocError> {
 
 // Adds the definition of errors.
 fn define_error(alloc: Global, table: &mut DescTable) -> Result<(), AllocError> {
-    let Definition {
-        name,
-        description,
-        desc,
-    } = error_definition(alloc)?;
-    match table.add_described(name.as_str(), description, desc) {
-        Ok(_) => Ok(()),
+    match HttpErrorResponseBody::add_definitions(alloc, table) {
+        Ok(()) => Ok(()),
         Err(_) => Err(AllocError),
     }
 }
@@ -216,12 +214,28 @@ fn bodies_that_are_no_json_are_refused(rt: HostRuntime) -> Result<(), Fail> {
     Ok(())
 }
 
-fn document(alloc: Global, api: &ApiDescription) -> Result<Text, AllocError> {
+fn document(alloc: Global, api: &ApiDescription) -> Result<Text, AllocError>
+    requires { AreAccepted
+        (boxed ⟦<dyn RouteHandler as RouteHandler>⟧) [] api.now.endpoints.items }
+{
     api.openapi(alloc, "flags", Version::new(1, 0, 0))?
         .text(alloc)
 }
 
-fn write(alloc: Global, api: &ApiDescription, sink: &mut MemorySink) -> Result<(), WriteError> {
+// The document without white space, under a title.
+fn compact_document(alloc: Global, api: &ApiDescription, title: &str) -> Result<Text, AllocError>
+    requires { AreAccepted
+        (boxed ⟦<dyn RouteHandler as RouteHandler>⟧) [] api.now.endpoints.items }
+{
+    api.openapi(alloc, title, Version::new(1, 0, 0))?
+        .json(alloc)?
+        .compact(alloc)
+}
+
+fn write(alloc: Global, api: &ApiDescription, sink: &mut MemorySink) -> Result<(), WriteError>
+    requires { AreAccepted
+        (boxed ⟦<dyn RouteHandler as RouteHandler>⟧) [] api.now.endpoints.items }
+{
     api.openapi(alloc, "flags", Version::new(1, 0, 0))?
         .write(alloc, sink)
 }
@@ -273,11 +287,10 @@ fn endpoints_take_json(rt: HostRuntime) -> Result<(), Fail> {
 fn refused_media_types_are_printed(rt: HostRuntime) -> Result<(), Fail> {
     let alloc = rt.alloc();
     let error = NewEndpointError::UnsupportedMime(text(alloc, "text/plain")?).copy(alloc)?;
-    assert!(rt;
-        format!(in alloc; "{error}")?
-            .as_str()
-            .ends_with("text/plain")
-    );
+    let told = format!(in alloc; "{error}")?;
+    assert_eq!(rt; told.as_str(), "unsupported media type: text/plain");
+    let wanting = format!(in alloc; "{}", NewEndpointError::OutOfMemory)?;
+    assert_eq!(rt; wanting.as_str(), "out of memory");
     Ok(())
 }
 

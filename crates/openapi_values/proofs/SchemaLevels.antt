@@ -78,5 +78,5 @@ without None other h = refl
 without (Some text) other h = absurd (h text refl)
 
 pub parts-are : (schema : SchemaObject) (given : Option (List ℕ)) → ((text : List ℕ) → (out-SchemaObject schema).reference ≡ Some text → ⊥) → object_written schema given ≡
-    object_of (annotations given (out-SchemaObject schema).title (out-SchemaObject schema).description (out-SchemaObject schema).nullable ++ entries_behind (object_level schema))
+    object_of (annotations given (out-SchemaObject schema) ++ entries_behind (object_level schema))
 parts-are schema given none = object-is schema given ∙ without _ _ none

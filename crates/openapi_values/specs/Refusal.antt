@@ -167,6 +167,7 @@ abbrev pub object_level : SchemaObject → Level SchemaObject-F
 object_level schema = record {
   title = (out-SchemaObject schema).title;
   description = (out-SchemaObject schema).description;
+  default = (out-SchemaObject schema).default;
   nullable = (out-SchemaObject schema).nullable;
   instance_type = (out-SchemaObject schema).instance_type;
   format = (out-SchemaObject schema).format;
@@ -177,4 +178,5 @@ object_level schema = record {
   array = option_map array_refusal (out-SchemaObject schema).array;
   object = option_map object_parts_refusal (out-SchemaObject schema).object;
   reference = (out-SchemaObject schema).reference;
+  extensions = (out-SchemaObject schema).extensions;
 }

@@ -1,7 +1,8 @@
 -- How a schema is written (OpenAPI 3.0.3, Schema Object).
-use Rattle.std.specs.Prelude.{ℕ, pos, Bool, true, false, List, [], ◌∷◌, ◌++◌, map, Option, Some, None, option_map, option_and_then, unwrap_or, if◌then◌else◌, codes}
+use Rattle.std.specs.Prelude.{ℕ, pos, Bool, true, false, List, [], ◌∷◌, ◌++◌, map, filter, Option, Some, None, is_some, option_map, option_and_then, unwrap_or, if◌then◌else◌, codes}
 use Rattle.std.specs.Option.{option_map_or, option_or}
 use Rattle.schema_values.specs.declared.json_value.Json.{Json, Null as NullJson, Bool as Truth, Int, Text, List as ListOf}
+use Rattle.schema_values.specs.declared.json_value.Member.{Member}
 use Rattle.schema_values.specs.declared.schema.ArrayParts.{ArrayParts, ArrayParts-F, fold-ArrayParts}
 use Rattle.schema_values.specs.declared.schema.InstanceType.{InstanceType}
 use Rattle.schema_values.specs.declared.schema.InstanceType.TheVariants.{Null, Boolean, Object, Array, String, Integer}
@@ -17,6 +18,7 @@ use Rattle.schema_values.specs.declared.schema.Schema.{Schema, Schema-F, fold-Sc
 use Rattle.schema_values.specs.declared.schema.SchemaObject.{SchemaObject, SchemaObject-F, fold-SchemaObject, out-SchemaObject}
 use Rattle.schema_values.specs.declared.schema.Subschemas.{Subschemas, Subschemas-F, fold-Subschemas}
 use Rattle.openapi_values.specs.IfTrue.{if_true}
+use Rattle.openapi_values.specs.Keywords.{after}
 use Rattle.openapi_values.specs.Objects.{Entry, pair_member, object_of, reference_json, unless_empty}
 
 -- what a schema is written as: a schema under a title, where one is given; beside it the truth value that it is
@@ -101,10 +103,26 @@ type_name Array = codes "array"
 type_name String = codes "string"
 type_name Integer = codes "integer"
 
--- `nullable` where it is true, the given title or else the schema's own, and the description
-abbrev pub annotations : Option (List ℕ) → Option (List ℕ) → Option (List ℕ) → Bool → List Entry
-annotations given title description nullable =
-    (codes "nullable", if_true nullable) ∷ (codes "title", option_map Text (option_or given title)) ∷ (codes "description", option_map Text description) ∷ []
+-- a name that begins with `x-` (OpenAPI 3.0.3, Specification Extensions)
+abbrev pub is_extension : Member → Bool
+is_extension m = is_some (after (codes "x-") m.name)
+
+-- an extension as it stands
+abbrev pub extension_entry : Member → Entry
+extension_entry m = (m.name, Some m.value)
+
+-- the extensions, without members of other names
+abbrev pub extension_entries : List Member → List Entry
+extension_entries ms = map extension_entry (filter is_extension ms)
+
+-- `nullable` where it is true, the given title or else the schema's own, the description, the default, and then the extensions
+abbrev pub annotations : {A B C D E F G : Type 0} → Option (List ℕ) → SchemaObject-F A B C D E F G → List Entry
+annotations given schema =
+    (codes "nullable", if_true schema.nullable)
+    ∷ (codes "title", option_map Text (option_or given schema.title))
+    ∷ (codes "description", option_map Text schema.description)
+    ∷ (codes "default", schema.default)
+    ∷ extension_entries schema.extensions
 
 -- the values as a list, left out where they are not given, and not where the list is empty
 abbrev pub values_json : Option (List Json) → Option Json
@@ -167,7 +185,7 @@ entries_behind schema = if without_values schema.enum_values then nothing_entrie
 abbrev pub object_step : Level SchemaObject-F → Option (List ℕ) → Json
 object_step schema given =
     option_map_or reference_json schema.reference
-    (object_of (annotations given schema.title schema.description schema.nullable ++ entries_behind schema))
+    (object_of (annotations given schema ++ entries_behind schema))
 
 -- a schema, as it is written: under each title, and beside it the truth value that it is
 unfoldable pub schema_written : Schema → Written
@@ -202,6 +220,7 @@ abbrev pub object_level : SchemaObject → Level SchemaObject-F
 object_level schema = record {
   title = (out-SchemaObject schema).title;
   description = (out-SchemaObject schema).description;
+  default = (out-SchemaObject schema).default;
   nullable = (out-SchemaObject schema).nullable;
   instance_type = (out-SchemaObject schema).instance_type;
   format = (out-SchemaObject schema).format;
@@ -212,6 +231,7 @@ object_level schema = record {
   array = option_map array_written (out-SchemaObject schema).array;
   object = option_map object_parts_written (out-SchemaObject schema).object;
   reference = (out-SchemaObject schema).reference;
+  extensions = (out-SchemaObject schema).extensions;
 }
 
 -- a schema, under a title where one is given

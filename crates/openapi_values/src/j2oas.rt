@@ -22,7 +22,8 @@ pub enum J2oasError {
     OutOfMemory,
 }
 
-/// A schema as it stands in the document, with the given name as its title, if there is one.
+/// A schema as it stands in the document, with the given name as its title, if there is one. A truth value
+/// and a reference show none.
 pub fn j2oas_schema(alloc: Global, name: Option<&str>, schema: &Schema) -> Result<Json, J2oasError>
     ensures ok { IfOk result (λ json. json ≡ schema_json
         (option_map (λ name. chars name.now) name.entry) schema.now) }

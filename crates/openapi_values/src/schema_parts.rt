@@ -3,12 +3,14 @@ ghost use Rattle.std.specs.Option.{option_or};
 ghost use Rattle.schema_values.specs.declared.json_value.Json.{Text as TextOf, Int as IntOf};
 ghost use Rattle.schema_values.specs.declared.schema.SchemaObject.{out-SchemaObject};
 ghost use Rattle.openapi_values.specs.Objects.{members_of};
-ghost use Rattle.openapi_values.specs.SchemaJson.{annotations, number_entries, text_entries};
+ghost use Rattle.openapi_values.specs.SchemaJson.{annotations, extension_entries};
+ghost use Rattle.openapi_values.specs.SchemaJson.{number_entries, text_entries};
 ghost use Rattle.openapi_values.specs.SchemaJson.{nothing_entries, null_entries, boolean_entries};
 ghost use Rattle.openapi_values.specs.SchemaJson.{values_json as json_of_values, without_values};
 ghost use Rattle.openapi_values.specs.SchemaJson.{count_json as count_of, names_json};
 ghost use Rattle.openapi_values.specs.SchemaJson.{truth_json as json_of_truth, type_name};
 
+use crate::keywords::text_after;
 use crate::media::true_json;
 use crate::objects::add;
 use crate::part::option_json;
@@ -74,6 +76,32 @@ fn title_json(
     }
 }
 
+/// A value as it stands, where there is one.
+fn value_json(alloc: Global, value: &Option<Json>) -> Result<Option<Json>, AllocError>
+    ensures { IfOk result (λ json. json ≡ value.now) }
+{
+    match value {
+        Some(value) => Ok(Some(value.copy(alloc)?)),
+        None => Ok(None),
+    }
+}
+
+/// Adds the extensions, whose names begin with `x-`, and no other member.
+fn add_extensions(
+    alloc: Global,
+    members: &mut List<Member>,
+    extensions: &[Member],
+) -> Result<(), AllocError>
+    ensures { OnOk result (members.new ≡ members.old ++ members_of (extension_entries extensions.now)) }
+{
+    for extension in extensions {
+        if text_after(&extension.name, "x-").is_some() {
+            members.push(extension.copy(alloc)?)?;
+        }
+    }
+    Ok(())
+}
+
 /// Adds the annotations, which come first.
 pub fn add_annotations(
     alloc: Global,
@@ -82,14 +110,16 @@ pub fn add_annotations(
     schema: &SchemaObject,
 ) -> Result<(), AllocError>
     ensures { OnOk result (members.new ≡ members.old ++ members_of
-        (annotations given.now (out-SchemaObject schema.now).title (out-SchemaObject schema.now).description
-        (out-SchemaObject schema.now).nullable)) }
+        (annotations given.now (out-SchemaObject schema.now))) }
 {
     add(alloc, members, "nullable", true_json(schema.nullable))?;
     let title = title_json(alloc, given, &schema.title)?;
     add(alloc, members, "title", title)?;
     let description = option_json(alloc, &schema.description)?;
     add(alloc, members, "description", description)?;
+    let default = value_json(alloc, &schema.default)?;
+    add(alloc, members, "default", default)?;
+    add_extensions(alloc, members, schema.extensions.as_slice())?;
     Ok(())
 }
 

@@ -11,8 +11,11 @@ use typed_values::{AddError, Definition, Desc, DescTable, Named, Tree};
 /// One of three colors.
 #[derive(Clone, Copy, Debug, PartialEq, Eq, Drop)]
 pub enum Color {
+    /// The name `red`.
     Red,
+    /// The name `green`.
     Green,
+    /// The name `blue`.
     Blue,
 }
 

@@ -16,8 +16,11 @@ use typed_values::{AddError, Definition, Desc, DescTable, Field, Presence, Tree}
 /// A point on the map.
 #[derive(Drop)]
 pub struct Point {
+    /// What it is called.
     pub label: Label,
+    /// Its color, if it has one.
     pub color: Option<Color>,
+    /// Its place on the map.
     pub n: i32,
 }
 

@@ -5,7 +5,7 @@ use api_types::{ApiType, json_value, table_of, value_json};
 use schema_values::{Boxed, Json, List, Text};
 use std::alloc::Global;
 use std::test::Fail;
-use typed_values::{DescTable, Tree};
+use typed_values::{DecodeError, DescTable, Tree};
 
 // The value that a text of JSON denotes.
 fn read<T: ApiType>(alloc: Global, text: &str) -> Option<T> {
@@ -36,6 +36,24 @@ fn comes_back<T: ApiType>(alloc: Global, value: &T, name: &str, text: &str) -> O
     Some(written && T::type_name(alloc).ok()?.equals_str(name))
 }
 
+// The text of the fault for which a text of JSON denotes no value.
+fn fault_of<T: ApiType>(alloc: Global, text: &str) -> Option<Text> {
+    let table = table_of::<T>(alloc).ok()?;
+    let json = Json::read(alloc, text.as_bytes()).ok()?;
+    match json_value::<T>(alloc, &table, &json) {
+        Err(DecodeError::Fault(fault)) => fault.text(alloc).ok(),
+        _ => None,
+    }
+}
+
+// Whether a text of JSON is refused with this fault.
+fn is_refused<T: ApiType>(alloc: Global, text: &str, fault: &str) -> bool {
+    match fault_of::<T>(alloc, text) {
+        Some(told) => told.equals_str(fault),
+        None => false,
+    }
+}
+
 #[test]
 fn labels(rt: HostRuntime) -> Result<(), Fail> {
     let alloc = rt.alloc();
@@ -53,7 +71,7 @@ fn labels(rt: HostRuntime) -> Result<(), Fail> {
         Err(text) => assert_eq!(rt; text.as_str(), "seventeen letters"),
     }
     assert!(rt; Label::new(Text::new(alloc)).is_err());
-    assert!(rt; read::<Label>(alloc, "\"\"").is_none());
+    assert!(rt; is_refused::<Label>(alloc, "\"\"", "length out of range"));
     assert!(rt; read::<Label>(alloc, "\"a\"").is_some());
     Ok(())
 }
@@ -71,7 +89,7 @@ fn colors(rt: HostRuntime) -> Result<(), Fail> {
         assert_eq!(rt; comes_back(alloc, &color, "Color", text), Some(true));
     }
     assert!(rt; matches!(read(alloc, "\"green\""), Some(Color::Green)));
-    assert!(rt; read::<Color>(alloc, "\"black\"").is_none());
+    assert!(rt; is_refused::<Color>(alloc, "\"black\"", "unknown variant"));
     Ok(())
 }
 
@@ -103,6 +121,8 @@ fn points(rt: HostRuntime) -> Result<(), Fail> {
         }
         None => panic!(rt; "an absent color is none, and unknown names are allowed"),
     }
-    assert!(rt; read::<Point>(alloc, "{\"label\":\"b\"}").is_none());
+    assert!(rt; is_refused::<Point>(alloc, "{\"label\":\"b\"}", "missing field `n`"));
+    let gray = "{\"n\":1,\"label\":\"b\",\"color\":\"gray\"}";
+    assert!(rt; is_refused::<Point>(alloc, gray, "color: unknown variant"));
     Ok(())
 }

@@ -15,7 +15,8 @@ use thiserror::Error;
 /// Why bytes were not read as a JSON value.
 #[derive(Clone, Copy, Debug, PartialEq, Eq, Error)]
 pub enum ReadError {
-    /// The bytes are no JSON text, nest more than 127 deep, or hold a number that is no integer of 64 bits.
+    /// The bytes are no JSON text, nest more than 127 deep, or hold a number that is no integer of 64 bits. A
+    /// member that a later one of its name replaces is not held.
     #[error("not a JSON value over 64-bit integers")]
     Unreadable,
     #[error("out of memory")]

@@ -1,5 +1,5 @@
 use crate::boxed::Boxed;
-use crate::json_value::Json;
+use crate::json_value::{Json, Member};
 use crate::list::List;
 use crate::text::Text;
 use indexmap::IndexMap;
@@ -26,6 +26,8 @@ pub struct SchemaObject {
     pub title: Option<Text>,
     /// An annotation.
     pub description: Option<Text>,
+    /// The value that stands for an absent one. An annotation: it admits nothing and refuses nothing.
+    pub default: Option<Json>,
     /// Whether null is a value too, whatever the instance type.
     pub nullable: bool,
     pub instance_type: Option<InstanceTypes>,
@@ -40,6 +42,8 @@ pub struct SchemaObject {
     pub object: Option<ObjectParts>,
     /// The reference, as `#/components/schemas/NAME`.
     pub reference: Option<Text>,
+    /// Annotations of other names. Of them, those whose names begin with `x-` are written.
+    pub extensions: List<Member>,
 }
 
 /// The types that a value may have.

@@ -1,6 +1,7 @@
 ghost use Rattle.std.specs.Prelude.{◌≡◌, IfOk};
 
 use crate::boxed::Boxed;
+use crate::copy::copy_members;
 use crate::json_value::Json;
 use crate::list::List;
 use crate::schema::{
@@ -35,6 +36,7 @@ impl SchemaObject {
         Ok(SchemaObject {
             title: copy_text(alloc, &self.title)?,
             description: copy_text(alloc, &self.description)?,
+            default: copy_value(alloc, &self.default)?,
             nullable: self.nullable,
             instance_type: copy_types(alloc, &self.instance_type)?,
             format: copy_text(alloc, &self.format)?,
@@ -45,6 +47,7 @@ impl SchemaObject {
             array: copy_array(alloc, &self.array)?,
             object: copy_object(alloc, &self.object)?,
             reference: copy_text(alloc, &self.reference)?,
+            extensions: copy_members(alloc, self.extensions.as_slice())?,
         })
     }
 }
@@ -169,6 +172,15 @@ fn copy_texts(alloc: Global, texts: &[Text]) -> Result<List<Text>, AllocError>
         copies.push(text.copy(alloc)?)?;
     }
     Ok(copies)
+}
+
+fn copy_value(alloc: Global, value: &Option<Json>) -> Result<Option<Json>, AllocError>
+    ensures { IfOk result (λ copy. copy ≡ value.now) }
+{
+    match value {
+        None => Ok(None),
+        Some(value) => Ok(Some(value.copy(alloc)?)),
+    }
 }
 
 fn copy_values(alloc: Global, values: &Option<List<Json>>) -> Result<Option<List<Json>>, AllocError>

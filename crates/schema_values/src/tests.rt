@@ -128,6 +128,7 @@ fn schema_of(alloc: Global) -> Result<Schema, AllocError> {
     let object = SchemaObject {
         title: None,
         description: Some(Text::from_str(alloc, "a thing")?),
+        default: Some(Json::Int(7)),
         nullable: true,
         instance_type: Some(InstanceTypes::Single(InstanceType::Object)),
         format: None,
@@ -142,6 +143,7 @@ fn schema_of(alloc: Global) -> Result<Schema, AllocError> {
             additional: Some(Schema::Bool(true)),
         }),
         reference: None,
+        extensions: List::new(alloc),
     };
     Ok(Schema::Object(Boxed::new(alloc, object)?))
 }
@@ -159,6 +161,7 @@ fn a_copy_of_a_schema_is_defined(rt: HostRuntime) -> Result<(), Fail> {
     };
     let object = object.get();
     assert!(rt; object.nullable && object.reference.is_none());
+    assert!(rt; matches!(object.default, Some(Json::Int(7))) && object.extensions.is_empty());
     let parts = object.object.as_ref().ok_or("no parts")?;
     assert_eq!(rt; parts.properties.len(), 1);
     Ok(())

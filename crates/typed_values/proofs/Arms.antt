@@ -1,5 +1,5 @@
 -- What each arm of the decoder needs: its row, and that the descriptors that it goes on to are parts.
-use Rattle.std.proofs.Common.{◌≡◌, ℕ, zero, suc, ℤ, List, Option, Some, None, Bool, false, refl, sym, ◌∙◌, ap, subst, MatchOption}
+use Rattle.std.proofs.Common.{◌≡◌, ℕ, ℤ, List, Option, Some, None, Bool, false, refl, ◌∙◌, ap, subst}
 use Rattle.std.specs.declared.result.Result.TheVariants.{Ok, Err}
 use Rattle.schema_values.specs.declared.json_value.Json.{Json, out-Json}
 use Rattle.schema_values.specs.declared.json_value.Json.TheOpen.{Json-F}
@@ -21,7 +21,7 @@ use Rattle.typed_values.specs.declared.table.Definition.{Definition}
 use Rattle.typed_values.specs.Answer.{Tells}
 use Rattle.typed_values.specs.Definitions.{definition, tagged_name, variant_name}
 use Rattle.typed_values.specs.Denotes.{Told, told, below, refused, where_found, named_from, bare, without_payload, with_payload, chosen, at_tag, room, nought, truth, character, number, words, one_of_names, optional, just, external, tagged, first_told, at_definition}
-use Rattle.typed_values.specs.Sound.{Rests, RestsBy}
+use Rattle.typed_values.specs.Sound.{Rests}
 use Rattle.typed_values.specs.Parts.{IsPart, of_table, StandsIn, the_whole}
 use Rattle.typed_values.specs.Rows.{list_row, map_row, struct_row}
 use Rattle.typed_values.proofs.Found.{entry_found}
@@ -82,22 +82,14 @@ module _ (table : List Definition) (whole : Desc) (j : Json) (d : Desc) (h : Res
   pub row_untagged : (ds : List Desc) → d ≡ desc.Untagged ds → told table whole j d ≡ first_told 0 (told table whole j) ds
   row_untagged ds e = row_at table whole j d (out-Json j) (Desc-F.Untagged ds) h refl (ap out-Desc e ∙ desc.outs-Untagged ds)
 
-  pub row_ref : (name : List ℕ) (x : Desc) → d ≡ desc.Ref name → definition table name ≡ Some x → told table whole j d ≡ told table whole j x
-  row_ref name x e f = row_at table whole j d (out-Json j) (Desc-F.Ref name) h refl (ap out-Desc e ∙ desc.outs-Ref name) ∙ ap (at_definition (told table whole j)) f
+  pub row_ref : (name : List ℕ) (o : Option Desc) → d ≡ desc.Ref name → definition table name ≡ o → told table whole j d ≡ at_definition (told table whole j) o
+  row_ref name o e f = row_at table whole j d (out-Json j) (Desc-F.Ref name) h refl (ap out-Desc e ∙ desc.outs-Ref name) ∙ ap (at_definition (told table whole j)) f
 
 -- what a name is defined as is a part
 pub definition_is_part : (table : List Definition) (whole : Desc) (name : List ℕ) (d : Desc) → definition table name ≡ Some d → IsPart table whole d
 definition_is_part table whole name d e =
     let found = entry_found table name d e in
     of_table found.0 found.1.inside (subst (λ (x : Desc). StandsIn found.0.desc x) found.1.is the_whole)
-
--- a name in a sound table is defined
-pub no_dangling : (table : List Definition) (n : ℕ) (d : Desc) (name : List ℕ) → Rests table n d → d ≡ desc.Ref name → None ≡ definition table name → ⊥
-unfolding Rests
-no_dangling table zero d name h e f = h
-no_dangling table (suc n) d name h e f =
-    let a : RestsBy table (Rests table n) (Desc-F.Ref name) = subst (RestsBy table (Rests table n)) (ap out-Desc e ∙ desc.outs-Ref name) h in
-    subst (λ o. MatchOption o ⊥ (Rests table n)) (sym f) a
 
 -- ---- variants
 

@@ -1,7 +1,8 @@
 -- A tree that a sound JSON value denotes under a descriptor is a value of the descriptor.
 use Rattle.std.proofs.Common.{◌≡◌, ℕ, zero, suc, Bool, true, false, List, [], ◌∷◌, map, Option, Some, None, option_map, bytes_eq, cond, refl, sym, ◌∙◌, ap, subst, MatchOption, arith, inl, inr}
+use Rattle.std.proofs.lemmas.Bool.{true_from_ne_false}
 use Rattle.std.specs.List.{AllByRecursion}
-use Rattle.std.specs.Prelude.{Contains, IfSome}
+use Rattle.std.specs.Prelude.{⊤, Contains, IfSome}
 use Rattle.schema_values.specs.declared.json_value.Json.{Json, out-Json}
 use Rattle.schema_values.specs.declared.json_value.Json.TheFolds.{ind-Json, map-Json}
 use Rattle.schema_values.specs.declared.json_value.Json.TheOpen.{Json-F, Member-F}
@@ -19,18 +20,18 @@ use Rattle.typed_values.specs.declared.desc.Desc.TheViews.{roll-out-Desc, roll-D
 use Rattle.typed_values.specs.declared.desc.Field.{Field}
 use Rattle.typed_values.specs.declared.desc.TaggedVariant.{TaggedVariant}
 use Rattle.typed_values.specs.declared.desc.Presence.{Presence}
-use Rattle.typed_values.specs.declared.desc.Presence.TheVariants.{Required, Nullable, Skipped}
+use Rattle.typed_values.specs.declared.desc.Presence.TheVariants.{Required, Nullable, Skipped, Default}
 use Rattle.typed_values.specs.declared.fault.FaultKind.TheVariants.{WrongKind, NotListed}
 use Rattle.typed_values.specs.declared.fault.Place.TheVariants.{Name, Item}
 use Rattle.typed_values.specs.declared.table.Definition.{Definition}
 use Rattle.typed_values.specs.declared.tree.Tree.{Tree, Unit as Nought, None as Nothing, Fields as Parts, out-Tree}
 use Rattle.typed_values.specs.declared.tree.Tree.TheOpen.{Tree-F}
 use Rattle.typed_values.specs.declared.tree.Tree.TheVariants as tree
-use Rattle.typed_values.specs.Checks.{IsOption, IsFieldOf, of_struct, of_variant, HasBadPresence, TablePasses, DescPasses}
+use Rattle.typed_values.specs.Checks.{IsOption, IsFieldOf, of_struct, of_variant, IsBadField, no_option, default_misfits, TablePasses, DescPasses}
 use Rattle.typed_values.specs.Definitions.{definition, tagged_fields, variant_name}
 use Rattle.typed_values.specs.Denotes.{Told, below, just, as_tree, if_absent, if_present, by_presence, value_named, unless_denied, denied_name, at_definition, refused, where_found, named_from, with_payload, are_all_named, room, told, JsonDenotes}
 use Rattle.typed_values.specs.Fits.{nought_fits, option_fits, field_desc, parts_fit, if_there, struct_of, fits_by, fits_under, Fits}
-use Rattle.typed_values.specs.Parts.{the_whole, IsPart, of_whole, of_table}
+use Rattle.typed_values.specs.Parts.{the_whole, IsPart, of_whole}
 use Rattle.typed_values.specs.Rows.{told_item, value_denotes, told_field, told_fields, told_struct, row, AreFieldsOf}
 use Rattle.typed_values.specs.Sound.{RestsBy, Rests}
 use Rattle.typed_values.specs.Levels.{DescLevel}
@@ -40,8 +41,9 @@ use Rattle.typed_values.proofs.FitRows.{skipped_desc}
 use Rattle.typed_values.proofs.FitSteps.{fits_row, nought_row, skipped_row, struct_row}
 use Rattle.typed_values.proofs.Found.{contains_first, contains_later, contains_cases}
 use Rattle.typed_values.proofs.Inside.{part_of_option, part_of_list, part_of_map, parts_of_untagged, fields_of_struct, payloads_of_external, variants_of_tagged}
+use Rattle.typed_values.proofs.Narrower.{same_fits}
 use Rattle.typed_values.proofs.Rows.{row_at}
-use Rattle.typed_values.proofs.Soundness.{each_of, passes_is_sound}
+use Rattle.typed_values.proofs.Soundness.{each_of, guarded_is_sound, is_right}
 
 -- ---- the parts of a level
 
@@ -69,11 +71,6 @@ sound_inside (Json-F.List js) sound = (IsSound-List js).0 (subst IsSound (rolls-
 sound_inside (Json-F.Object ms) sound = (IsSound-Object ms).0 (subst IsSound (rolls-Object ms) sound)
 sound_inside _ sound = tt
 
--- where the checks pass, a nullable field is an option
-presences_right : (table : List Definition) (whole : Desc) → TablePasses table → DescPasses table whole → (d : Desc) → IsPart table whole d → HasBadPresence table d → ⊥
-presences_right table whole passes right d (of_whole s) = (right d s).presences
-presences_right table whole passes right d (of_table e inside s) = (passes.each e inside d s).presences
-
 option_by : (d : Desc) (y : DescLevel) → out-Desc d ≡ y → ((IsOption d → ⊥) → ⊥) → IsOption d
 option_by d (Desc-F.Option x) e h = (x, e)
 option_by d _ e h = absurd (h (λ o. cc (e, o.1)))
@@ -86,6 +83,9 @@ required_desc f e = rw e refl
 
 nullable_desc : (f : Field) → f.presence ≡ Nullable → field_desc f ≡ f.desc
 nullable_desc f e = rw e refl
+
+default_desc : (f : Field) (tree : Tree) → f.presence ≡ Default tree → field_desc f ≡ f.desc
+default_desc f tree e = rw e refl
 
 module _ (table : List Definition) (whole : Desc) (passes : TablePasses table) (right : DescPasses table whole) where
   -- each tree that a value denotes under a part is a value of it
@@ -102,7 +102,7 @@ module _ (table : List Definition) (whole : Desc) (passes : TablePasses table) (
   AgreesInside _ = Unit {0}
 
   rests : (d : Desc) → IsPart table whole d → Rests table (room table whole) d
-  rests = passes_is_sound table whole passes right
+  rests = guarded_is_sound table whole passes.guarded
 
   fits_at : (t : Tree) (d : Desc) → IsPart table whole d → (y : DescLevel) → out-Desc d ≡ y → fits_under table whole t d ≡ fits_by table (fits_under table whole) (fits_under table whole t) y (out-Tree t)
   fits_at t d part y e = fits_row table whole t d (rests d part) ∙ ap (λ (z : DescLevel). fits_by table (fits_under table whole) (fits_under table whole t) z (out-Tree t)) e
@@ -119,47 +119,53 @@ module _ (table : List Definition) (whole : Desc) (passes : TablePasses table) (
   just_skipped : (d : Desc) (o : Told) → Gives o (λ t. fits_under table whole t d) → Gives (just o) (λ t. fits_under table whole t (OptionOf d))
   just_skipped d o gives t e = skipped_row table whole t d ∙ just_gives (λ s. fits_under table whole s d) o gives t e
 
-  module _ (f : Field) (part : IsPart table whole f.desc) where
-    absent_gives : (p : Presence) → f.presence ≡ p → (p ≡ Nullable → IsOption f.desc) → Gives (if_absent p f.name) (λ t. fits_under table whole t (field_desc f))
-    absent_gives Required q option t e = absurd (cc e)
-    absent_gives Nullable q option t e =
+  module _ (f : Field) (part : IsPart table whole f.desc) (not_bad : IsBadField table f → ⊥) where
+    absent_gives : (p : Presence) → f.presence ≡ p → Gives (if_absent p f.name) (λ t. fits_under table whole t (field_desc f))
+    absent_gives Required q t e = absurd (cc e)
+    absent_gives Nullable q t e =
         let is : Nothing ≡ t = cc e in
-        rw (nullable_desc f q) (subst (λ (s : Tree). fits_under table whole s f.desc ≡ true) is (nothing_fits f.desc part (option refl)))
-    absent_gives Skipped q option t e =
+        let option : IsOption f.desc = option_by f.desc (out-Desc f.desc) refl (λ none. not_bad (no_option q none)) in
+        rw (nullable_desc f q) (subst (λ (s : Tree). fits_under table whole s f.desc ≡ true) is (nothing_fits f.desc part option))
+    absent_gives Skipped q t e =
         let is : Nothing ≡ t = cc e in
         rw (skipped_desc f q) (subst (λ (s : Tree). fits_under table whole s (OptionOf f.desc) ≡ true) is (nothing_skipped f.desc))
+    absent_gives (Default tree) q t e =
+        let is : tree ≡ t = cc e in
+        let fit : fits_under table f.desc tree f.desc ≡ true = true_from_ne_false _ (λ no. not_bad (default_misfits tree q (λ yes. let w : false ≡ true = sym no ∙ yes in cc w))) in
+        rw (default_desc f tree q) (subst (λ (s : Tree). fits_under table whole s f.desc ≡ true) is (same_fits table whole f.desc part passes.guarded tree ∙ fit))
 
     present_gives : (p : Presence) → f.presence ≡ p → (o : Told) → Gives o (λ t. fits_under table whole t f.desc) → Gives (if_present p o) (λ t. fits_under table whole t (field_desc f))
     present_gives Required q o gives t e = rw (required_desc f q) (gives t e)
     present_gives Nullable q o gives t e = rw (nullable_desc f q) (gives t e)
     present_gives Skipped q o gives t e = rw (skipped_desc f q) (just_skipped f.desc o gives t e)
+    present_gives (Default tree) q o gives t e = rw (default_desc f tree q) (gives t e)
 
-    field_gives : (f.presence ≡ Nullable → IsOption f.desc) → (o : Option Json) → ((j : Json) → o ≡ Some j → Agrees j f.desc) → Gives (by_presence f (value_denotes table whole f.desc o)) (λ t. fits_under table whole t (field_desc f))
-    field_gives option None agrees = absent_gives f.presence refl option
-    field_gives option (Some j) agrees =
+    field_gives : (o : Option Json) → ((j : Json) → o ≡ Some j → Agrees j f.desc) → Gives (by_presence f (value_denotes table whole f.desc o)) (λ t. fits_under table whole t (field_desc f))
+    field_gives None agrees = absent_gives f.presence refl
+    field_gives (Some j) agrees =
         present_gives f.presence refl (below (Name f.name) (told table whole j f.desc)) (λ t e. agrees j refl t (below_gives (Name f.name) (told table whole j f.desc) t e))
 
-  struct_gives : (fs : List Field) (deny : Bool) (ms : List Member) → AreFieldsOf table whole fs → ((f : Field) → Contains fs f → f.presence ≡ Nullable → IsOption f.desc)
+  struct_gives : (fs : List Field) (deny : Bool) (ms : List Member) → AreFieldsOf table whole fs → ((f : Field) → Contains fs f → IsBadField table f → ⊥)
       → ((m : Member) → Contains ms m → AgreesEverywhere m.value) → Gives (unless_denied (denied_name deny fs ms) (as_tree Parts (told_fields table whole ms fs))) (λ t. parts_fit (fits_under table whole) fs (out-Tree t))
-  struct_gives fs deny ms parts option agrees t e =
+  struct_gives fs deny ms parts none_bad agrees t e =
       let (ts, all, is) = trees_of Parts (told_fields table whole ms fs) t (undenied (denied_name deny fs ms) (as_tree Parts (told_fields table whole ms fs)) t e) in
       let fit = fields_give (fits_under table whole) (λ i f. told_field table whole ms f) 0 fs ts
-      (λ f c i. field_gives f (parts f c) (option f c) (value_named ms f.name) (λ j found. found_member AgreesEverywhere ms agrees f.name j found f.desc (parts f c))) all in
+      (λ f c i. field_gives f (parts f c) (none_bad f c) (value_named ms f.name) (λ j found. found_member AgreesEverywhere ms agrees f.name j found f.desc (parts f c))) all in
       shown (parts_fit (fits_under table whole) fs) t (Parts ts) (Tree-F.Fields ts) is (tree.outs-Fields ts) fit
 
-  nullable_option : (d : Desc) → IsPart table whole d → (f : Field) → IsFieldOf d f → f.presence ≡ Nullable → IsOption f.desc
-  nullable_option d part f field q = option_by f.desc (out-Desc f.desc) refl (λ none. presences_right table whole passes right d part (f, field, inl (q, none)))
+  never_bad : (d : Desc) → IsPart table whole d → (f : Field) → IsFieldOf d f → IsBadField table f → ⊥
+  never_bad d part f field bad = (is_right table whole d passes right part).presences (f, field, bad)
 
   -- the struct of a tagged variant, whose descriptor is one of no table
   variant_gives : (d : Desc) → IsPart table whole d → (tag : List ℕ) (vs : List TaggedVariant) → out-Desc d ≡ Desc-F.Tagged tag vs → (ms : List Member) → ((m : Member) → Contains ms m → AgreesEverywhere m.value)
       → (v : TaggedVariant) → Contains vs v → Gives (told_struct table whole (tagged_fields v) false ms) (λ t. fits_under table whole t (struct_of v))
   variant_gives d part tag vs e ms agrees v c t q =
       struct_row table whole t (tagged_fields v) false
-      ∙ struct_gives (tagged_fields v) false ms (variants_of_tagged part tag vs (rolled d _ e ∙ desc.rolls-Tagged tag vs) v c) (λ f k. nullable_option d part f (of_variant tag vs v e c k)) agrees t q
+      ∙ struct_gives (tagged_fields v) false ms (variants_of_tagged part tag vs (rolled d _ e ∙ desc.rolls-Tagged tag vs) v c) (λ f k. never_bad d part f (of_variant tag vs v e c k)) agrees t q
 
-  found_gives : (j : Json) (n : ℕ) → ((d : Desc) → Rests table n d → IsPart table whole d → Agrees j d) → (o : Option Desc) → ((d : Desc) → o ≡ Some d → IsPart table whole d) → MatchOption o ⊥ (Rests table n)
+  found_gives : (j : Json) (n : ℕ) → ((d : Desc) → Rests table n d → IsPart table whole d → Agrees j d) → (o : Option Desc) → ((d : Desc) → o ≡ Some d → IsPart table whole d) → MatchOption o ⊤ (Rests table n)
       → Gives (at_definition (told table whole j) o) (λ t. if_there (fits_under table whole t) o)
-  found_gives j n next None part h = absurd h
+  found_gives j n next None part h = λ t e. absurd (cc e)
   found_gives j n next (Some d) part h = next d h (part d refl)
 
   -- one row for each descriptor
@@ -184,7 +190,7 @@ module _ (table : List Definition) (whole : Desc) (passes : TablePasses table) (
       (each_member (λ m. Agrees m.value i) ms (λ m c. inside.0 m c i (part_of_map part i (rolled d _ e ∙ desc.rolls-Map i)))) t q
   row_gives j _ sound inside n next d part (Desc-F.Map i) e h t q = absurd (cc q)
   row_gives j (Json-F.Object ms) sound inside n next d part (Desc-F.Struct fs deny) e h t q =
-      struct_gives fs deny ms (fields_of_struct part fs deny (rolled d _ e ∙ desc.rolls-Struct fs deny)) (λ f c. nullable_option d part f (of_struct fs deny e c)) inside.0 t q
+      struct_gives fs deny ms (fields_of_struct part fs deny (rolled d _ e ∙ desc.rolls-Struct fs deny)) (λ f c. never_bad d part f (of_struct fs deny e c)) inside.0 t q
   row_gives j _ sound inside n next d part (Desc-F.Struct fs deny) e h t q = absurd (cc q)
   row_gives j (Json-F.Text s) sound inside n next d part (Desc-F.External vs) e h t q = bare_gives (fits_under table whole) vs nought_is_null s t q
   row_gives j (Json-F.Object (m ∷ ms)) sound inside n next d part (Desc-F.External vs) e h t q =

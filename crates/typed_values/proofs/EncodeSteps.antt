@@ -1,5 +1,6 @@
 -- On a sound table the steps are never spent: each row of what is written holds with no steps in it.
 use Rattle.std.proofs.Common.{rules, ◌≡◌, ℕ, zero, suc, ◌+◌, Bool, List, [], ◌∷◌, map, Option, Some, None, refl, sym, ◌∙◌, ap, MatchOption}
+use Rattle.std.specs.Prelude.{⊤}
 use Rattle.schema_values.specs.declared.json_value.Json.{Json, List as Items, Object}
 use Rattle.schema_values.specs.Member.{member}
 use Rattle.typed_values.specs.declared.desc.Desc.{Desc, Option as OptionOf, Struct as StructOf, out-Desc}
@@ -85,8 +86,8 @@ module _ {X Y : Type 0} (g : X → Y) where
   written_by-map table is_none none written next same (Desc-F.Untagged ds) x = choice_written-map written ds x
   written_by-map table is_none none written next same (Desc-F.Ref name) x = refl
 
-written_if_there_same : (Next : Desc → Type 0) (f g : Desc → Json) → ((d : Desc) → Next d → f d ≡ g d) → (o : Option Desc) → MatchOption o ⊥ Next → written_if_there f o ≡ written_if_there g o
-written_if_there_same Next f g same None h = absurd h
+written_if_there_same : (Next : Desc → Type 0) (f g : Desc → Json) → ((d : Desc) → Next d → f d ≡ g d) → (o : Option Desc) → MatchOption o ⊤ Next → written_if_there f o ≡ written_if_there g o
+written_if_there_same Next f g same None h = refl
 written_if_there_same Next f g same (Some d) h = same d h
 
 -- what follows a step matters only where that step is one

@@ -9,11 +9,14 @@ use Rattle.typed_values.specs.declared.desc.Desc.TheOpen.{Desc-F}
 use Rattle.typed_values.specs.declared.desc.Desc.TheViews.{roll-out-Desc, roll-Desc}
 use Rattle.typed_values.specs.declared.desc.Field.{Field}
 use Rattle.typed_values.specs.declared.desc.Named.{Named}
+use Rattle.typed_values.specs.declared.desc.Presence.TheVariants.{Required, Nullable, Skipped, Default}
 use Rattle.typed_values.specs.declared.desc.TaggedVariant.{TaggedVariant}
 use Rattle.typed_values.specs.declared.desc.Variant.{Variant}
 use Rattle.typed_values.specs.declared.table.Definition.{Definition}
+use Rattle.typed_values.specs.declared.tree.Tree.{Tree}
 use Rattle.typed_values.specs.Definitions.{field_name, listed_name, variant_name, tagged_name, tagged_fields}
-use Rattle.typed_values.specs.Checks.{names_of_fields, lists_of_names, HasDoubledName, HasTagClash, IsFieldOf, of_struct, of_variant, IsBadField, HasBadPresence, IsPlainlyRight}
+use Rattle.typed_values.specs.Checks.{names_of_fields, lists_of_names, HasDoubledName, TakesNull, HasTagClash, IsFieldOf, of_struct, of_variant, IsOption, IsBadField, no_option, null_twice, default_misfits, HasBadPresence, IsPlainlyRight}
+use Rattle.typed_values.specs.Fits.{Fits}
 use Rattle.typed_values.specs.Levels.{DescLevel}
 use Rattle.typed_values.proofs.Found.{contains_first, contains_later, contains_cases, same_or_not}
 
@@ -162,3 +165,25 @@ module _ (table : List Definition) (d : Desc) where
 
   pub no_bad_presence : ((fs deny : _) → d ≡ desc.Struct fs deny → ⊥) → ((tag vs : _) → d ≡ desc.Tagged tag vs → ⊥) → HasBadPresence table d → ⊥
   no_bad_presence s t h = no_field s t h.1
+
+-- what is wrong with a field of each presence
+module _ (table : List Definition) (f : Field) where
+  pub required_right : f.presence ≡ Required → IsBadField table f → ⊥
+  required_right q (no_option e none) = cc (q, e)
+  required_right q (null_twice e null) = cc (q, e)
+  required_right q (default_misfits tree e misfits) = cc (q, e)
+
+  pub nullable_bad : f.presence ≡ Nullable → IsBadField table f → IsOption f.desc → ⊥
+  nullable_bad q (no_option e none) = none
+  nullable_bad q (null_twice e null) = absurd (cc (q, e))
+  nullable_bad q (default_misfits tree e misfits) = absurd (cc (q, e))
+
+  pub skipped_bad : f.presence ≡ Skipped → IsBadField table f → TakesNull table f.desc
+  skipped_bad q (no_option e none) = absurd (cc (q, e))
+  skipped_bad q (null_twice e null) = null
+  skipped_bad q (default_misfits tree e misfits) = absurd (cc (q, e))
+
+  pub default_bad : (tree : Tree) → f.presence ≡ Default tree → IsBadField table f → Fits table f.desc tree → ⊥
+  default_bad tree q (no_option e none) = absurd (cc (q, e))
+  default_bad tree q (null_twice e null) = absurd (cc (q, e))
+  default_bad tree q (default_misfits other e misfits) = let w : Default other ≡ Default tree = sym e ∙ q in let t : other ≡ tree = cc w in subst (λ (s : Tree). Fits table f.desc s → ⊥) t misfits

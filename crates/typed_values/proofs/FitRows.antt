@@ -1,8 +1,8 @@
 -- What each arm of the fit test needs: its row.
-use Rattle.std.proofs.Common.{arith, ◌≡◌, ◌<◌, ◌≤◌, ℕ, zero, suc, ℤ, Bool, true, false, ◌&&◌, length, map, option_map, List, [], ◌∷◌, Option, refl, ◌∙◌, ap}
+use Rattle.std.proofs.Common.{arith, ◌≡◌, ◌<◌, ◌≤◌, ℕ, zero, suc, ℤ, Bool, true, false, ◌&&◌, length, map, option_map, List, [], ◌∷◌, Option, Some, refl, ◌∙◌, ap, subst}
 use Rattle.std.proofs.lemmas.Bool.Decides.{nat_tests}
 use Rattle.std.proofs.lemmas.Option.{slice_get-map}
-use Rattle.std.specs.Prelude.{slice_get, nat_lt, nat_eq}
+use Rattle.std.specs.Prelude.{slice_get, nat_lt, nat_eq, Contains}
 use Rattle.typed_values.specs.declared.desc.Desc.{Desc, Null as NullDesc, Option as OptionOf, out-Desc}
 use Rattle.typed_values.specs.declared.desc.Desc.TheOpen.{Desc-F}
 use Rattle.typed_values.specs.declared.desc.Desc.TheVariants as desc
@@ -21,6 +21,7 @@ use Rattle.typed_values.specs.Fits.{field_desc, fields_fit, whole_fits, nought_f
 use Rattle.typed_values.specs.Sound.{Rests}
 use Rattle.typed_values.specs.Levels.{DescLevel}
 use Rattle.typed_values.proofs.FitSteps.{fits_row}
+use Rattle.typed_values.proofs.Found.{contains_first, contains_later}
 
 module _ (table : List Definition) (whole : Desc) (t : Tree) (d : Desc) (h : Rests table (room table whole) d) where
   row_at : (y : DescLevel) → out-Desc d ≡ y → fits_under table whole t d ≡ fits_by table (fits_under table whole) (fits_under table whole t) y (out-Tree t)
@@ -78,6 +79,11 @@ pub alternative_is : (ds : List Desc) (i : ℕ) → alternative_at ds i ≡ slic
 alternative_is [] i = refl
 alternative_is (d ∷ ds) zero = refl
 alternative_is (d ∷ ds) (suc i) = alternative_is ds i
+
+pub alternative_inside : (ds : List Desc) (i : ℕ) (d : Desc) → alternative_at ds i ≡ Some d → Contains ds d
+alternative_inside [] i d there = absurd (cc there)
+alternative_inside (x ∷ ds) zero d there = subst (Contains (x ∷ ds)) {x = x} (cc there) (contains_first x ds)
+alternative_inside (x ∷ ds) (suc i) d there = contains_later x ds d (alternative_inside ds i d there)
 
 -- a choice, with the alternative at its place
 pub choice_row : (fits : Tree → Desc → Bool) (ds : List Desc) (t : Tree) (i : ℕ) (x : Tree) (o : Option Desc) → t ≡ Choice i x → slice_get ds i ≡ o → choice_fits fits ds (out-Tree t) ≡ if_there (fits x) o

@@ -1,6 +1,7 @@
 -- On a sound table the steps are never spent: each row of what fits holds with no steps in it.
 use Rattle.std.proofs.Common.{rules, ◌≡◌, ℕ, zero, suc, ◌+◌, Bool, ◌&&◌, List, [], ◌∷◌, map, Option, Some, None, refl, sym, ◌∙◌, ap, ap₂, MatchOption}
 use Rattle.std.proofs.lemmas.List.{length-map}
+use Rattle.std.specs.Prelude.{⊤}
 use Rattle.typed_values.specs.declared.desc.Desc.{Desc, Null as NullDesc, Option as OptionOf, Struct as StructOf, out-Desc}
 use Rattle.typed_values.specs.declared.desc.Desc.TheOpen.{Desc-F}
 use Rattle.typed_values.specs.declared.desc.Desc.TheVariants.{outs-Null, outs-Option, outs-Struct}
@@ -96,8 +97,8 @@ module _ {X Y : Type 0} (g : X → Y) where
   fits_by-map table fits next (Desc-F.Untagged ds) x = choice_fits-map fits ds x
   fits_by-map table fits next (Desc-F.Ref name) x = refl
 
-if_there_same : (Next : Desc → Type 0) (f g : Desc → Bool) → ((d : Desc) → Next d → f d ≡ g d) → (o : Option Desc) → MatchOption o ⊥ Next → if_there f o ≡ if_there g o
-if_there_same Next f g same None h = absurd h
+if_there_same : (Next : Desc → Type 0) (f g : Desc → Bool) → ((d : Desc) → Next d → f d ≡ g d) → (o : Option Desc) → MatchOption o ⊤ Next → if_there f o ≡ if_there g o
+if_there_same Next f g same None h = refl
 if_there_same Next f g same (Some d) h = same d h
 
 -- what follows a step matters only where that step is one

@@ -14,7 +14,7 @@ use Rattle.typed_values.specs.Parts.{StandsIn, in_option, in_list, in_map, in_fi
 use Rattle.typed_values.specs.Ranged.{AreRangesRight}
 use Rattle.typed_values.specs.Rows.{AreParts, AreFieldsOf, ArePayloadsOf, AreVariantsOf}
 
-part_of : {table : List Definition} {whole d x : Desc} → ((w : Desc) → StandsIn w d → StandsIn w x) → IsPart table whole d → IsPart table whole x
+pub part_of : {table : List Definition} {whole d x : Desc} → ((w : Desc) → StandsIn w d → StandsIn w x) → IsPart table whole d → IsPart table whole x
 part_of go (of_whole s) = of_whole (go _ s)
 part_of go (of_table e inside s) = of_table e inside (go _ s)
 

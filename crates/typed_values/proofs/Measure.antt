@@ -1,10 +1,10 @@
 -- Why a walk along a descriptor ends: the value gets smaller, or fewer steps are left at it.
 use Rattle.std.proofs.Common.{◌≡◌, ℕ, zero, suc, ◌+◌, ◌*◌, ◌<◌, ◌≤◌, List, [], ◌∷◌, Option, Some, None, refl, sym, ◌∙◌, ap, MatchOption, length, get_or, arith}
+use Rattle.std.specs.Prelude.{⊤}
 use denote.Param.Weighed.{most, at_most}
 use Rattle.typed_values.specs.declared.desc.Desc.{Desc, out-Desc}
 use Rattle.typed_values.specs.declared.desc.Desc.TheVariants.{Ref, Option as DescOption, Untagged, outs-Option, outs-Ref, outs-Untagged}
 use Rattle.typed_values.specs.declared.desc.Desc.TheOpen.{Desc-F}
-use Rattle.typed_values.specs.declared.desc.Field.{Field}
 use Rattle.typed_values.specs.declared.table.Definition.{Definition}
 use Rattle.typed_values.specs.Definitions.{definition}
 use Rattle.typed_values.specs.Denotes.{room}
@@ -59,8 +59,8 @@ steps_at_most table zero d = omega arith
 steps_at_most table (suc n) d = steps_by_at_most n (steps table n) (steps_at_most table n) table (out-Desc d)
 
 module _ (Next : Desc → Type 0) (f g : Desc → ℕ) (same : (d : Desc) → Next d → f d ≡ g d) where
-  steps_after_same : (o : Option Desc) → MatchOption o ⊥ Next → steps_after f o ≡ steps_after g o
-  steps_after_same None h = absurd h
+  steps_after_same : (o : Option Desc) → MatchOption o ⊤ Next → steps_after f o ≡ steps_after g o
+  steps_after_same None h = refl
   steps_after_same (Some d) h = ap suc (same d h)
 
   most_same : (ds : List Desc) → EachRests Next ds → most f ds ≡ most g ds

@@ -1,12 +1,11 @@
 -- Null denotes something only under what takes null.
 use Rattle.std.proofs.Common.{◌≡◌, ℕ, zero, suc, ◌+◌, List, [], ◌∷◌, Option, Some, None, refl, sym, ◌∙◌, MatchOption}
-use Rattle.std.specs.Prelude.{Contains}
+use Rattle.std.specs.Prelude.{⊤, Contains}
 use Rattle.std.specs.declared.result.Result.TheVariants.{Ok, Err}
 use Rattle.schema_values.specs.declared.json_value.Json.{Json, out-Json}
 use Rattle.schema_values.specs.declared.json_value.Json.TheOpen.{Json-F}
 use Rattle.typed_values.specs.declared.desc.Desc.{Desc, out-Desc}
 use Rattle.typed_values.specs.declared.desc.Desc.TheOpen.{Desc-F}
-use Rattle.typed_values.specs.declared.desc.Field.{Field}
 use Rattle.typed_values.specs.declared.table.Definition.{Definition}
 use Rattle.typed_values.specs.declared.tree.Tree.{Tree}
 use Rattle.typed_values.specs.Checks.{TakesNull, any_value, null_itself, an_option, a_reference, an_alternative}
@@ -37,8 +36,8 @@ module _ (table : List Definition) (whole : Desc) (sound : IsSound table whole) 
   TakesWhere d = (t : Tree) → told table whole j d ≡ Ok t → TakesNull table d
 
   taken_behind : (n : ℕ) → ((d : Desc) → Rests table n d → IsNeeded table whole d → TakesWhere d) → (d : Desc) (name : List ℕ) → IsNeeded table whole d → out-Desc d ≡ Desc-F.Ref name
-      → (o : Option Desc) → definition table name ≡ o → MatchOption o ⊥ (Rests table n) → (t : Tree) → at_definition (told table whole j) o ≡ Ok t → TakesNull table d
-  taken_behind n next d name need e None f rests t is = absurd rests
+      → (o : Option Desc) → definition table name ≡ o → MatchOption o ⊤ (Rests table n) → (t : Tree) → at_definition (told table whole j) o ≡ Ok t → TakesNull table d
+  taken_behind n next d name need e None f rests t is = absurd (cc is)
   taken_behind n next d name need e (Some y) f rests t is = a_reference name y e f (next y rests (definition_needed table whole d name y e f need) t is)
 
   taken_by : (n : ℕ) → ((d : Desc) → Rests table n d → IsNeeded table whole d → TakesWhere d) → (d : Desc) → IsNeeded table whole d → (y : DescLevel) → out-Desc d ≡ y → RestsBy table (Rests table n) y

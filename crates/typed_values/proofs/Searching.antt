@@ -103,9 +103,6 @@ pub path_longer : (d : Bor Desc) (o : Option (Bor Path)) → on_path (roll-Path 
 path_longer d None = fold-roll-Path (List Desc) with_path (record { desc = d; before = None })
 path_longer d (Some r) = fold-roll-Path (List Desc) with_path (record { desc = d; before = Some r })
 
-pub none_met : (name : List ℕ) → IsMet [] name → ⊥
-none_met name h = omega (arith, h.1.1)
-
 pub met_first : (e : Definition) (met : List Definition) → IsMet (e ∷ met) e.name
 met_first e met = (e, contains_first e met, refl)
 
@@ -177,9 +174,6 @@ module _ (table : List Definition) (sought : Sought) (met : List Definition) (d 
     )
 
 module _ (table : List Definition) (sought : Sought) (d : Desc) where
-  pub start_search : IsSearch table sought [] (d ∷ [])
-  start_search = record { found = λ e c. absurd (omega (arith, c.1)); done = λ e c. absurd (omega (arith, c.1)) }
-
   pub start_leads : SomeLeads table sought (d ∷ []) ↔ Leads table sought d
   start_leads = (
     λ h. elim (contains_cases d [] h.0 h.1) [ inl q ↦ subst (Leads table sought) (sym q) h.2 | inr k ↦ absurd (omega (arith, k.1)) ],

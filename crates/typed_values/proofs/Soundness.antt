@@ -1,19 +1,18 @@
--- A table and a descriptor that pass their checks are sound: steps at one value are never spent.
+-- A guarded table is sound: steps at one value are never spent.
 use Rattle.std.proofs.Common.{◌≡◌, ℕ, zero, suc, ◌+◌, ◌≤◌, Bool, true, false, List, [], ◌∷◌, Option, Some, None, bytes_eq, cond, refl, sym, ◌∙◌, ap, subst, arith, MatchOption, ◌⊎◌, inl, inr}
 use Rattle.std.proofs.lemmas.Slice.Eq.{bytes_eq-Decides}
-use Rattle.std.specs.Prelude.{Contains}
+use Rattle.std.specs.Prelude.{⊤, Contains}
 use Rattle.typed_values.specs.declared.desc.Desc.{Desc, out-Desc}
 use Rattle.typed_values.specs.declared.desc.Desc.TheOpen.{Desc-F}
-use Rattle.typed_values.specs.declared.desc.Field.{Field}
 use Rattle.typed_values.specs.declared.table.Definition.{Definition}
 use Rattle.typed_values.specs.Definitions.{definition}
 use Rattle.typed_values.specs.Denotes.{room}
-use Rattle.typed_values.specs.Guarded.{named_here, Reaches, at_once, through}
-use Rattle.typed_values.specs.Parts.{the_whole, in_option, in_alternative, IsPart, of_whole, of_table}
+use Rattle.typed_values.specs.Guarded.{named_here, Reaches, at_once, through, IsGuarded}
+use Rattle.typed_values.specs.Parts.{IsPart, of_whole, of_table}
 use Rattle.typed_values.specs.Sound.{EachRests, RestsBy, Rests, IsSound}
 use Rattle.typed_values.specs.Checks.{IsPlainlyRight, TablePasses, DescPasses}
 use Rattle.typed_values.specs.Levels.{DescLevel}
-use Rattle.typed_values.proofs.Found.{contains_first, contains_later, contains_cases, other_name, same_or_not, entry_found, definition_found}
+use Rattle.typed_values.proofs.Found.{contains_first, contains_later, contains_cases, other_name, same_name, same_or_not, entry_found}
 use Rattle.typed_values.proofs.Tops.{top, tops, top_at, top_positive, top_fits, tops_fit, other_tops_fit, map_sum, through_option, through_alternative, stands_inside}
 
 -- a table without the first definition of a name
@@ -45,6 +44,44 @@ definition_without (e ∷ es) name m ne =
     (λ t. other_name e.name m (λ u. ne (sym ((bytes_eq-Decides e.name name).0 t) ∙ u)))
     (definition_without es name m ne)
 
+later_alike : (b : Bool) (d : Desc) (o p : Option Desc) → (b ≡ false → o ≡ p) → cond b (Some d) o ≡ cond b (Some d) p
+later_alike true d o p same = refl
+later_alike false d o p same = same refl
+
+-- a table without a definition that stands behind another of its name: each name is found as before
+record IsHidden (es : List Definition) (e : Definition) : Type 0 where
+  less : List Definition
+  counted : tops es ≡ top e.desc + tops less
+  same : (m : List ℕ) → definition less m ≡ definition es m
+
+hidden_later : (x : Definition) (es : List Definition) (e : Definition) → IsHidden es e → IsHidden (x ∷ es) e
+unfolding tops
+hidden_later x es e h = record {
+  less = x ∷ h.less;
+  counted = omega (arith, h.counted);
+  same = λ m. later_alike (bytes_eq x.name m) x.desc _ _ (λ f. h.same m);
+}
+
+hidden_first : (x : Definition) (es : List Definition) (e : Definition) → x.name ≡ e.name → definition es e.name ≡ Some e.desc → IsHidden (x ∷ es) e
+unfolding tops
+hidden_first x es e s f = record {
+  less = x ∷ without e.name es;
+  counted = omega (arith, tops_without es e.name e.desc f);
+  same = λ m. later_alike (bytes_eq x.name m) x.desc _ _ (λ other. definition_without es e.name m (λ t. let q : bytes_eq x.name m ≡ true = (bytes_eq-Decides x.name m).1 (s ∙ t) in cc (q, other)));
+}
+
+-- a definition is found by its name, or it stands behind another
+found_or_hidden : (es : List Definition) (e : Definition) → Contains es e → (definition es e.name ≡ Some e.desc) ⊎ IsHidden es e
+found_or_hidden [] e c = absurd (omega (arith, c.1))
+found_or_hidden (x ∷ es) e c =
+    elim (contains_cases x es e c) [
+      | inl q ↦ inl (rw (q, same_name e.name) refl)
+      | inr k ↦ elim (found_or_hidden es e k) [
+        | inl f ↦ elim (same_or_not x.name e.name) [ inl s ↦ inr (hidden_first x es e s f) | inr ne ↦ inl (rw (other_name x.name e.name ne) f) ]
+        | inr h ↦ inr (hidden_later x es e h)
+      ]
+    ]
+
 each_rests : (Next : Desc → Type 0) (xs : List Desc) → ((x : Desc) → Contains xs x → Next x) → EachRests Next xs
 each_rests Next [] h = tt
 each_rests Next (x ∷ xs) h = (h x (contains_first x xs), each_rests Next xs (λ y c. h y (contains_later x xs y c)))
@@ -53,9 +90,9 @@ pub each_of : (Next : Desc → Type 0) (ds : List Desc) (x : Desc) → EachRests
 each_of Next [] x h c = absurd (omega (arith, c.1))
 each_of Next (y ∷ ds) x h c = elim (contains_cases y ds x c) [ inl q ↦ subst Next q h.0 | inr k ↦ each_of Next ds x h.1 k ]
 
-rests_found : (Next : Desc → Type 0) (o : Option Desc) → (o ≡ None → ⊥) → ((y : Desc) → o ≡ Some y → Next y) → MatchOption o ⊥ Next
-rests_found Next None some next = some refl
-rests_found Next (Some y) some next = next y refl
+rests_found : (Next : Desc → Type 0) (o : Option Desc) → ((y : Desc) → o ≡ Some y → Next y) → MatchOption o ⊤ Next
+rests_found Next None next = tt
+rests_found Next (Some y) next = next y refl
 
 module _ (table : List Definition) where
   -- a definition that is not among those left has led to here
@@ -82,78 +119,74 @@ module _ (table : List Definition) where
   is_right whole d passes right (of_whole s) = right d s
   is_right whole d passes right (of_table e c s) = passes.each e c d s
 
-  option_part : (whole d x : Desc) → out-Desc d ≡ Desc-F.Option x → IsPart table whole d → IsPart table whole x
-  option_part whole d x e (of_whole s) = of_whole (in_option x s e)
-  option_part whole d x e (of_table y c s) = of_table y c (in_option x s e)
-
-  alternative_part : (whole d : Desc) (ds : List Desc) (x : Desc) → out-Desc d ≡ Desc-F.Untagged ds → Contains ds x → IsPart table whole d → IsPart table whole x
-  alternative_part whole d ds x e k (of_whole s) = of_whole (in_alternative ds x s e k)
-  alternative_part whole d ds x e k (of_table y c s) = of_table y c (in_alternative ds x s e k)
-
-module _ (table : List Definition) (whole : Desc) (passes : TablePasses table) (right : DescPasses table whole) where
+module _ (table : List Definition) (guarded : IsGuarded table) where
   -- a budget pays for the top of a descriptor and for those of the definitions left
   Budget : ℕ → Type 0
-  Budget n = (left : List Definition) (d : Desc) → IsPart table whole d → top d + tops left ≤ n → AreLeft table left d → Rests table n d
+  Budget n = (left : List Definition) (d : Desc) → top d + tops left ≤ n → AreLeft table left d → Rests table n d
 
-  ref_rests : (n : ℕ) → Budget n → (left : List Definition) (d : Desc) (name : List ℕ) → IsPart table whole d → top d + tops left ≤ suc n → AreLeft table left d
+  ref_rests : (n : ℕ) → Budget n → (left : List Definition) (d : Desc) (name : List ℕ) → top d + tops left ≤ suc n → AreLeft table left d
       → out-Desc d ≡ Desc-F.Ref name → (y : Desc) → definition table name ≡ Some y → Rests table n y
   unfolding Budget AreLeft
-  ref_rests n budget left d name part le inv e y f =
+  ref_rests n budget left d name le inv e y f =
       let (entry, i) = entry_found table name y f in
       let led : (target : List ℕ) → Reaches table target y → Reaches table target d = λ target r. through name y (named_here e) f r in
       elim (inv name y f) [
         | inl a ↦
-            budget (without name left) y (subst (IsPart table whole) i.is (of_table entry i.inside the_whole))
-            (omega (arith, le, tops_without left name y a, top_positive d))
+            budget (without name left) y (omega (arith, le, tops_without left name y a, top_positive d))
             (take_out table left y y name f (λ target r. r) (go_on table left d y led inv))
         | inr back ↦
             let cycle : Reaches table name y = back name (at_once (named_here e)) in
-            absurd (passes.guarded entry i.inside (subst (λ (m : List ℕ). Reaches table m entry.desc) (sym i.named) (subst (Reaches table name) (sym i.is) cycle)))
+            absurd (guarded entry i.inside (subst (λ (m : List ℕ). Reaches table m entry.desc) (sym i.named) (subst (Reaches table name) (sym i.is) cycle)))
       ]
 
-  rests_by : (n : ℕ) → Budget n → (left : List Definition) (d : Desc) → IsPart table whole d → top d + tops left ≤ suc n → AreLeft table left d
+  rests_by : (n : ℕ) → Budget n → (left : List Definition) (d : Desc) → top d + tops left ≤ suc n → AreLeft table left d
       → (z : DescLevel) → out-Desc d ≡ z → RestsBy table (Rests table n) z
   unfolding Budget
-  rests_by n budget left d part le inv Desc-F.Any e = tt
-  rests_by n budget left d part le inv Desc-F.Never e = tt
-  rests_by n budget left d part le inv Desc-F.Null e = tt
-  rests_by n budget left d part le inv Desc-F.Bool e = tt
-  rests_by n budget left d part le inv Desc-F.Char e = tt
-  rests_by n budget left d part le inv (Desc-F.Int kind min max) e = tt
-  rests_by n budget left d part le inv (Desc-F.Text min max format) e = tt
-  rests_by n budget left d part le inv (Desc-F.Enumeration ns) e = tt
-  rests_by n budget left d part le inv (Desc-F.List x min max) e = tt
-  rests_by n budget left d part le inv (Desc-F.Map x) e = tt
-  rests_by n budget left d part le inv (Desc-F.Struct fs deny) e = tt
-  rests_by n budget left d part le inv (Desc-F.External vs) e = tt
-  rests_by n budget left d part le inv (Desc-F.Tagged tag vs) e = tt
-  rests_by n budget left d part le inv (Desc-F.Option x) e =
-      budget left x (option_part table whole d x e part) (omega (arith, le, top_at d _ e)) (go_on table left d x (through_option table x e) inv)
-  rests_by n budget left d part le inv (Desc-F.Untagged ds) e =
-      each_rests (Rests table n) ds (λ x c. budget left x (alternative_part table whole d ds x e c part) (omega (arith, le, top_at d _ e, map_sum top ds c.0 x c.1 c.2))
+  rests_by n budget left d le inv Desc-F.Any e = tt
+  rests_by n budget left d le inv Desc-F.Never e = tt
+  rests_by n budget left d le inv Desc-F.Null e = tt
+  rests_by n budget left d le inv Desc-F.Bool e = tt
+  rests_by n budget left d le inv Desc-F.Char e = tt
+  rests_by n budget left d le inv (Desc-F.Int kind min max) e = tt
+  rests_by n budget left d le inv (Desc-F.Text min max format) e = tt
+  rests_by n budget left d le inv (Desc-F.Enumeration ns) e = tt
+  rests_by n budget left d le inv (Desc-F.List x min max) e = tt
+  rests_by n budget left d le inv (Desc-F.Map x) e = tt
+  rests_by n budget left d le inv (Desc-F.Struct fs deny) e = tt
+  rests_by n budget left d le inv (Desc-F.External vs) e = tt
+  rests_by n budget left d le inv (Desc-F.Tagged tag vs) e = tt
+  rests_by n budget left d le inv (Desc-F.Option x) e =
+      budget left x (omega (arith, le, top_at d _ e)) (go_on table left d x (through_option table x e) inv)
+  rests_by n budget left d le inv (Desc-F.Untagged ds) e =
+      each_rests (Rests table n) ds (λ x c. budget left x (omega (arith, le, top_at d _ e, map_sum top ds c.0 x c.1 c.2))
       (go_on table left d x (through_alternative table ds x e c) inv))
-  rests_by n budget left d part le inv (Desc-F.Ref name) e =
-      rests_found (Rests table n) (definition table name) (λ none. (is_right table whole d passes right part).defined (name, e, none)) (ref_rests n budget left d name part le inv e)
+  rests_by n budget left d le inv (Desc-F.Ref name) e =
+      rests_found (Rests table n) (definition table name) (ref_rests n budget left d name le inv e)
 
   rests_within : (n : ℕ) → Budget n
   unfolding Budget Rests
-  rests_within zero left d part le inv = absurd (omega (arith, top_positive d, le))
-  rests_within (suc n) left d part le inv = rests_by n (rests_within n) left d part le inv (out-Desc d) refl
+  rests_within zero left d le inv = absurd (omega (arith, top_positive d, le))
+  rests_within (suc n) left d le inv = rests_by n (rests_within n) left d le inv (out-Desc d) refl
 
 -- The steps are never spent.
-pub passes_is_sound : (table : List Definition) (desc : Desc) → TablePasses table → DescPasses table desc → IsSound table desc
-unfolding Budget room
-passes_is_sound table desc passes right d (of_whole s) =
-    elim (stands_inside table desc d s) [
-      | inl a ↦ rests_within table desc passes right (room table desc) table d (of_whole s) (omega (arith, a.fewer, top_fits desc, tops_fit table)) (none_taken table d)
-      | inr b ↦ rests_within table desc passes right (room table desc) table d (of_whole s) (omega (arith, b, top_fits d, tops_fit table)) (none_taken table d)
+pub guarded_is_sound : (table : List Definition) (whole : Desc) → IsGuarded table → IsSound table whole
+unfolding AreLeft Budget room
+guarded_is_sound table whole guarded d (of_whole s) =
+    elim (stands_inside table whole d s) [
+      | inl a ↦ rests_within table guarded (room table whole) table d (omega (arith, a.fewer, top_fits whole, tops_fit table)) (none_taken table d)
+      | inr b ↦ rests_within table guarded (room table whole) table d (omega (arith, b, top_fits d, tops_fit table)) (none_taken table d)
     ]
-passes_is_sound table desc passes right d (of_table e c s) =
-    let found = definition_found table e passes.once c in
+guarded_is_sound table whole guarded d (of_table e c s) =
     elim (stands_inside table e.desc d s) [
-      | inl a ↦
-          rests_within table desc passes right (room table desc) (without e.name table) d (of_table e c s)
-          (omega (arith, a.fewer, tops_without table e.name e.desc found, tops_fit table))
-          (take_out table table d e.desc e.name found a.reaches (none_taken table d))
-      | inr b ↦ rests_within table desc passes right (room table desc) table d (of_table e c s) (omega (arith, b, top_fits d, other_tops_fit table c.0 e c.1 c.2)) (none_taken table d)
+      | inl a ↦ elim (found_or_hidden table e c) [
+        | inl found ↦
+            rests_within table guarded (room table whole) (without e.name table) d
+            (omega (arith, a.fewer, tops_without table e.name e.desc found, tops_fit table))
+            (take_out table table d e.desc e.name found a.reaches (none_taken table d))
+        | inr h ↦
+            rests_within table guarded (room table whole) h.less d
+            (omega (arith, a.fewer, h.counted, tops_fit table))
+            (λ name y f. inl (h.same name ∙ f))
+      ]
+      | inr b ↦ rests_within table guarded (room table whole) table d (omega (arith, b, top_fits d, other_tops_fit table c.0 e c.1 c.2)) (none_taken table d)
     ]

@@ -145,9 +145,6 @@ module _ {X : Type 0} (key : X → List ℕ) where
   abbrev tied : X → X → Bool
   tied = ties less
 
-  tied_not : (x y : X) → less x y ≡ true → tied x y ≡ false
-  tied_not x y low = ap (λ (b : Bool). not b && not (less y x)) low
-
   tied_both : (x y : X) → less x y ≡ false → less y x ≡ false → tied x y ≡ true
   tied_both x y low high = ap₂ (λ (a b : Bool). not a && not b) low high
 

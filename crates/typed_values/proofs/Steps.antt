@@ -1,11 +1,11 @@
 -- On a sound table the steps are never spent: each row of the definition holds with no steps in it.
 use Rattle.std.proofs.Common.{◌≡◌, ℕ, zero, suc, ◌+◌, List, [], ◌∷◌, Option, Some, None, refl, sym, ◌∙◌, ap, MatchOption}
+use Rattle.std.specs.Prelude.{⊤}
 use Rattle.schema_values.specs.declared.json_value.Json.{Json, out-Json}
 use Rattle.schema_values.specs.Beside.{level_with}
 use Rattle.schema_values.proofs.Besides.{made-out}
 use Rattle.typed_values.specs.declared.desc.Desc.{Desc, out-Desc}
 use Rattle.typed_values.specs.declared.desc.Desc.TheOpen.{Desc-F}
-use Rattle.typed_values.specs.declared.desc.Field.{Field}
 use Rattle.typed_values.specs.declared.table.Definition.{Definition}
 use Rattle.typed_values.specs.Definitions.{definition}
 use Rattle.typed_values.specs.Denotes.{Told, Meaning, Level, told_by, first_told, or_else, told_at, told_within, room, told, optional, at_definition}
@@ -16,8 +16,8 @@ use Rattle.typed_values.specs.Levels.{DescLevel}
 abbrev pub level : List Definition → Desc → Json → Level
 level table whole j = level_with (told_within table (room table whole)) (out-Json j)
 
-at_definition_same : (Next : Desc → Type 0) (f g : Desc → Told) → ((d : Desc) → Next d → f d ≡ g d) → (o : Option Desc) → MatchOption o ⊥ Next → at_definition f o ≡ at_definition g o
-at_definition_same Next f g same None h = absurd h
+at_definition_same : (Next : Desc → Type 0) (f g : Desc → Told) → ((d : Desc) → Next d → f d ≡ g d) → (o : Option Desc) → MatchOption o ⊤ Next → at_definition f o ≡ at_definition g o
+at_definition_same Next f g same None h = refl
 at_definition_same Next f g same (Some d) h = same d h
 
 first_told_same : (Next : Desc → Type 0) (f g : Desc → Told) → ((d : Desc) → Next d → f d ≡ g d) → (i : ℕ) (ds : List Desc) → EachRests Next ds → first_told i f ds ≡ first_told i g ds

@@ -18,9 +18,10 @@ use Rattle.typed_values.specs.declared.fault.FaultKind.TheVariants.{NotListed}
 use Rattle.typed_values.specs.declared.fault.Place.TheVariants.{Name}
 use Rattle.typed_values.specs.declared.tree.Tree.{Tree, Unit as Nought, Variant as Choice}
 use Rattle.typed_values.specs.Definitions.{variant_name, tagged_name, tagged_fields}
-use Rattle.typed_values.specs.Denotes.{Told, below, refused, named_from, where_found, without_payload, with_payload, chosen, at_tag, external, tagged, value_named}
+use Rattle.typed_values.specs.Denotes.{Told, below, refused, where_found, without_payload, with_payload, chosen, at_tag, external, tagged, value_named}
 use Rattle.typed_values.specs.Encoding.{variant_written}
 use Rattle.typed_values.specs.Fits.{alternative_at, if_there}
+use Rattle.typed_values.proofs.Arms.{bare_told, payload_told, at_tag_text}
 use Rattle.typed_values.proofs.Found.{same_name}
 use Rattle.typed_values.proofs.ScalarsBack.{ReadsBack, named_first}
 use Rattle.typed_values.proofs.ToldTrees.{Gives, gives_below}
@@ -49,21 +50,20 @@ module _ (Exact : Type 0) where
       abbrev VariantBack : Json → Type 0
       VariantBack j = ReadsBack Exact j (external told vs (out-Json j)) (Choice i s)
 
-      bare_told : v.payload ≡ None → external told vs (out-Json (WordsJson v.name)) ≡ Ok (Choice i Nought)
-      bare_told e =
-          let bare : without_payload i v ≡ Ok (Choice i Nought) = rw e refl in
-          ap (external told vs) (json.outs-Text v.name) ∙ ap (where_found (refused NotListed) without_payload) (named_first variant_name vs i v distinct there) ∙ bare
+      name_alone : v.payload ≡ None → external told vs (out-Json (WordsJson v.name)) ≡ Ok (Choice i Nought)
+      name_alone e =
+          ap (external told vs) (json.outs-Text v.name) ∙ ap (where_found (refused NotListed) without_payload) (named_first variant_name vs i v distinct there) ∙ bare_told i v e
 
       paid_told : (d : Desc) (value : Json) → v.payload ≡ Some d → external told vs (out-Json (Object (member v.name value ∷ []))) ≡ chosen i (below (Name v.name) (told value d))
       paid_told d value e =
-          let paid : with_payload (told value) i v ≡ chosen i (below (Name v.name) (told value d)) = rw e refl in
-          ap (external told vs) (json.outs-Object (member v.name value ∷ [])) ∙ ap (where_found (refused NotListed) (with_payload (told value))) (named_first variant_name vs i v distinct there) ∙ paid
+          ap (external told vs) (json.outs-Object (member v.name value ∷ [])) ∙ ap (where_found (refused NotListed) (with_payload (told value))) (named_first variant_name vs i v distinct there)
+          ∙ payload_told i v (told value) d e
 
       -- the name of a variant alone, or an object of its name and its payload
       pub variant_back : (o : Option Desc) → v.payload ≡ o → PayloadBack o → VariantBack (variant_written written v)
       variant_back None e nought =
           let bare : variant_written written v ≡ WordsJson v.name = rw e refl in
-          subst VariantBack (sym bare) (tt, (Choice i Nought, bare_told e, λ h. ap (Choice i) (sym nought)))
+          subst VariantBack (sym bare) (tt, (Choice i Nought, name_alone e, λ h. ap (Choice i) (sym nought)))
       variant_back (Some d) e (sound, gives) =
           let paid : variant_written written v ≡ Object (member v.name (written d) ∷ []) = rw e refl in
           subst VariantBack (sym paid) (
@@ -78,8 +78,8 @@ module _ (tag : List ℕ) (vs : List TaggedVariant) (distinct : AreDistinct (map
 
   name_told : at_tag tag at_variant vs (WordsJson (tagged_name v)) ≡ at_variant i v
   name_told =
-      let named : at_tag tag at_variant vs (WordsJson (tagged_name v)) ≡ where_found (below (Name tag) (refused NotListed)) at_variant (named_from tagged_name 0 vs (tagged_name v)) = rw (json.outs-Text (tagged_name v)) refl in
-      named ∙ ap (where_found (below (Name tag) (refused NotListed)) at_variant) (named_first tagged_name vs i v distinct there)
+      at_tag_text tag at_variant vs (WordsJson (tagged_name v)) (tagged_name v) (json.outs-Text (tagged_name v))
+      ∙ ap (where_found (below (Name tag) (refused NotListed)) at_variant) (named_first tagged_name vs i v distinct there)
 
   -- the first member names the variant whose fields are told
   pub tag_told : (ms : List Member) → tagged (λ j. j) struct tag vs (Json-F.Object (member tag (WordsJson (tagged_name v)) ∷ ms)) ≡ at_variant i v

@@ -45,7 +45,7 @@ child_map Q R f (Desc-F.Tagged tag vs) c = (c.0, c.1, c.2, c.3, f c.1.desc c.4)
 child_map Q R f (Desc-F.Untagged ds) c = (c.0, c.1, f c.0 c.2)
 child_map Q R f (Desc-F.Ref name) c = c
 
-stands_through : {a b c : Desc} → StandsIn a b → StandsIn b c → StandsIn a c
+pub stands_through : {a b c : Desc} → StandsIn a b → StandsIn b c → StandsIn a c
 stands_through s the_whole = s
 stands_through s (in_option x t e) = in_option x (stands_through s t) e
 stands_through s (in_list x min max t e) = in_list x min max (stands_through s t) e

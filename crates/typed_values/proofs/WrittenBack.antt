@@ -4,7 +4,7 @@ use Rattle.std.proofs.lemmas.Bool.{and_parts}
 use Rattle.std.proofs.lemmas.List.{length-map}
 use Rattle.std.proofs.Math.Bool.{or-true}
 use Rattle.std.specs.List.{AllByRecursion}
-use Rattle.std.specs.Prelude.{Contains, slice_get}
+use Rattle.std.specs.Prelude.{⊤, Contains, slice_get}
 use Rattle.std.specs.declared.result.Result.TheVariants.{Ok}
 use Rattle.schema_values.specs.declared.json_value.Json.{Json, Null, Text as WordsJson, out-Json, List as ItemsJson, Object}
 use Rattle.schema_values.specs.declared.json_value.Json.TheOpen.{Json-F}
@@ -19,7 +19,7 @@ use Rattle.typed_values.specs.declared.desc.Desc.{Desc, Null as NullDesc, out-De
 use Rattle.typed_values.specs.declared.desc.Desc.TheOpen.{Desc-F}
 use Rattle.typed_values.specs.declared.desc.Field.{Field}
 use Rattle.typed_values.specs.declared.desc.Presence.{Presence}
-use Rattle.typed_values.specs.declared.desc.Presence.TheVariants.{Required, Nullable, Skipped}
+use Rattle.typed_values.specs.declared.desc.Presence.TheVariants.{Required, Nullable, Skipped, Default}
 use Rattle.typed_values.specs.declared.desc.TaggedVariant.{TaggedVariant}
 use Rattle.typed_values.specs.declared.desc.Variant.{Variant}
 use Rattle.typed_values.specs.declared.fault.FaultKind.TheVariants.{BadLength}
@@ -46,13 +46,13 @@ use Rattle.typed_values.proofs.AscendingKeys.{keys_sorted}
 use Rattle.typed_values.proofs.Denoted.{denied_is}
 use Rattle.typed_values.proofs.EncodeRows.{tag_before}
 use Rattle.typed_values.proofs.EncodeSteps.{is_none_tree, written_row, skipped_written, struct_written}
-use Rattle.typed_values.proofs.FitRows.{skipped_desc}
+use Rattle.typed_values.proofs.FitRows.{alternative_inside, skipped_desc}
 use Rattle.typed_values.proofs.FitSteps.{fits_row, nought_row, skipped_row, struct_row as struct_fits_row}
 use Rattle.typed_values.proofs.Found.{contains_first, contains_later}
 use Rattle.typed_values.proofs.Needed.{IsNeeded, of_whole, of_reached, needed_part, option_needed, list_needed, map_needed, field_needed, payload_needed, variant_needed, alternative_needed, definition_needed}
 use Rattle.typed_values.proofs.Ordered.{Ascends, sorted_stays}
 use Rattle.typed_values.proofs.Rows.{two_maps, row_at}
-use Rattle.typed_values.proofs.Soundness.{is_right, passes_is_sound}
+use Rattle.typed_values.proofs.Soundness.{is_right, guarded_is_sound}
 use Rattle.typed_values.proofs.Fields.{names_apart, fields_distinct, distinct_at}
 use Rattle.typed_values.proofs.NullTaken.{null_taken}
 use Rattle.typed_values.proofs.ScalarsBack.{ReadsBack, nought_is, whole_back, nought_back, truth_back, character_back, number_back, words_back, name_back}
@@ -68,11 +68,6 @@ no_name (Some name) told e = absurd (cc e)
 sound_with : (b : Bool) (m : Member) (ms : List Member) → IsSoundValue m.value → AllByRecursion HasSoundValue ms → AllByRecursion HasSoundValue (unless b m ms)
 sound_with true m ms first rest = rest
 sound_with false m ms first rest = (first, rest)
-
-alternative_inside : (ds : List Desc) (i : ℕ) (d : Desc) → alternative_at ds i ≡ Some d → Contains ds d
-alternative_inside [] i d there = absurd (cc there)
-alternative_inside (x ∷ ds) zero d there = subst (Contains (x ∷ ds)) {x = x} (cc there) (contains_first x ds)
-alternative_inside (x ∷ ds) (suc i) d there = contains_later x ds d (alternative_inside ds i d there)
 
 module _ (table : List Definition) (whole : Desc) (passes : TablePasses table) (right : DescPasses table whole) where
   abbrev Exact : Type 0
@@ -97,7 +92,7 @@ module _ (table : List Definition) (whole : Desc) (passes : TablePasses table) (
   inside_of t h = (h.0, parts_weaker {P = BackInside} {Q = Back} (λ s k. k.0) (out-Tree t) h.1)
 
   rests : (d : Desc) → IsNeeded table whole d → Rests table (room table whole) d
-  rests d need = passes_is_sound table whole passes right d (needed_part table whole d need)
+  rests d need = guarded_is_sound table whole passes.guarded d (needed_part table whole d need)
 
   untagged_refuted : (d : Desc) → IsNeeded table whole d → IsUntagged d → Exact → ⊥
   untagged_refuted d (of_whole s) untagged exact = exact.in_desc d s untagged
@@ -106,7 +101,7 @@ module _ (table : List Definition) (whole : Desc) (passes : TablePasses table) (
   never_null : (d x : Desc) → IsNeeded table whole d → out-Desc d ≡ Desc-F.Option x → (j : Json) (read : Tree) → told table whole j x ≡ Ok read → out-Json j ≡ Json-F.Null → ⊥
   never_null d x need e j read is null =
       (is_right table whole d passes right (needed_part table whole d need)).null_once
-      (x, e, null_taken table whole (passes_is_sound table whole passes right) j null x (option_needed table whole d x e need) read is)
+      (x, e, null_taken table whole (guarded_is_sound table whole passes.guarded) j null x (option_needed table whole d x e need) read is)
 
   -- ---- row by row
 
@@ -213,6 +208,7 @@ module _ (table : List Definition) (whole : Desc) (passes : TablePasses table) (
     field_by : (p : Presence) → f.presence ≡ p → (x : Tree) → BackInside x → fits_under table whole x (field_desc f) ≡ true → FieldBack f x
     field_by Required q x known fit = rw q (plain_back _ x known (own_desc_fits x (rw q refl) fit))
     field_by Nullable q x known fit = rw q (plain_back _ x known (own_desc_fits x (rw q refl) fit))
+    field_by (Default tree) q x known fit = rw q (plain_back _ x known (own_desc_fits x (rw q refl) fit))
     field_by Skipped q x known fit =
         let all = skipped_by q (out-Tree x) x (roll-out-Tree x) known.1 (skipped_desc_fits x q fit) in
         let as_option : written x (field_desc f) ≡ skipped_json (out-Tree x) = ap (written x) (skipped_desc f q) ∙ skipped_written table whole x f.desc in
@@ -340,9 +336,9 @@ module _ (table : List Definition) (whole : Desc) (passes : TablePasses table) (
     abbrev BackWithin : ℕ → Type 0
     BackWithin n = (d : Desc) → Rests table n d → IsNeeded table whole d → fits_under table whole t d ≡ true → ReadsBack Exact (written t d) (told table whole (written t d) d) t
 
-    reference_back : (n : ℕ) → BackWithin n → (d : Desc) (name : List ℕ) → IsNeeded table whole d → out-Desc d ≡ Desc-F.Ref name → (o : Option Desc) → definition table name ≡ o → MatchOption o ⊥ (Rests table n) → if_there (fits_under table whole t) o ≡ true
+    reference_back : (n : ℕ) → BackWithin n → (d : Desc) (name : List ℕ) → IsNeeded table whole d → out-Desc d ≡ Desc-F.Ref name → (o : Option Desc) → definition table name ≡ o → MatchOption o ⊤ (Rests table n) → if_there (fits_under table whole t) o ≡ true
         → ReadsBack Exact (written_if_there (written t) o) (at_definition (told table whole (written_if_there (written t) o)) o) t
-    reference_back n next d name need e None f rests fit = absurd rests
+    reference_back n next d name need e None f rests fit = absurd (cc fit)
     reference_back n next d name need e (Some y) f rests fit = next y rests (definition_needed table whole d name y e f need) fit
 
     abbrev row_written : DescLevel → Json

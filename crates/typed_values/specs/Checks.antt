@@ -1,5 +1,5 @@
 -- What is wrong with a table or a descriptor, case by case.
-use Rattle.std.specs.Prelude.{◌≡◌, ◌≢◌, ◌⊎◌, ℕ, ℤ, Bool, true, false, ◌&&◌, ◌||◌, nat_le, int_le, ◌==◌, IsTrue, not, is_some, List, [], ◌∷◌, length, map, Option, Some, None, Contains}
+use Rattle.std.specs.Prelude.{◌≡◌, ◌≢◌, ℕ, ℤ, Bool, true, false, ◌&&◌, ◌||◌, nat_le, int_le, ◌==◌, IsTrue, not, is_some, List, [], ◌∷◌, length, map, Option, Some, None, Contains}
 use Rattle.std.specs.List.{AllByRecursion, list_any}
 use Rattle.schema_values.specs.Sound.{AreDistinct}
 use Rattle.typed_values.specs.declared.desc.Desc.{Desc, out-Desc}
@@ -8,10 +8,12 @@ use Rattle.typed_values.specs.declared.desc.Field.{Field}
 use Rattle.typed_values.specs.declared.desc.IntKind.{IntKind}
 use Rattle.typed_values.specs.declared.desc.TaggedVariant.{TaggedVariant}
 use Rattle.typed_values.specs.declared.desc.Variant.{Variant}
-use Rattle.typed_values.specs.declared.desc.Presence.TheVariants.{Nullable, Skipped}
+use Rattle.typed_values.specs.declared.desc.Presence.TheVariants.{Nullable, Skipped, Default}
 use Rattle.typed_values.specs.declared.table.Definition.{Definition}
+use Rattle.typed_values.specs.declared.tree.Tree.{Tree}
 use Rattle.typed_values.specs.Definitions.{definition, definition_name, field_name, listed_name, tagged_fields, tagged_name, variant_name}
 use Rattle.typed_values.specs.Bounds.{least_of, greatest_of}
+use Rattle.typed_values.specs.Fits.{Fits}
 use Rattle.typed_values.specs.Guarded.{IsGuarded}
 use Rattle.typed_values.specs.Parts.{StandsIn}
 use Rattle.typed_values.specs.Levels.{DescLevel}
@@ -115,9 +117,11 @@ pub data IsFieldOf (d : Desc) (f : Field) : Type 0 where
 abbrev pub IsOption : Desc → Type 0
 IsOption d = (x : Desc) × (out-Desc d ≡ Desc-F.Option x)
 
--- a nullable field that is no option, or one that may be skipped and takes null
-abbrev pub IsBadField : List Definition → Field → Type 0
-IsBadField table f = ((f.presence ≡ Nullable) × (IsOption f.desc → ⊥)) ⊎ ((f.presence ≡ Skipped) × TakesNull table f.desc)
+-- a nullable field that is no option, one that may be skipped and takes null, or a default that does not fit
+pub data IsBadField (table : List Definition) (f : Field) : Type 0 where
+  no_option : f.presence ≡ Nullable → (IsOption f.desc → ⊥) → IsBadField table f
+  null_twice : f.presence ≡ Skipped → TakesNull table f.desc → IsBadField table f
+  default_misfits : (tree : Tree) → f.presence ≡ Default tree → (Fits table f.desc tree → ⊥) → IsBadField table f
 
 -- a field of a struct or of a tagged variant is such
 abbrev pub HasBadPresence : List Definition → Desc → Type 0

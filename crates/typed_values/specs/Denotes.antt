@@ -21,7 +21,7 @@ use Rattle.typed_values.specs.declared.desc.IntKind.{IntKind}
 use Rattle.typed_values.specs.declared.desc.TaggedVariant.{TaggedVariant}
 use Rattle.typed_values.specs.declared.desc.Variant.{Variant}
 use Rattle.typed_values.specs.declared.desc.Presence.{Presence}
-use Rattle.typed_values.specs.declared.desc.Presence.TheVariants.{Required, Nullable, Skipped}
+use Rattle.typed_values.specs.declared.desc.Presence.TheVariants.{Required, Nullable, Skipped, Default}
 use Rattle.typed_values.specs.declared.tree.Tree.{Tree, Unit as Nought, Bool as Truth, Int as Number, Text as Words, None as Nothing, Some as Just, List as Items, Map as Entries, Fields as Parts, Variant as Choice, Any as Whole}
 use Rattle.typed_values.specs.declared.tree.Pair.{Pair}
 use Rattle.typed_values.specs.declared.fault.FaultKind.{FaultKind}
@@ -180,12 +180,14 @@ abbrev pub if_absent : Presence → List ℕ → Told
 if_absent Required name = refused (Missing name)
 if_absent Nullable name = Ok Nothing
 if_absent Skipped name = Ok Nothing
+if_absent (Default tree) name = Ok tree
 
 -- what a field that is there gives
 abbrev pub if_present : Presence → Told → Told
 if_present Required told = told
 if_present Nullable told = told
 if_present Skipped told = just told
+if_present (Default tree) told = told
 
 -- the presence rule
 abbrev pub by_presence : Field → Option Told → Told

@@ -11,7 +11,7 @@ use Rattle.typed_values.specs.declared.desc.Named.{Named}
 use Rattle.typed_values.specs.declared.desc.TaggedVariant.{TaggedVariant}
 use Rattle.typed_values.specs.declared.desc.Variant.{Variant}
 use Rattle.typed_values.specs.declared.desc.Presence.{Presence}
-use Rattle.typed_values.specs.declared.desc.Presence.TheVariants.{Required, Nullable, Skipped}
+use Rattle.typed_values.specs.declared.desc.Presence.TheVariants.{Required, Nullable, Skipped, Default}
 use Rattle.typed_values.specs.declared.tree.Tree.{Tree}
 use Rattle.typed_values.specs.declared.tree.Tree.TheOpen.{Tree-F}
 use Rattle.typed_values.specs.declared.tree.Tree.TheFolds.{fold-Tree}
@@ -31,6 +31,7 @@ abbrev pub is_left_out : Presence → Bool → Bool
 is_left_out Skipped is_none = is_none
 is_left_out Required is_none = false
 is_left_out Nullable is_none = false
+is_left_out (Default tree) is_none = false
 
 -- the member before others, unless it is left out
 abbrev pub unless : Bool → Member → List Member → List Member

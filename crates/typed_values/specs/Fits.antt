@@ -13,7 +13,7 @@ use Rattle.typed_values.specs.declared.desc.IntKind.{IntKind}
 use Rattle.typed_values.specs.declared.desc.TaggedVariant.{TaggedVariant}
 use Rattle.typed_values.specs.declared.desc.Variant.{Variant}
 use Rattle.typed_values.specs.declared.desc.Presence.{Presence}
-use Rattle.typed_values.specs.declared.desc.Presence.TheVariants.{Required, Nullable, Skipped}
+use Rattle.typed_values.specs.declared.desc.Presence.TheVariants.{Required, Nullable, Skipped, Default}
 use Rattle.typed_values.specs.declared.tree.Tree.{Tree}
 use Rattle.typed_values.specs.declared.tree.Tree.TheOpen.{Tree-F}
 use Rattle.typed_values.specs.declared.tree.Tree.TheFolds.{fold-Tree}
@@ -105,6 +105,7 @@ field_desc f = under f.presence where
   under Required = f.desc
   under Nullable = f.desc
   under Skipped = OptionOf f.desc
+  under (Default tree) = f.desc
 
 -- one tree for each field, in order
 abbrev pub fields_fit : {X : Type 0} → (X → Desc → Bool) → List Field → List X → Bool

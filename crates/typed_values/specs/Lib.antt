@@ -16,6 +16,7 @@ pub mod Once
 pub mod Order
 pub mod Encoding
 pub mod Levels
+pub mod DescBeside
 pub mod SchemaTable
 pub mod Schemas
 pub mod Checks

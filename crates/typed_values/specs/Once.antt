@@ -1,8 +1,7 @@
 -- A table is sound in one way at most, so that a ghost field can say it.
-use Rattle.std.specs.Prelude.{ℕ, zero, suc, List, [], ◌∷◌, Option, Some, None, refl, MatchOption}
+use Rattle.std.specs.Prelude.{ℕ, zero, suc, ⊤, List, [], ◌∷◌, Option, Some, None, refl, MatchOption}
 use Rattle.typed_values.specs.declared.desc.Desc.{Desc, out-Desc}
 use Rattle.typed_values.specs.declared.desc.Desc.TheOpen.{Desc-F}
-use Rattle.typed_values.specs.declared.desc.Field.{Field}
 use Rattle.typed_values.specs.declared.table.Definition.{Definition}
 use Rattle.typed_values.specs.Definitions.{definition}
 use Rattle.typed_values.specs.Denotes.{room}
@@ -10,8 +9,8 @@ use Rattle.typed_values.specs.Sound.{EachRests, RestsBy, Rests, IsSound}
 use Rattle.typed_values.specs.Levels.{DescLevel}
 
 -- there is one way at most to say it of the definition of a name
-once_found : (Next : Desc → Type 0) → ((d : Desc) → IsProp (Next d)) → (o : Option Desc) → IsProp (MatchOption o ⊥ Next)
-once_found Next p None = λ a b. absurd a
+once_found : (Next : Desc → Type 0) → ((d : Desc) → IsProp (Next d)) → (o : Option Desc) → IsProp (MatchOption o ⊤ Next)
+once_found Next p None = λ a b. refl
 once_found Next p (Some d) = p d
 
 -- there is one way at most to say it of each of some descriptors

@@ -6,30 +6,41 @@ use Rattle.schema_values.specs.declared.json_value.Json.{Json, Null, Bool as Tru
 use Rattle.schema_values.specs.declared.json_value.Member.{Member}
 use Rattle.schema_values.specs.Member.{name_of, member}
 use Rattle.typed_values.specs.declared.desc.Desc.{Desc, out-Desc}
-use Rattle.typed_values.specs.declared.desc.Desc.TheOpen.{Desc-F, Field-F, TaggedVariant-F, Variant-F}
-use Rattle.typed_values.specs.declared.desc.Desc.TheFolds.{fold-Desc}
+use Rattle.typed_values.specs.declared.desc.Desc.TheOpen.{Desc-F}
 use Rattle.typed_values.specs.declared.desc.IntKind.{IntKind}
 use Rattle.typed_values.specs.declared.desc.IntKind.TheVariants.{I8, I16, I32, I64, U8, U16, U32, U64}
 use Rattle.typed_values.specs.declared.desc.Named.{Named}
 use Rattle.typed_values.specs.declared.desc.Presence.{Presence}
-use Rattle.typed_values.specs.declared.desc.Presence.TheVariants.{Required, Nullable, Skipped}
+use Rattle.typed_values.specs.declared.desc.Presence.TheVariants.{Required, Nullable, Skipped, Default}
+use Rattle.typed_values.specs.declared.table.Definition.{Definition}
 use Rattle.typed_values.specs.Definitions.{listed_name}
+use Rattle.typed_values.specs.DescBeside.{Beside, FieldBeside, TaggedBeside, VariantBeside, LevelBeside, made_of}
+use Rattle.typed_values.specs.Encoding.{json_of_tree}
 use Rattle.typed_values.specs.Order.{sorted_by}
-use Rattle.typed_values.specs.Levels.{DescLevel, FieldOf, TaggedOf, VariantOf}
+use Rattle.typed_values.specs.Levels.{DescLevel, VariantOf}
+
+-- what a field, a definition or a variant adds to a schema
+pub record Remarks : Type 0 where
+  pub description : Option (List ℕ)
+  pub default : Option Json
+
+-- nothing added
+abbrev pub no_remarks : Remarks
+no_remarks = record { description = None; default = None }
 
 -- a schema on the way: its annotations, and the members of its kind, which of a reference are `$ref` alone; and
 -- the truth value that it is where it says what other members are
 pub record Drawn : Type 0 where
   pub nullable : Bool
   pub title : Option (List ℕ)
-  pub description : Option (List ℕ)
+  pub remarks : Remarks
   pub is_reference : Bool
   pub truth : Option Bool
   pub members : List Member
 
 -- a schema without annotations, of these members
 abbrev pub plain : List Member → Drawn
-plain members = record { nullable = false; title = None; description = None; is_reference = false; truth = None; members = members }
+plain members = record { nullable = false; title = None; remarks = no_remarks; is_reference = false; truth = None; members = members }
 
 -- what admits none: `not` of every value
 abbrev pub nothing : List Member
@@ -45,7 +56,7 @@ abbrev pub reference : List ℕ → Drawn
 reference name = record {
   nullable = false;
   title = None;
-  description = None;
+  remarks = no_remarks;
   is_reference = true;
   truth = None;
   members = member (codes "$ref") (Words (codes "#/components/schemas/" ++ name)) ∷ [];
@@ -59,6 +70,10 @@ if_true false name rest = rest
 abbrev pub if_text : Option (List ℕ) → List ℕ → List Member → List Member
 if_text (Some text) name rest = member name (Words text) ∷ rest
 if_text None name rest = rest
+
+abbrev pub if_value : Option Json → List ℕ → List Member → List Member
+if_value (Some value) name rest = member name value ∷ rest
+if_value None name rest = rest
 
 abbrev pub if_number : Option ℤ → List ℕ → List Member → List Member
 if_number (Some number) name rest = member name (Number number) ∷ rest
@@ -90,9 +105,14 @@ annotated [] is_reference members = members
 annotated (a ∷ annotations) true members = (a ∷ annotations) ++ member (codes "allOf") (Items (Object members ∷ [])) ∷ []
 annotated (a ∷ annotations) false members = (a ∷ annotations) ++ members
 
+-- the annotations of a schema
+abbrev pub annotations : Bool → Option (List ℕ) → Remarks → List Member
+annotations nullable title remarks = if_true nullable (codes "nullable") (if_text title (codes "title")
+    (if_text remarks.description (codes "description") (if_value remarks.default (codes "default") [])))
+
 -- the schema as JSON: annotations first
 abbrev pub drawn_json : Drawn → Json
-drawn_json s = Object (annotated (if_true s.nullable (codes "nullable") (if_text s.title (codes "title") (if_text s.description (codes "description") []))) s.is_reference s.members)
+drawn_json s = Object (annotated (annotations s.nullable s.title s.remarks) s.is_reference s.members)
 
 -- the format of a kind of numbers (OpenAPI 3.0.3, Data Types, has int32 and int64)
 abbrev pub format_of : IntKind → List ℕ
@@ -119,24 +139,40 @@ least_shown U64 None = Some (pos 0)
 
 -- a field with the schema of its type
 abbrev pub DrawnField : Type 0
-DrawnField = FieldOf Drawn
+DrawnField = FieldBeside Drawn
 
 -- a tagged variant with the schemas of its fields
 abbrev pub DrawnTagged : Type 0
-DrawnTagged = TaggedOf DrawnField
+DrawnTagged = TaggedBeside Drawn
 
 -- a variant with the schema of its payload
 abbrev pub DrawnVariant : Type 0
-DrawnVariant = VariantOf Drawn
+DrawnVariant = VariantBeside Drawn
 
 -- a schema with a description, where there is one
 abbrev pub described : Option (List ℕ) → Drawn → Drawn
 described None s = s
-described (Some text) s = record s { description = Some text }
+described (Some text) s = record s { remarks = record s.remarks { description = Some text } }
 
--- a field as a member of `properties`, with its description
-abbrev pub property_of : DrawnField → Member
-property_of f = member f.name (drawn_json (described f.description f.desc))
+-- a schema with a default, where there is one
+abbrev pub defaulted : Option Json → Drawn → Drawn
+defaulted None s = s
+defaulted (Some json) s = record s { remarks = record s.remarks { default = Some json } }
+
+-- the JSON of the tree that stands for an absent field
+abbrev pub default_of : List Definition → Presence → Desc → Option Json
+default_of table Required d = None
+default_of table Nullable d = None
+default_of table Skipped d = None
+default_of table (Default tree) d = Some (json_of_tree table d tree)
+
+-- a schema as a member of `properties`
+abbrev pub property : List ℕ → Drawn → Member
+property name s = member name (drawn_json s)
+
+-- a field as a property, with its description and its default
+abbrev pub property_of : List Definition → DrawnField → Member
+property_of table f = property f.name (defaulted (default_of table f.presence f.desc.desc) (described f.description f.desc.made))
 
 -- the names of the fields that are required
 abbrev pub required_names : List DrawnField → List (List ℕ)
@@ -146,6 +182,7 @@ required_names (f ∷ fs) = with_required f.presence (required_names fs) where
   with_required Required names = f.name ∷ names
   with_required Nullable names = names
   with_required Skipped names = names
+  with_required (Default tree) names = names
 
 -- a name is sorted by itself
 abbrev pub same_name : List ℕ → List ℕ
@@ -190,10 +227,10 @@ one_character = plain (of_type (codes "string") (if_count (Some 1) (codes "minLe
 abbrev pub other_members : Drawn → Json
 other_members s = option_map_or Truth s.truth (drawn_json s)
 
--- a struct of such fields, its properties and its required names in order
-abbrev pub struct_drawn : List DrawnField → Bool → Drawn
-struct_drawn fs deny = plain (of_type (codes "object") (if_members (sorted_by name_of (map property_of fs)) (codes "properties")
-    (if_names (sorted_by same_name (required_names fs)) (codes "required") (if_denied deny))))
+-- an object of these properties, of which some are required, both in order
+abbrev pub struct_drawn : List Member → List (List ℕ) → Bool → Drawn
+struct_drawn properties required deny = plain (of_type (codes "object") (if_members (sorted_by name_of properties) (codes "properties")
+    (if_names (sorted_by same_name required) (codes "required") (if_denied deny))))
 
 -- the variants without payload, as the names of an enumeration
 abbrev pub bare_names : {X : Type 0} → List (VariantOf X) → List Named
@@ -203,79 +240,64 @@ bare_names {X} (v ∷ vs) = unless_payload v.payload (bare_names vs) where
   unless_payload None names = record { name = v.name; description = v.description } ∷ names
   unless_payload (Some s) names = names
 
--- a field that must be there
-abbrev pub required_field : List ℕ → Drawn → DrawnField
-required_field name s = record { name = name; desc = s; presence = Required; description = None }
-
 -- the variants with payload: each an object of the one property, and of no other
 abbrev pub payload_choices : List DrawnVariant → List Json
 payload_choices [] = []
 payload_choices (v ∷ vs) = with_payload v.payload (payload_choices vs) where
-  with_payload : Option Drawn → List Json → List Json
+  with_payload : Option (Beside Drawn) → List Json → List Json
   with_payload None choices = choices
-  with_payload (Some s) choices = drawn_json (described v.description (struct_drawn (required_field v.name s ∷ []) true)) ∷ choices
+  with_payload (Some s) choices = drawn_json (described v.description (struct_drawn (property v.name s.made ∷ []) (v.name ∷ []) true)) ∷ choices
 
 -- the choices of an external enumeration: those of its names without payload, and then each payload
 abbrev pub external_choices : List DrawnVariant → List Json
 external_choices vs = choices_of (bare_names vs) ++ payload_choices vs
 
 -- a tagged variant: an object of the tag, which has the variant's name alone, and of its fields
-abbrev pub tagged_choice : List ℕ → DrawnTagged → Json
-tagged_choice tag v = drawn_json (described v.description (struct_drawn (required_field tag (enumerated (v.name ∷ [])) ∷ v.fields) false))
+abbrev pub tagged_choice : List Definition → List ℕ → DrawnTagged → Json
+tagged_choice table tag v = drawn_json (described v.description
+    (struct_drawn (property tag (enumerated (v.name ∷ [])) ∷ map (property_of table) v.fields) (tag ∷ required_names v.fields) false))
 
 -- one row for each descriptor
-abbrev pub drawn_step : Desc-F Drawn DrawnField DrawnTagged DrawnVariant → Drawn
-drawn_step Desc-F.Any = all_or_none true
-drawn_step Desc-F.Never = all_or_none false
-drawn_step Desc-F.Null = null_alone
-drawn_step Desc-F.Bool = plain (of_type (codes "boolean") [])
-drawn_step Desc-F.Char = one_character
-drawn_step (Desc-F.Int kind min max) = plain (of_type (codes "integer") (member (codes "format") (Words (format_of kind))
+abbrev pub drawn_step : List Definition → LevelBeside Drawn → Drawn
+drawn_step table Desc-F.Any = all_or_none true
+drawn_step table Desc-F.Never = all_or_none false
+drawn_step table Desc-F.Null = null_alone
+drawn_step table Desc-F.Bool = plain (of_type (codes "boolean") [])
+drawn_step table Desc-F.Char = one_character
+drawn_step table (Desc-F.Int kind min max) = plain (of_type (codes "integer") (member (codes "format") (Words (format_of kind))
     ∷ if_number (least_shown kind min) (codes "minimum") (if_number max (codes "maximum") [])))
-drawn_step (Desc-F.Text min max format) =
+drawn_step table (Desc-F.Text min max format) =
     plain (of_type (codes "string") (if_text format (codes "format") (if_count min (codes "minLength") (if_count max (codes "maxLength") []))))
-drawn_step (Desc-F.Enumeration ns) = enumeration ns
-drawn_step (Desc-F.Option s) = record s { nullable = true; truth = None }
-drawn_step (Desc-F.List s min max) =
-    plain (of_type (codes "array") (member (codes "items") (drawn_json s) ∷ if_count min (codes "minItems") (if_count max (codes "maxItems") [])))
-drawn_step (Desc-F.Map s) = plain (of_type (codes "object") (member (codes "additionalProperties") (other_members s) ∷ []))
-drawn_step (Desc-F.Struct fs deny) = struct_drawn fs deny
-drawn_step (Desc-F.External vs) = plain (member (codes "oneOf") (Items (external_choices vs)) ∷ [])
-drawn_step (Desc-F.Tagged tag vs) = plain (member (codes "oneOf") (Items (map (tagged_choice tag) vs)) ∷ [])
-drawn_step (Desc-F.Untagged ss) = plain (member (codes "anyOf") (Items (map drawn_json ss)) ∷ [])
-drawn_step (Desc-F.Ref name) = reference name
-
--- a field of one level, with the schema of its type
-abbrev pub drawn_field : Field-F Drawn DrawnField DrawnTagged DrawnVariant → DrawnField
-drawn_field f = record { name = f.name; desc = f.desc; presence = f.presence; description = f.description }
-
--- a tagged variant of one level
-abbrev pub drawn_tagged : TaggedVariant-F Drawn DrawnField DrawnTagged DrawnVariant → DrawnTagged
-drawn_tagged v = record { name = v.name; description = v.description; fields = v.fields }
-
--- a variant of one level
-abbrev pub drawn_variant : Variant-F Drawn DrawnField DrawnTagged DrawnVariant → DrawnVariant
-drawn_variant v = record { name = v.name; description = v.description; payload = v.payload }
+drawn_step table (Desc-F.Enumeration ns) = enumeration ns
+drawn_step table (Desc-F.Option s) = record s.made { nullable = true; truth = None }
+drawn_step table (Desc-F.List s min max) =
+    plain (of_type (codes "array") (member (codes "items") (drawn_json s.made) ∷ if_count min (codes "minItems") (if_count max (codes "maxItems") [])))
+drawn_step table (Desc-F.Map s) = plain (of_type (codes "object") (member (codes "additionalProperties") (other_members s.made) ∷ []))
+drawn_step table (Desc-F.Struct fs deny) = struct_drawn (map (property_of table) fs) (required_names fs) deny
+drawn_step table (Desc-F.External vs) = plain (member (codes "oneOf") (Items (external_choices vs)) ∷ [])
+drawn_step table (Desc-F.Tagged tag vs) = plain (member (codes "oneOf") (Items (map (tagged_choice table tag) vs)) ∷ [])
+drawn_step table (Desc-F.Untagged ss) = plain (member (codes "anyOf") (Items (map (λ s. drawn_json s.made) ss)) ∷ [])
+drawn_step table (Desc-F.Ref name) = reference name
 
 -- the schema of a descriptor, with its annotations apart
-abbrev pub drawn : Desc → Drawn
-drawn = fold-Desc Drawn DrawnField DrawnTagged DrawnVariant drawn_step drawn_field drawn_tagged drawn_variant
+abbrev pub drawn : List Definition → Desc → Drawn
+drawn table = made_of (drawn_step table)
 
 -- the schema of a descriptor
-abbrev pub schema_json : Desc → Json
-schema_json d = drawn_json (drawn d)
+abbrev pub schema_json : List Definition → Desc → Json
+schema_json table d = drawn_json (drawn table d)
 
 -- the schema of a type with its name, which a reference does not show
-abbrev pub titled : List ℕ → Desc → Drawn
-titled name d = by_form (out-Desc d) where
+abbrev pub titled : List Definition → List ℕ → Desc → Drawn
+titled table name d = by_form (out-Desc d) where
   by_form : DescLevel → Drawn
-  by_form (Desc-F.Ref other) = drawn d
-  by_form _ = record (drawn d) { title = Some name }
+  by_form (Desc-F.Ref other) = drawn table d
+  by_form _ = record (drawn table d) { title = Some name }
 
 -- the schema of a type, with its name as the title
-abbrev pub schema_json_titled : List ℕ → Desc → Json
-schema_json_titled name d = drawn_json (titled name d)
+abbrev pub schema_json_titled : List Definition → List ℕ → Desc → Json
+schema_json_titled table name d = drawn_json (titled table name d)
 
 -- the schema of a definition, with its description
-abbrev pub schema_json_described : Option (List ℕ) → Desc → Json
-schema_json_described description d = drawn_json (described description (drawn d))
+abbrev pub schema_json_described : List Definition → Option (List ℕ) → Desc → Json
+schema_json_described table description d = drawn_json (described description (drawn table d))

@@ -1,7 +1,7 @@
 -- The schema of a descriptor as a `Schema` value.
 use Rattle.std.specs.Prelude.{ℕ, ℤ, Bool, true, false, not, List, [], ◌∷◌, ◌++◌, map, filter, Option, Some, None, if◌then◌else◌, codes}
 use Rattle.std.specs.List.{list_any}
-use Rattle.std.specs.Option.{option_map, option_map_or}
+use Rattle.std.specs.Option.{option_map_or}
 use Rattle.schema_values.specs.declared.json_value.Json.{Json, Text as Words}
 use Rattle.schema_values.specs.declared.schema.Schema.{Schema, Bool as Truth, Object}
 use Rattle.schema_values.specs.declared.schema.SchemaObject.{SchemaObject, SchemaObject-F, roll-SchemaObject}
@@ -16,19 +16,19 @@ use Rattle.schema_values.specs.declared.schema.NumberBounds.{NumberBounds}
 use Rattle.schema_values.specs.declared.schema.LengthBounds.{LengthBounds}
 use Rattle.schema_values.specs.declared.schema.Items.{Items, One}
 use Rattle.typed_values.specs.declared.desc.Desc.{Desc, out-Desc}
-use Rattle.typed_values.specs.declared.desc.Desc.TheOpen.{Desc-F, Field-F, TaggedVariant-F, Variant-F}
-use Rattle.typed_values.specs.declared.desc.Desc.TheFolds.{fold-Desc}
+use Rattle.typed_values.specs.declared.desc.Desc.TheOpen.{Desc-F}
 use Rattle.typed_values.specs.declared.desc.Field.{Field}
+use Rattle.typed_values.specs.declared.desc.IntKind.{IntKind}
 use Rattle.typed_values.specs.declared.desc.Named.{Named}
 use Rattle.typed_values.specs.declared.desc.TaggedVariant.{TaggedVariant}
 use Rattle.typed_values.specs.declared.desc.Variant.{Variant}
 use Rattle.typed_values.specs.declared.desc.Presence.{Presence}
-use Rattle.typed_values.specs.declared.desc.Presence.TheVariants.{Required, Nullable, Skipped}
+use Rattle.typed_values.specs.declared.desc.Presence.TheVariants.{Required, Nullable, Skipped, Default}
 use Rattle.typed_values.specs.declared.table.Definition.{Definition}
-use Rattle.typed_values.specs.Definitions.{tagged_description, tagged_fields, tagged_name}
+use Rattle.typed_values.specs.DescBeside.{Beside, FieldBeside, TaggedBeside, VariantBeside, LevelBeside, made_of, field_with, variant_with, tagged_with}
 use Rattle.typed_values.specs.Order.{sorted_by}
-use Rattle.typed_values.specs.SchemaTable.{bare_names, format_of, least_shown, same_name, is_described}
-use Rattle.typed_values.specs.Levels.{DescLevel, FieldOf, TaggedOf, VariantOf}
+use Rattle.typed_values.specs.SchemaTable.{bare_names, default_of, format_of, least_shown, same_name, is_described}
+use Rattle.typed_values.specs.Levels.{DescLevel}
 
 -- the parts of a schema object
 abbrev pub Parts : Type 0
@@ -43,6 +43,7 @@ abbrev pub no_parts : Parts
 no_parts = record {
   title = None;
   description = None;
+  default = None;
   nullable = false;
   instance_type = None;
   format = None;
@@ -53,6 +54,7 @@ no_parts = record {
   array = None;
   object = None;
   reference = None;
+  extensions = [];
 }
 
 -- a schema object of one type
@@ -79,6 +81,11 @@ abbrev pub with_description : Option (List ℕ) → Parts → Parts
 with_description None s = s
 with_description (Some text) s = record (annotatable s) { description = Some text }
 
+-- parts with a default, where there is one
+abbrev pub with_default : Option Json → Parts → Parts
+with_default None s = s
+with_default (Some json) s = record (annotatable s) { default = Some json }
+
 -- the bounds of numbers, none where neither is given
 abbrev pub number_bounds : Option ℤ → Option ℤ → Option NumberBounds
 number_bounds None None = None
@@ -100,23 +107,27 @@ sketch parts = record { parts = parts; truth = None }
 
 -- a field with the schema of its type
 abbrev pub FieldSketch : Type 0
-FieldSketch = FieldOf Sketch
+FieldSketch = FieldBeside Sketch
 
 -- a tagged variant with the schemas of its fields
 abbrev pub TaggedSketch : Type 0
-TaggedSketch = TaggedOf FieldSketch
+TaggedSketch = TaggedBeside Sketch
 
 -- a variant with the schema of its payload
 abbrev pub VariantSketch : Type 0
-VariantSketch = VariantOf Sketch
+VariantSketch = VariantBeside Sketch
 
 -- the name of a property
 abbrev pub property_name : Property → List ℕ
 property_name p = (out-Property p).name
 
--- a field as a property, with its description
-abbrev pub property_of : FieldSketch → Property
-property_of f = roll-Property (record { name = f.name; schema = object_of (with_description f.description f.desc.parts) })
+-- parts as a property
+abbrev pub property : List ℕ → Parts → Property
+property name parts = roll-Property (record { name = name; schema = object_of parts })
+
+-- a field as a property, with its description and its default
+abbrev pub property_of : List Definition → FieldSketch → Property
+property_of table f = property f.name (with_default (default_of table f.presence f.desc.desc) (with_description f.description f.desc.made.parts))
 
 -- the names of the fields that are required
 abbrev pub required_names : List FieldSketch → List (List ℕ)
@@ -126,6 +137,7 @@ required_names (f ∷ fs) = with_required f.presence (required_names fs) where
   with_required Required names = f.name ∷ names
   with_required Nullable names = names
   with_required Skipped names = names
+  with_required (Default tree) names = names
 
 -- the schema of other properties, which admits none where unknown names are denied
 abbrev pub nothing_more : Bool → Option Schema
@@ -143,9 +155,9 @@ struct_of properties required deny = record (of_single types.Object) {
   object = Some (roll-ObjectParts (record { properties = properties; required = required; additional = nothing_more deny }));
 }
 
--- a struct of such fields, its properties and its required names in order
-abbrev pub struct_parts : List FieldSketch → Bool → Parts
-struct_parts fs deny = struct_of (sorted_by property_name (map property_of fs)) (sorted_by same_name (required_names fs)) deny
+-- an object of these properties, of which some are required, both in order
+abbrev pub struct_parts : List Property → List (List ℕ) → Bool → Parts
+struct_parts properties required deny = struct_of (sorted_by property_name properties) (sorted_by same_name required) deny
 
 -- a choice of some schemas
 abbrev pub choice_of : List Schema → Parts
@@ -203,87 +215,85 @@ map_of values = record (of_single types.Object) {
   object = Some (roll-ObjectParts (record { properties = []; required = []; additional = Some values }));
 }
 
--- a field that must be there
-abbrev pub required_field : List ℕ → Sketch → FieldSketch
-required_field name s = record { name = name; desc = s; presence = Required; description = None }
-
 -- the variants with payload: each an object of the one property, and of no other
 abbrev pub payload_choices : List VariantSketch → List Schema
 payload_choices [] = []
 payload_choices (v ∷ vs) = with_payload v.payload (payload_choices vs) where
-  with_payload : Option Sketch → List Schema → List Schema
+  with_payload : Option (Beside Sketch) → List Schema → List Schema
   with_payload None choices = choices
-  with_payload (Some s) choices = object_of (with_description v.description (struct_parts (required_field v.name s ∷ []) true)) ∷ choices
+  with_payload (Some s) choices = object_of (with_description v.description (struct_parts (property v.name s.made.parts ∷ []) (v.name ∷ []) true)) ∷ choices
 
 -- the choices of an external enumeration: those of its names without payload, and then each payload
 abbrev pub external_choices : List VariantSketch → List Schema
 external_choices vs = choices_of (bare_names vs) ++ payload_choices vs
 
 -- a tagged variant: an object of the tag, which has the variant's name alone, and of its fields
-abbrev pub tagged_choice : List ℕ → TaggedSketch → Schema
-tagged_choice tag v =
-    object_of (with_description v.description (struct_parts (required_field tag (sketch (enumerated (Words v.name ∷ []))) ∷ v.fields) false))
+abbrev pub tagged_choice : List Definition → List ℕ → TaggedSketch → Schema
+tagged_choice table tag v =
+    object_of (with_description v.description (struct_parts (property tag (enumerated (Words v.name ∷ [])) ∷ map (property_of table) v.fields) (tag ∷ required_names v.fields) false))
+
+-- a text of one character
+abbrev pub one_character : Parts
+one_character = record (of_single types.String) { string = length_bounds (Some 1) (Some 1) }
+
+-- a number of a kind, within bounds
+abbrev pub number_parts : IntKind → Option ℤ → Option ℤ → Parts
+number_parts kind min max = record (of_single types.Integer) { format = Some (format_of kind); number = number_bounds (least_shown kind min) max }
+
+-- a text whose length is within bounds
+abbrev pub text_parts : Option ℕ → Option ℕ → Option (List ℕ) → Parts
+text_parts min max format = record (of_single types.String) { format = format; string = length_bounds min max }
+
+-- a reference to a definition
+abbrev pub reference_parts : List ℕ → Parts
+reference_parts name = record no_parts { reference = Some (codes "#/components/schemas/" ++ name) }
 
 -- one row for each descriptor
-abbrev pub sketch_step : Desc-F Sketch FieldSketch TaggedSketch VariantSketch → Sketch
-sketch_step Desc-F.Any = all_or_none true
-sketch_step Desc-F.Never = all_or_none false
-sketch_step Desc-F.Null = sketch (of_single types.Null)
-sketch_step Desc-F.Bool = sketch (of_single types.Boolean)
-sketch_step Desc-F.Char = sketch (record (of_single types.String) { string = length_bounds (Some 1) (Some 1) })
-sketch_step (Desc-F.Int kind min max) =
-    sketch (record (of_single types.Integer) { format = Some (format_of kind); number = number_bounds (least_shown kind min) max })
-sketch_step (Desc-F.Text min max format) = sketch (record (of_single types.String) { format = format; string = length_bounds min max })
-sketch_step (Desc-F.Enumeration ns) = sketch (enumeration ns)
-sketch_step (Desc-F.Option s) = sketch (with_null s.parts)
-sketch_step (Desc-F.List s min max) = sketch (list_of (object_of s.parts) min max)
-sketch_step (Desc-F.Map s) = sketch (map_of (other_members s))
-sketch_step (Desc-F.Struct fs deny) =
-    sketch (struct_parts fs deny)
-sketch_step (Desc-F.External vs) = sketch (one_of (external_choices vs))
-sketch_step (Desc-F.Tagged tag vs) = sketch (one_of (map (tagged_choice tag) vs))
-sketch_step (Desc-F.Untagged ss) = sketch (choice_of (map (λ s. object_of s.parts) ss))
-sketch_step (Desc-F.Ref name) = sketch (record no_parts { reference = Some (codes "#/components/schemas/" ++ name) })
-
--- a field of one level, with the sketch of its type
-abbrev pub field_sketch : Field-F Sketch FieldSketch TaggedSketch VariantSketch → FieldSketch
-field_sketch f = record { name = f.name; desc = f.desc; presence = f.presence; description = f.description }
-
--- a tagged variant of one level
-abbrev pub tagged_sketch : TaggedVariant-F Sketch FieldSketch TaggedSketch VariantSketch → TaggedSketch
-tagged_sketch v = record { name = v.name; description = v.description; fields = v.fields }
-
--- a variant of one level
-abbrev pub variant_sketch : Variant-F Sketch FieldSketch TaggedSketch VariantSketch → VariantSketch
-variant_sketch v = record { name = v.name; description = v.description; payload = v.payload }
+abbrev pub sketch_step : List Definition → LevelBeside Sketch → Sketch
+sketch_step table Desc-F.Any = all_or_none true
+sketch_step table Desc-F.Never = all_or_none false
+sketch_step table Desc-F.Null = sketch (of_single types.Null)
+sketch_step table Desc-F.Bool = sketch (of_single types.Boolean)
+sketch_step table Desc-F.Char = sketch one_character
+sketch_step table (Desc-F.Int kind min max) = sketch (number_parts kind min max)
+sketch_step table (Desc-F.Text min max format) = sketch (text_parts min max format)
+sketch_step table (Desc-F.Enumeration ns) = sketch (enumeration ns)
+sketch_step table (Desc-F.Option s) = sketch (with_null s.made.parts)
+sketch_step table (Desc-F.List s min max) = sketch (list_of (object_of s.made.parts) min max)
+sketch_step table (Desc-F.Map s) = sketch (map_of (other_members s.made))
+sketch_step table (Desc-F.Struct fs deny) = sketch (struct_parts (map (property_of table) fs) (required_names fs) deny)
+sketch_step table (Desc-F.External vs) = sketch (one_of (external_choices vs))
+sketch_step table (Desc-F.Tagged tag vs) = sketch (one_of (map (tagged_choice table tag) vs))
+sketch_step table (Desc-F.Untagged ss) = sketch (choice_of (map (λ s. object_of s.made.parts) ss))
+sketch_step table (Desc-F.Ref name) = sketch (reference_parts name)
 
 -- the sketch of a descriptor's schema
-abbrev pub schema_sketch : Desc → Sketch
-schema_sketch = fold-Desc Sketch FieldSketch TaggedSketch VariantSketch sketch_step field_sketch tagged_sketch variant_sketch
+abbrev pub schema_sketch : List Definition → Desc → Sketch
+schema_sketch table = made_of (sketch_step table)
 
 -- the parts of a descriptor's schema
-abbrev pub schema_parts : Desc → Parts
-schema_parts d = (schema_sketch d).parts
+abbrev pub schema_parts : List Definition → Desc → Parts
+schema_parts table d = (schema_sketch table d).parts
 
 -- a field with the sketch of its type
-abbrev pub sketch_of_field : Field → FieldSketch
-sketch_of_field f = record { name = f.name; desc = schema_sketch f.desc; presence = f.presence; description = f.description }
+abbrev pub sketch_of_field : List Definition → Field → FieldSketch
+sketch_of_field table = field_with (schema_sketch table)
 
 -- a variant with the sketch of its payload
-abbrev pub sketch_of_variant : Variant → VariantSketch
-sketch_of_variant v = record { name = v.name; description = v.description; payload = option_map schema_sketch v.payload }
+abbrev pub sketch_of_variant : List Definition → Variant → VariantSketch
+sketch_of_variant table = variant_with (schema_sketch table)
 
 -- a tagged variant with the sketches of its fields
-abbrev pub sketch_of_tagged : TaggedVariant → TaggedSketch
-sketch_of_tagged v = record { name = tagged_name v; description = tagged_description v; fields = map sketch_of_field (tagged_fields v) }
+abbrev pub sketch_of_tagged : List Definition → TaggedVariant → TaggedSketch
+sketch_of_tagged table = tagged_with (schema_sketch table)
 
 -- the schema of a descriptor
-abbrev pub schema_value : Desc → Schema
-schema_value d = object_of (schema_parts d)
+abbrev pub schema_value : List Definition → Desc → Schema
+schema_value table d = object_of (schema_parts table d)
 
 -- the schema of a definition, with its description
-abbrev pub definition_value : Definition → Schema
-definition_value e = object_of (with_description e.description (schema_parts e.desc))
+abbrev pub definition_value : List Definition → Definition → Schema
+definition_value table e = object_of (with_description e.description (schema_parts table e.desc))
 
 -- what stands in a header for a descriptor: an option is written as the schema of what it is over
 abbrev pub in_header : Desc → Desc

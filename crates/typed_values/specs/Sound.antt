@@ -1,8 +1,7 @@
--- What checks of a table give: at one value, steps come to an end.
+-- What it is for a table to be guarded, in steps: at one value they come to an end.
 use Rattle.std.specs.Prelude.{ℕ, zero, suc, ⊤, List, [], ◌∷◌, MatchOption}
 use Rattle.typed_values.specs.declared.desc.Desc.{Desc, out-Desc}
 use Rattle.typed_values.specs.declared.desc.Desc.TheOpen.{Desc-F}
-use Rattle.typed_values.specs.declared.desc.Field.{Field}
 use Rattle.typed_values.specs.declared.table.Definition.{Definition}
 use Rattle.typed_values.specs.Definitions.{definition}
 use Rattle.typed_values.specs.Denotes.{room}
@@ -14,11 +13,11 @@ abbrev pub EachRests : (Desc → Type 0) → List Desc → Type 0
 EachRests Next [] = ⊤
 EachRests Next (d ∷ ds) = Next d × EachRests Next ds
 
--- one row for each descriptor: what is said of those that it leads to at one value
+-- one row for each descriptor: what is said of those that it leads to at one value; a name without a definition leads nowhere
 abbrev pub RestsBy : List Definition → (Desc → Type 0) → DescLevel → Type 0
 RestsBy table Next (Desc-F.Option d) = Next d
 RestsBy table Next (Desc-F.Untagged ds) = EachRests Next ds
-RestsBy table Next (Desc-F.Ref name) = MatchOption (definition table name) ⊥ Next
+RestsBy table Next (Desc-F.Ref name) = MatchOption (definition table name) ⊤ Next
 RestsBy table Next _ = ⊤
 
 -- fewer than n steps lead from a descriptor to one that is no reference, no option and no untagged choice

@@ -1,5 +1,6 @@
 ghost use Rattle.std.specs.Prelude.{◌≡◌, ◌↔◌, IsTrue, IsOk, IfErr, IfSome, IfNone, MatchBool, Contains, map};
 ghost use Rattle.schema_values.specs.Sound.{AreDistinct};
+ghost use Rattle.typed_values.specs.declared.check.TableError.TheVariants.{BadPresence};
 ghost use Rattle.typed_values.specs.declared.table.Definition.{Definition};
 ghost use Rattle.typed_values.specs.Causes.{AppliesToDesc, AppliesToTable, IsFirst, IsFirstOnCycle};
 ghost use Rattle.typed_values.specs.Checks as checks;
@@ -33,7 +34,8 @@ pub enum TableError<'a> {
     /// A least bound above the greatest, an integer's bound outside its kind, or more than 2^32 names,
     /// variants or alternatives.
     BadRange,
-    /// `Nullable` over no option, or `Skipped` over a descriptor that takes null.
+    /// `Nullable` over no option, `Skipped` over a descriptor that takes null, or a `Default` that does not
+    /// fit.
     BadPresence,
 }
 
@@ -73,8 +75,9 @@ pub fn check_table(table: &DescTable) -> Result<(), TableError<'_>>
     Ok(())
 }
 
-/// Whether a descriptor may be used with a table, in the same way.
+/// Whether a descriptor may be used with a table that passes its check, in the same way.
 pub fn check_desc<'a>(table: &'a DescTable, desc: &'a Desc) -> Result<(), TableError<'a>>
+    requires { TablePasses table.now }
     ensures ok { IsOk result ↔ DescPasses table.now desc.now }
     ensures first { IfErr result (IsFirst (AppliesToDesc table.now desc.now)) }
 {
@@ -103,6 +106,7 @@ pub fn check_desc<'a>(table: &'a DescTable, desc: &'a Desc) -> Result<(), TableE
 }
 
 fn applies_somewhere(error: TableError, table: &DescTable) -> bool
+    requires { error ≡ BadPresence → IsGuarded table.now }
     ensures { IsTrue result ↔
         ((e : Definition) × Contains table.now e × AppliesToDesc table.now e.desc error.entry) }
 {

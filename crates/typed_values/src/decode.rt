@@ -17,7 +17,7 @@ use crate::fault::{DecodeError, FaultKind, Place, Stop};
 use crate::members::Members;
 use crate::order::in_order;
 use crate::scalars::{decode_bool, decode_char, decode_int, decode_name, decode_null, decode_text};
-use crate::scope::Scope;
+use crate::scope::Decoder;
 use crate::table::DescTable;
 use crate::tree::{Pair, Tree};
 use schema_values::{Boxed, Json, List, Member};
@@ -39,13 +39,13 @@ pub fn decode_json(
     ensures refused { IfErr result (λ error. IfFault error
         (λ fault. (tree : Tree) → JsonDenotes table.now desc.now json.now tree → ⊥)) }
 {
-    match Scope::new(table, desc).decode_at(alloc, desc, json) {
+    match Decoder::new(table, desc).decode_at(alloc, desc, json) {
         Ok(tree) => Ok(tree),
         Err(stop) => Err(stop.into_error(alloc)),
     }
 }
 
-impl Scope<'_> {
+impl Decoder<'_> {
     /// Decodes a value under a descriptor that stands in the table or in the whole descriptor.
     #[cycle(decode)]
     pub(crate) fn decode_at(&self, alloc: Global, desc: &Desc, json: &Json) -> Result<Tree, Stop>
@@ -79,7 +79,7 @@ impl Scope<'_> {
             ),
             Desc::Ref(name) => match self.table.find(name) {
                 Some(definition) => self.decode_at(alloc, definition, json),
-                None => unreachable!(),
+                None => Err(Stop::refused(alloc, FaultKind::WrongKind)),
             },
         }
     }
@@ -268,8 +268,8 @@ impl Scope<'_> {
             Ok(tree) => tree,
             Err(stop) => return Err(stop.below(Place::Name(field.name.copy(alloc)?))),
         };
-        match field.presence {
-            Presence::Required | Presence::Nullable => Ok(tree),
+        match &field.presence {
+            Presence::Required | Presence::Nullable | Presence::Default(_) => Ok(tree),
             Presence::Skipped => Ok(Tree::Some(Boxed::new(alloc, tree)?)),
         }
     }
@@ -278,12 +278,13 @@ impl Scope<'_> {
     fn absent(&self, alloc: Global, field: &Field) -> Result<Tree, Stop>
         ensures { Tells result (if_absent field.now.presence field.now.name) }
     {
-        match field.presence {
+        match &field.presence {
             Presence::Required => {
                 let missing = FaultKind::Missing(field.name.copy(alloc)?);
                 Err(Stop::refused(alloc, missing))
             }
             Presence::Nullable | Presence::Skipped => Ok(Tree::None),
+            Presence::Default(tree) => Ok(tree.copy(alloc)?),
         }
     }
 

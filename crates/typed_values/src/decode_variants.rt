@@ -13,7 +13,7 @@ use crate::desc::{TaggedVariant, Variant};
 use crate::fault::{FaultKind, Place, Stop};
 use crate::members::Members;
 use crate::order::find_named;
-use crate::scope::Scope;
+use crate::scope::Decoder;
 use crate::tree::Tree;
 use schema_values::{Boxed, Json, Member, Text};
 use std::alloc::Global;
@@ -38,7 +38,7 @@ fn are_all_named(name: &Text, members: &[Member]) -> bool
     members.iter().all(|member| member.name.equals(name))
 }
 
-impl Scope<'_> {
+impl Decoder<'_> {
     /// Decodes the name of a variant without payload, or an object of one name, that of a variant with
     /// payload.
     #[cycle(decode)]

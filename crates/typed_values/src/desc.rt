@@ -1,5 +1,6 @@
 ghost use Rattle.std.specs.Prelude.{◌≡◌, IfOk};
 
+use crate::tree::Tree;
 use schema_values::{Boxed, List, Text};
 use std::alloc::{AllocError, Global};
 
@@ -109,7 +110,7 @@ pub struct Field {
 }
 
 /// What stands for a field that is absent.
-#[derive(Clone, Copy, Debug, PartialEq, Eq)]
+#[derive(Drop)]
 pub enum Presence {
     /// The field must be there.
     Required,
@@ -117,6 +118,8 @@ pub enum Presence {
     Nullable,
     /// An absent field is `None`, one that is there is `Some`, null is refused, and `None` is not written.
     Skipped,
+    /// An absent field has this value, which fits the field's descriptor and is always written.
+    Default(Tree),
 }
 
 impl Desc {
@@ -228,9 +231,23 @@ impl Field {
         Ok(Field {
             name: self.name.copy(alloc)?,
             desc: self.desc.copy(alloc)?,
-            presence: self.presence,
+            presence: self.presence.copy(alloc)?,
             description: copy_text(alloc, &self.description)?,
         })
+    }
+}
+
+impl Presence {
+    /// A presence equal to this one.
+    pub fn copy(&self, alloc: Global) -> Result<Presence, AllocError>
+        ensures { IfOk result (λ copy. copy ≡ self.now) }
+    {
+        match self {
+            Presence::Required => Ok(Presence::Required),
+            Presence::Nullable => Ok(Presence::Nullable),
+            Presence::Skipped => Ok(Presence::Skipped),
+            Presence::Default(tree) => Ok(Presence::Default(tree.copy(alloc)?)),
+        }
     }
 }
 

@@ -34,6 +34,19 @@ pub fn encode_json(
     ensures again { ReachesNoUntagged table.now desc.now
         → IfOk result (λ json. JsonDenotes table.now desc.now json tree.now) }
 {
+    written(alloc, table, desc, tree)
+}
+
+/// The same of any tree and any descriptor, where the table passes the check.
+pub(crate) fn written(
+    alloc: Global,
+    table: &DescTable,
+    desc: &Desc,
+    tree: &Tree,
+) -> Result<Json, AllocError>
+    requires { TablePasses table.now }
+    ensures { IfOk result (λ json. json ≡ json_of_tree table.now desc.now tree.now) }
+{
     Scope::new(table, desc).encode_at(alloc, desc, tree)
 }
 
@@ -69,11 +82,11 @@ fn encode_name(alloc: Global, names: &[Named], tree: &Tree) -> Result<Json, Allo
     }
 }
 
-fn is_left_out(presence: Presence, tree: &Tree) -> bool
-    ensures { result ≡ meant.is_left_out presence (meant.is_none_level (out-Tree tree.now)) }
+fn is_left_out(presence: &Presence, tree: &Tree) -> bool
+    ensures { result ≡ meant.is_left_out presence.now (meant.is_none_level (out-Tree tree.now)) }
 {
     match presence {
-        Presence::Required | Presence::Nullable => false,
+        Presence::Required | Presence::Nullable | Presence::Default(_) => false,
         Presence::Skipped => is_none(tree),
     }
 }
@@ -238,7 +251,7 @@ impl Scope<'_> {
             (written_under self.now.table.now self.now.whole.now) fields.now trees.now) }
     {
         for (field, tree) in fields.iter().zip(trees) {
-            if !is_left_out(field.presence, tree) {
+            if !is_left_out(&field.presence, tree) {
                 let value = self.encode_field(alloc, field, tree)?;
                 let name = field.name.copy(alloc)?;
                 members.push(Member { name, value })?;
@@ -253,8 +266,10 @@ impl Scope<'_> {
         ensures { IfOk result (λ json. json ≡ written_under self.now.table.now self.now.whole.now tree.now
             (field_desc field.now)) }
     {
-        match field.presence {
-            Presence::Required | Presence::Nullable => self.encode_at(alloc, &field.desc, tree),
+        match &field.presence {
+            Presence::Required | Presence::Nullable | Presence::Default(_) => {
+                self.encode_at(alloc, &field.desc, tree)
+            }
             Presence::Skipped => self.encode_option(alloc, &field.desc, tree),
         }
     }

@@ -1,6 +1,6 @@
 ghost use Rattle.std.specs.Prelude.{◌≡◌, ◌↔◌, IsTrue};
 
-use crate::desc::{Desc, Field, IntKind, Named, TaggedVariant, Variant};
+use crate::desc::{Desc, Field, IntKind, Named, Presence, TaggedVariant, Variant};
 use schema_values::Text;
 
 impl Desc {
@@ -110,9 +110,24 @@ impl Field {
         ensures { IsTrue result ↔ (self.now ≡ other.now) }
     {
         self.name.equals(&other.name)
-            && self.presence == other.presence
+            && self.presence.equals(&other.presence)
             && same_text(&self.description, &other.description)
             && self.desc.equals(&other.desc)
+    }
+}
+
+impl Presence {
+    /// Whether two presences are the same.
+    pub fn equals(&self, other: &Presence) -> bool
+        ensures { IsTrue result ↔ (self.now ≡ other.now) }
+    {
+        match (self, other) {
+            (Presence::Required, Presence::Required) => true,
+            (Presence::Nullable, Presence::Nullable) => true,
+            (Presence::Skipped, Presence::Skipped) => true,
+            (Presence::Default(tree), Presence::Default(other)) => tree.equals(other),
+            _ => false,
+        }
     }
 }
 

@@ -6,21 +6,30 @@ use std::alloc::{AllocError, Global};
 /// Why a value is not decoded. A payload is the name of a field.
 #[derive(Debug, Drop)]
 pub enum FaultKind {
+    /// A field of this name that must be there is absent, or a tag is.
     Missing(Text),
+    /// A member of this name, where no other names than those of the fields are taken.
     Unknown(Text),
+    /// A value of another kind.
     WrongKind,
+    /// A number outside its kind or its bounds.
     OutOfRange,
+    /// A text with too few or too many characters, or a list with too few or too many items.
     BadLength,
     /// A text that is none of the names.
     NotListed,
+    /// A value that no alternative takes.
     NoAlternative,
+    /// Bytes that are no JSON.
     NotJson,
 }
 
 /// A fault, and the path to it: `.` at the root, else names joined by dots, with `[k]` for item k of a list.
 #[derive(Debug, Drop)]
 pub struct Fault {
+    /// The path.
     pub path: Text,
+    /// What is wrong there.
     pub kind: FaultKind,
 }
 

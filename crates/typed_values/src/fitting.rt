@@ -3,6 +3,7 @@ ghost use Rattle.typed_values.specs.declared.tree.Tree.{out-Tree};
 ghost use Rattle.typed_values.specs.Checks.{TablePasses, DescPasses};
 ghost use Rattle.typed_values.specs.Fits as meant;
 ghost use Rattle.typed_values.specs.Fits.{Fits, fits_under, field_desc, payload_of, struct_of};
+ghost use Rattle.typed_values.specs.Guarded.{IsGuarded};
 ghost use Rattle.typed_values.specs.Parts.{IsPart};
 ghost use Rattle.typed_values.specs.Rows.{AreParts, AreFieldsOf, ArePayloadsOf, AreVariantsOf};
 
@@ -16,6 +17,14 @@ use crate::tree::{Pair, Tree};
 pub fn fits(table: &DescTable, desc: &Desc, tree: &Tree) -> bool
     requires table { TablePasses table.now }
     requires desc { DescPasses table.now desc.now }
+    ensures { IsTrue result ↔ Fits table.now desc.now tree.now }
+{
+    is_value(table, desc, tree)
+}
+
+/// The same in any guarded table, so that a check may ask it.
+pub(crate) fn is_value(table: &DescTable, desc: &Desc, tree: &Tree) -> bool
+    requires { IsGuarded table.now }
     ensures { IsTrue result ↔ Fits table.now desc.now tree.now }
 {
     Scope::new(table, desc).fits_at(desc, tree)
@@ -224,8 +233,10 @@ impl Scope<'_> {
         requires { IsPart self.now.table.now self.now.whole.now field.now.desc }
         ensures { result ≡ fits_under self.now.table.now self.now.whole.now tree.now (field_desc field.now) }
     {
-        match field.presence {
-            Presence::Required | Presence::Nullable => self.fits_at(&field.desc, tree),
+        match &field.presence {
+            Presence::Required | Presence::Nullable | Presence::Default(_) => {
+                self.fits_at(&field.desc, tree)
+            }
             Presence::Skipped => self.option_fits(&field.desc, tree),
         }
     }

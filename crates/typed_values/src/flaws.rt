@@ -2,16 +2,19 @@
 ghost use Rattle.std.specs.Prelude.{◌≡◌, ◌≢◌, ◌↔◌, IsTrue, map, Contains};
 ghost use Rattle.std.specs.List.{AllByRecursion, list_any};
 ghost use Rattle.schema_values.specs.Sound.{AreDistinct};
+ghost use Rattle.typed_values.specs.declared.check.TableError.TheVariants.{BadPresence};
 ghost use Rattle.typed_values.specs.declared.desc.Field.{Field};
 ghost use Rattle.typed_values.specs.declared.desc.TaggedVariant.{TaggedVariant};
 ghost use Rattle.typed_values.specs.Causes.{Tells};
 ghost use Rattle.typed_values.specs.Checks as meant;
 ghost use Rattle.typed_values.specs.Definitions.{tagged_fields};
+ghost use Rattle.typed_values.specs.Guarded.{IsGuarded};
 ghost use Rattle.typed_values.specs.Checks.{HasDoubledName, names_of_fields, IsDangling, IsEmptyChoice};
 ghost use Rattle.typed_values.specs.Checks.{IsNullOfNull, HasTagClash, IsOption, IsBadField, HasBadPresence};
 
 use crate::check::TableError;
 use crate::desc::{Desc, Field, Presence, TaggedVariant, Variant};
+use crate::fitting::is_value;
 use crate::order::HasName;
 use crate::ranges::are_bounds_right;
 use crate::search::takes_null;
@@ -20,6 +23,7 @@ use schema_values::Text;
 
 /// Whether what an error tells holds of a descriptor.
 pub(crate) fn tells(error: TableError, table: &DescTable, desc: &Desc) -> bool
+    requires { error ≡ BadPresence → IsGuarded table.now }
     ensures { IsTrue result ↔ Tells error.entry table.now desc.now }
 {
     match error {
@@ -142,6 +146,7 @@ fn some_field_named(name: &Text, variants: &[TaggedVariant]) -> bool
 }
 
 fn has_bad_presence(table: &DescTable, desc: &Desc) -> bool
+    requires { IsGuarded table.now }
     ensures { IsTrue result ↔ HasBadPresence table.now desc.now }
 {
     match desc {
@@ -152,6 +157,7 @@ fn has_bad_presence(table: &DescTable, desc: &Desc) -> bool
 }
 
 fn some_bad_variant(table: &DescTable, variants: &[TaggedVariant]) -> bool
+    requires { IsGuarded table.now }
     ensures { IsTrue result ↔ ((v : TaggedVariant) × (f : Field) × Contains variants.now v
         × Contains (tagged_fields v) f × IsBadField table.now f) }
 {
@@ -164,6 +170,7 @@ fn some_bad_variant(table: &DescTable, variants: &[TaggedVariant]) -> bool
 }
 
 fn some_bad_field(table: &DescTable, fields: &[Field]) -> bool
+    requires { IsGuarded table.now }
     ensures { IsTrue result ↔ ((f : Field) × Contains fields.now f × IsBadField table.now f) }
 {
     for field in fields {
@@ -175,12 +182,14 @@ fn some_bad_field(table: &DescTable, fields: &[Field]) -> bool
 }
 
 fn is_bad_field(table: &DescTable, field: &Field) -> bool
+    requires { IsGuarded table.now }
     ensures { IsTrue result ↔ IsBadField table.now field.now }
 {
-    match field.presence {
+    match &field.presence {
         Presence::Required => false,
         Presence::Nullable => !is_option(&field.desc),
         Presence::Skipped => takes_null(table, &field.desc),
+        Presence::Default(tree) => !is_value(table, &field.desc, tree),
     }
 }
 

@@ -1,11 +1,13 @@
 // Whether what an error tells holds of a descriptor that stands in another.
 ghost use Rattle.std.specs.Prelude.{◌≡◌, ◌↔◌, IsTrue, Some, Contains};
+ghost use Rattle.typed_values.specs.declared.check.TableError.TheVariants.{BadPresence};
 ghost use Rattle.typed_values.specs.declared.desc.Desc.{Desc};
 ghost use Rattle.typed_values.specs.declared.desc.Field.{Field};
 ghost use Rattle.typed_values.specs.declared.desc.TaggedVariant.{TaggedVariant};
 ghost use Rattle.typed_values.specs.declared.desc.Variant.{Variant};
 ghost use Rattle.typed_values.specs.Causes.{AppliesToDesc};
 ghost use Rattle.typed_values.specs.Definitions.{tagged_fields};
+ghost use Rattle.typed_values.specs.Guarded.{IsGuarded};
 
 use crate::check::TableError;
 use crate::desc::{Desc, Field, TaggedVariant, Variant};
@@ -15,6 +17,7 @@ use crate::table::DescTable;
 /// Whether an error applies to a descriptor or to one that stands in it.
 #[cycle(applies)]
 pub(crate) fn applies(error: TableError, table: &DescTable, desc: &Desc) -> bool
+    requires { error ≡ BadPresence → IsGuarded table.now }
     ensures { IsTrue result ↔ AppliesToDesc table.now desc.now error.entry }
 {
     if tells(error, table, desc) {
@@ -34,6 +37,7 @@ pub(crate) fn applies(error: TableError, table: &DescTable, desc: &Desc) -> bool
 
 #[cycle(applies)]
 fn applies_to_some_field(error: TableError, table: &DescTable, fields: &[Field]) -> bool
+    requires { error ≡ BadPresence → IsGuarded table.now }
     ensures { IsTrue result ↔
         ((f : Field) × Contains fields.now f × AppliesToDesc table.now f.desc error.entry) }
 {
@@ -47,6 +51,7 @@ fn applies_to_some_field(error: TableError, table: &DescTable, fields: &[Field])
 
 #[cycle(applies)]
 fn applies_to_some_payload(error: TableError, table: &DescTable, variants: &[Variant]) -> bool
+    requires { error ≡ BadPresence → IsGuarded table.now }
     ensures { IsTrue result ↔ ((v : Variant) × (d : Desc) × Contains variants.now v × (v.payload ≡ Some d)
         × AppliesToDesc table.now d error.entry) }
 {
@@ -62,6 +67,7 @@ fn applies_to_some_payload(error: TableError, table: &DescTable, variants: &[Var
 
 #[cycle(applies)]
 fn applies_to_some_variant(error: TableError, table: &DescTable, variants: &[TaggedVariant]) -> bool
+    requires { error ≡ BadPresence → IsGuarded table.now }
     ensures { IsTrue result ↔ ((v : TaggedVariant) × (f : Field) × Contains variants.now v
         × Contains (tagged_fields v) f × AppliesToDesc table.now f.desc error.entry) }
 {
@@ -75,6 +81,7 @@ fn applies_to_some_variant(error: TableError, table: &DescTable, variants: &[Tag
 
 #[cycle(applies)]
 fn applies_to_some(error: TableError, table: &DescTable, descs: &[Desc]) -> bool
+    requires { error ≡ BadPresence → IsGuarded table.now }
     ensures { IsTrue result ↔ ((d : Desc) × Contains descs.now d × AppliesToDesc table.now d error.entry) }
 {
     for desc in descs {

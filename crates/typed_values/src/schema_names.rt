@@ -15,9 +15,9 @@ pub(crate) fn enumeration_parts(alloc: Global, names: &[Named]) -> Result<Schema
     ensures { IfOk result (λ parts. out-SchemaObject parts ≡ meant.enumeration names.now) }
 {
     if is_any_described(names) {
-        return Ok(one_of(choices_of(alloc, names)?));
+        return Ok(one_of(alloc, choices_of(alloc, names)?));
     }
-    Ok(enumerated(texts_of(alloc, names)?))
+    Ok(enumerated(alloc, texts_of(alloc, names)?))
 }
 
 fn is_any_described(names: &[Named]) -> bool
@@ -26,20 +26,20 @@ fn is_any_described(names: &[Named]) -> bool
     names.iter().any(|named| named.description.is_some())
 }
 
-pub(crate) fn enumerated(values: List<Json>) -> SchemaObject
+pub(crate) fn enumerated(alloc: Global, values: List<Json>) -> SchemaObject
     ensures { out-SchemaObject result ≡ meant.enumerated values }
 {
-    let mut parts = of_single(InstanceType::String);
+    let mut parts = of_single(alloc, InstanceType::String);
     parts.enum_values = Some(values);
     parts
 }
 
-pub(crate) fn one_of(choices: List<Schema>) -> SchemaObject
+pub(crate) fn one_of(alloc: Global, choices: List<Schema>) -> SchemaObject
     ensures { out-SchemaObject result ≡ meant.one_of choices }
 {
     let mut subschemas = no_subschemas();
     subschemas.one_of = Some(choices);
-    let mut parts = no_parts();
+    let mut parts = no_parts(alloc);
     parts.subschemas = Some(subschemas);
     parts
 }
@@ -86,7 +86,7 @@ fn plain_choice(alloc: Global, texts: List<Json>) -> Result<List<Schema>, AllocE
 {
     let mut choices = List::new(alloc);
     if !texts.is_empty() {
-        choices.push(object_of(alloc, enumerated(texts))?)?;
+        choices.push(object_of(alloc, enumerated(alloc, texts))?)?;
     }
     Ok(choices)
 }
@@ -97,6 +97,6 @@ fn described_choice(alloc: Global, named: &Named) -> Result<Schema, AllocError>
 {
     let mut texts = List::new(alloc);
     texts.push(Json::Text(named.name.copy(alloc)?))?;
-    let parts = with_description(alloc, &named.description, enumerated(texts))?;
+    let parts = with_description(alloc, &named.description, enumerated(alloc, texts))?;
     object_of(alloc, parts)
 }

@@ -5,8 +5,8 @@ ghost use Rattle.schema_values.specs.declared.schema.Subschemas.{out-Subschemas}
 ghost use Rattle.typed_values.specs.Schemas as meant;
 
 use schema_values::{
-    Boxed, InstanceType, InstanceTypes, LengthBounds, List, NumberBounds, Schema, SchemaObject,
-    Subschemas, Text,
+    Boxed, InstanceType, InstanceTypes, Json, LengthBounds, List, NumberBounds, Schema,
+    SchemaObject, Subschemas, Text,
 };
 use std::alloc::{AllocError, Global};
 
@@ -16,12 +16,13 @@ pub(crate) fn object_of(alloc: Global, parts: SchemaObject) -> Result<Schema, Al
     Ok(Schema::Object(Boxed::new(alloc, parts)?))
 }
 
-pub(crate) fn no_parts() -> SchemaObject
+pub(crate) fn no_parts(alloc: Global) -> SchemaObject
     ensures { out-SchemaObject result ≡ meant.no_parts }
 {
     SchemaObject {
         title: None,
         description: None,
+        default: None,
         nullable: false,
         instance_type: None,
         format: None,
@@ -32,6 +33,7 @@ pub(crate) fn no_parts() -> SchemaObject
         array: None,
         object: None,
         reference: None,
+        extensions: List::new(alloc),
     }
 }
 
@@ -46,10 +48,10 @@ pub(crate) fn no_subschemas() -> Subschemas
     }
 }
 
-pub(crate) fn of_single(instance_type: InstanceType) -> SchemaObject
+pub(crate) fn of_single(alloc: Global, instance_type: InstanceType) -> SchemaObject
     ensures { out-SchemaObject result ≡ meant.of_single instance_type }
 {
-    let mut parts = no_parts();
+    let mut parts = no_parts(alloc);
     parts.instance_type = Some(InstanceTypes::Single(instance_type));
     parts
 }
@@ -64,7 +66,7 @@ fn annotatable(alloc: Global, parts: SchemaObject) -> Result<SchemaObject, Alloc
     }
     let mut all_of = List::new(alloc);
     all_of.push(object_of(alloc, parts)?)?;
-    let mut annotated = no_parts();
+    let mut annotated = no_parts(alloc);
     let mut subschemas = no_subschemas();
     subschemas.all_of = Some(all_of);
     annotated.subschemas = Some(subschemas);
@@ -92,6 +94,24 @@ pub(crate) fn with_description(
         Some(text) => {
             let mut parts = annotatable(alloc, parts)?;
             parts.description = Some(text.copy(alloc)?);
+            Ok(parts)
+        }
+    }
+}
+
+pub(crate) fn with_default(
+    alloc: Global,
+    default: Option<Json>,
+    parts: SchemaObject,
+) -> Result<SchemaObject, AllocError>
+    ensures { IfOk result (λ defaulted. out-SchemaObject defaulted ≡ meant.with_default default
+        (out-SchemaObject parts)) }
+{
+    match default {
+        None => Ok(parts),
+        Some(value) => {
+            let mut parts = annotatable(alloc, parts)?;
+            parts.default = Some(value);
             Ok(parts)
         }
     }

@@ -2,7 +2,6 @@ ghost use Rattle.std.specs.Prelude.{◌≡◌, IfOk, false};
 ghost use Rattle.schema_values.specs.declared.schema.SchemaObject.{out-SchemaObject};
 ghost use Rattle.typed_values.specs.SchemaTable as table;
 ghost use Rattle.typed_values.specs.Schemas as meant;
-ghost use Rattle.typed_values.specs.declared.desc.Desc.TheOpen.{Desc-F};
 
 use crate::desc::{IntKind, copy_text};
 use crate::schema_parts::{length_bounds, no_parts, no_subschemas, number_bounds, of_single};
@@ -40,21 +39,21 @@ fn least_shown(kind: IntKind, min: &Option<i128>) -> Option<i128>
 }
 
 /// `not` of every value.
-pub(crate) fn never_parts() -> SchemaObject
+pub(crate) fn never_parts(alloc: Global) -> SchemaObject
     ensures { out-SchemaObject result ≡ (meant.all_or_none false).parts }
 {
     let mut subschemas = no_subschemas();
     subschemas.not = Some(Schema::Bool(true));
-    let mut parts = no_parts();
+    let mut parts = no_parts(alloc);
     parts.subschemas = Some(subschemas);
     parts
 }
 
 /// A text of one character.
-pub(crate) fn char_parts() -> SchemaObject
-    ensures { out-SchemaObject result ≡ (meant.sketch_step Desc-F.Char).parts }
+pub(crate) fn char_parts(alloc: Global) -> SchemaObject
+    ensures { out-SchemaObject result ≡ meant.one_character }
 {
-    let mut parts = of_single(InstanceType::String);
+    let mut parts = of_single(alloc, InstanceType::String);
     parts.string = length_bounds(Some(1), Some(1));
     parts
 }
@@ -63,7 +62,7 @@ pub(crate) fn char_parts() -> SchemaObject
 pub(crate) fn map_parts(alloc: Global, values: Schema) -> SchemaObject
     ensures { out-SchemaObject result ≡ meant.map_of values }
 {
-    let mut parts = of_single(InstanceType::Object);
+    let mut parts = of_single(alloc, InstanceType::Object);
     parts.object = Some(ObjectParts {
         properties: List::new(alloc),
         required: List::new(alloc),
@@ -79,11 +78,11 @@ pub(crate) fn int_parts(
     max: &Option<i128>,
 ) -> Result<SchemaObject, AllocError>
     ensures { IfOk result (λ parts. out-SchemaObject parts
-        ≡ (meant.sketch_step (Desc-F.Int kind min.now max.now)).parts) }
+        ≡ meant.number_parts kind min.now max.now) }
 {
     let mut format = Text::new(alloc);
     format.push_ascii(format_of(kind))?;
-    let mut parts = of_single(InstanceType::Integer);
+    let mut parts = of_single(alloc, InstanceType::Integer);
     parts.format = Some(format);
     parts.number = number_bounds(least_shown(kind, min), *max);
     Ok(parts)
@@ -96,18 +95,23 @@ pub(crate) fn text_parts(
     format: &Option<Text>,
 ) -> Result<SchemaObject, AllocError>
     ensures { IfOk result (λ parts. out-SchemaObject parts
-        ≡ (meant.sketch_step (Desc-F.Text min max format.now)).parts) }
+        ≡ meant.text_parts min max format.now) }
 {
-    let mut parts = of_single(InstanceType::String);
+    let mut parts = of_single(alloc, InstanceType::String);
     parts.format = copy_text(alloc, format)?;
     parts.string = length_bounds(min, max);
     Ok(parts)
 }
 
-pub(crate) fn list_parts(item: Schema, min: Option<u32>, max: Option<u32>) -> SchemaObject
+pub(crate) fn list_parts(
+    alloc: Global,
+    item: Schema,
+    min: Option<u32>,
+    max: Option<u32>,
+) -> SchemaObject
     ensures { out-SchemaObject result ≡ meant.list_of item min max }
 {
-    let mut parts = of_single(InstanceType::Array);
+    let mut parts = of_single(alloc, InstanceType::Array);
     parts.array = Some(ArrayParts {
         items: Some(Items::One(item)),
         min,
@@ -117,13 +121,14 @@ pub(crate) fn list_parts(item: Schema, min: Option<u32>, max: Option<u32>) -> Sc
 }
 
 pub(crate) fn struct_parts(
+    alloc: Global,
     properties: List<Property>,
     required: List<Text>,
     deny_unknown: bool,
 ) -> SchemaObject
     ensures { out-SchemaObject result ≡ meant.struct_of properties required deny_unknown }
 {
-    let mut parts = of_single(InstanceType::Object);
+    let mut parts = of_single(alloc, InstanceType::Object);
     parts.object = Some(ObjectParts {
         properties,
         required,
@@ -136,10 +141,10 @@ pub(crate) fn struct_parts(
     parts
 }
 
-pub(crate) fn choice_parts(alternatives: List<Schema>) -> SchemaObject
+pub(crate) fn choice_parts(alloc: Global, alternatives: List<Schema>) -> SchemaObject
     ensures { out-SchemaObject result ≡ meant.choice_of alternatives }
 {
-    let mut parts = no_parts();
+    let mut parts = no_parts(alloc);
     let mut subschemas = no_subschemas();
     subschemas.any_of = Some(alternatives);
     parts.subschemas = Some(subschemas);
@@ -148,12 +153,12 @@ pub(crate) fn choice_parts(alternatives: List<Schema>) -> SchemaObject
 
 pub(crate) fn ref_parts(alloc: Global, name: &Text) -> Result<SchemaObject, AllocError>
     ensures { IfOk result (λ parts. out-SchemaObject parts
-        ≡ (meant.sketch_step (Desc-F.Ref name.now)).parts) }
+        ≡ meant.reference_parts name.now) }
 {
     let mut reference = Text::new(alloc);
     reference.push_ascii("#/components/schemas/")?;
     reference.push_text(name)?;
-    let mut parts = no_parts();
+    let mut parts = no_parts(alloc);
     parts.reference = Some(reference);
     Ok(parts)
 }

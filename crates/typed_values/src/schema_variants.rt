@@ -2,39 +2,45 @@
 ghost use Rattle.std.specs.Prelude.{◌≡◌, ◌∷◌, List, [], map, IfOk, true};
 ghost use Rattle.schema_values.specs.declared.json_value.Json.{Text as Words};
 ghost use Rattle.schema_values.specs.declared.schema.SchemaObject.{out-SchemaObject};
+ghost use Rattle.typed_values.specs.declared.table.Definition.{Definition};
+ghost use Rattle.typed_values.specs.Checks.{TablePasses};
 ghost use Rattle.typed_values.specs.SchemaTable.{bare_names as names_alone};
 ghost use Rattle.typed_values.specs.Schemas as meant;
 
-use crate::desc::{Desc, Named, TaggedVariant, Variant, copy_text};
+use crate::desc::{Named, TaggedVariant, Variant, copy_text};
 use crate::schema_names::{choices_of, enumerated, one_of};
 use crate::schema_parts::{object_of, with_description};
 use crate::schema_rows::struct_parts;
-use crate::schemas::{parts_of, properties_of, required_names};
-use schema_values::{Json, List, Property, Schema, SchemaObject, Text};
+use crate::schemas::{parts_of, properties_of, property, required_names};
+use crate::table::DescTable;
+use schema_values::{Json, List, Schema, SchemaObject, Text};
 use std::alloc::{AllocError, Global};
 
 /// One of the names without payload, or an object of one payload.
 #[cycle(schema)]
 pub(crate) fn external_parts(
     alloc: Global,
+    table: &DescTable,
     variants: &[Variant],
 ) -> Result<SchemaObject, AllocError>
+    requires { TablePasses table.now }
     ensures { IfOk result (λ parts. out-SchemaObject parts ≡ meant.one_of
-        (meant.external_choices (map meant.sketch_of_variant variants.now))) }
+        (meant.external_choices (map (meant.sketch_of_variant table.now) variants.now))) }
 {
     let mut choices = choices_of(alloc, bare_names(alloc, variants)?.as_slice())?;
     for variant in variants {
         if let Some(payload) = &variant.payload {
-            let choice = payload_choice(alloc, &variant.name, &variant.description, payload)?;
-            choices.push(choice)?;
+            let parts = parts_of(alloc, table, payload)?;
+            choices.push(payload_choice(alloc, &variant.name, &variant.description, parts)?)?;
         }
     }
-    Ok(one_of(choices))
+    Ok(one_of(alloc, choices))
 }
 
 /// The variants without payload, as the names of an enumeration.
 fn bare_names(alloc: Global, variants: &[Variant]) -> Result<List<Named>, AllocError>
-    ensures { IfOk result (λ names. names ≡ names_alone (map meant.sketch_of_variant variants.now)) }
+    ensures { (table : List Definition) → IfOk result (λ names. names
+        ≡ names_alone (map (meant.sketch_of_variant table) variants.now)) }
 {
     let mut names = List::new(alloc);
     for variant in variants {
@@ -49,24 +55,21 @@ fn bare_names(alloc: Global, variants: &[Variant]) -> Result<List<Named>, AllocE
 }
 
 /// An object of one property, which must be there, and of no other.
-#[cycle(schema)]
 fn payload_choice(
     alloc: Global,
     name: &Text,
     description: &Option<Text>,
-    payload: &Desc,
+    payload: SchemaObject,
 ) -> Result<Schema, AllocError>
     ensures { IfOk result (λ schema. schema ≡ meant.object_of (meant.with_description description.now
-        (meant.struct_parts (meant.required_field name.now (meant.schema_sketch payload.now) ∷ []) true))) }
+        (meant.struct_parts (meant.property name.now (out-SchemaObject payload) ∷ [])
+        (name.now ∷ []) true))) }
 {
-    let mut properties = Vec::new(alloc);
-    properties.push(Property {
-        name: name.copy(alloc)?,
-        schema: object_of(alloc, parts_of(alloc, payload)?)?,
-    })?;
-    let mut required = Vec::new(alloc);
+    let mut properties = List::new(alloc);
+    properties.push(property(alloc, name, payload)?)?;
+    let mut required = List::new(alloc);
     required.push(name.copy(alloc)?)?;
-    let parts = struct_parts(List::from_vec(properties), List::from_vec(required), true);
+    let parts = struct_parts(alloc, properties, required, true);
     object_of(alloc, with_description(alloc, description, parts)?)
 }
 
@@ -74,46 +77,52 @@ fn payload_choice(
 #[cycle(schema)]
 pub(crate) fn tagged_parts(
     alloc: Global,
+    table: &DescTable,
     tag: &Text,
     variants: &[TaggedVariant],
 ) -> Result<SchemaObject, AllocError>
+    requires { TablePasses table.now }
     ensures { IfOk result (λ parts. out-SchemaObject parts ≡ meant.one_of
-        (map (meant.tagged_choice tag.now) (map meant.sketch_of_tagged variants.now))) }
+        (map (meant.tagged_choice table.now tag.now) (map (meant.sketch_of_tagged table.now) variants.now))) }
 {
     let mut choices = List::new(alloc);
     for variant in variants {
-        choices.push(tagged_choice(alloc, tag, variant)?)?;
+        choices.push(tagged_choice(alloc, table, tag, variant)?)?;
     }
-    Ok(one_of(choices))
+    Ok(one_of(alloc, choices))
 }
 
 /// An object of the tag, which has the variant's name alone, and of its fields.
 #[cycle(schema)]
-fn tagged_choice(alloc: Global, tag: &Text, variant: &TaggedVariant) -> Result<Schema, AllocError>
+fn tagged_choice(
+    alloc: Global,
+    table: &DescTable,
+    tag: &Text,
+    variant: &TaggedVariant,
+) -> Result<Schema, AllocError>
+    requires { TablePasses table.now }
     ensures { IfOk result (λ schema. schema
-        ≡ meant.tagged_choice tag.now (meant.sketch_of_tagged variant.now)) }
+        ≡ meant.tagged_choice table.now tag.now (meant.sketch_of_tagged table.now variant.now)) }
 {
+    let fields = variant.fields.as_slice();
     let mut properties = Vec::new(alloc);
-    properties.push(tag_property(alloc, tag, &variant.name)?)?;
+    properties.push(property(alloc, tag, name_alone(alloc, &variant.name)?)?)?;
     let mut required = Vec::new(alloc);
     required.push(tag.copy(alloc)?)?;
     let parts = struct_parts(
-        properties_of(alloc, properties, variant.fields.as_slice())?,
-        required_names(alloc, required, variant.fields.as_slice())?,
+        alloc,
+        properties_of(alloc, table, properties, fields)?,
+        required_names(alloc, required, fields)?,
         false,
     );
     object_of(alloc, with_description(alloc, &variant.description, parts)?)
 }
 
-/// The property of a tag, which has one name alone.
-fn tag_property(alloc: Global, tag: &Text, name: &Text) -> Result<Property, AllocError>
-    ensures { IfOk result (λ property. property ≡ meant.property_of (meant.required_field tag.now
-        (meant.sketch (meant.enumerated (Words name.now ∷ []))))) }
+/// One name alone.
+fn name_alone(alloc: Global, name: &Text) -> Result<SchemaObject, AllocError>
+    ensures { IfOk result (λ parts. out-SchemaObject parts ≡ meant.enumerated (Words name.now ∷ [])) }
 {
     let mut texts = List::new(alloc);
     texts.push(Json::Text(name.copy(alloc)?))?;
-    Ok(Property {
-        name: tag.copy(alloc)?,
-        schema: object_of(alloc, enumerated(texts))?,
-    })
+    Ok(enumerated(alloc, texts))
 }

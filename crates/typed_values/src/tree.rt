@@ -7,7 +7,7 @@ use std::alloc::{AllocError, Global};
 #[derive(Drop)]
 #[cycle(tree)]
 pub enum Tree {
-    /// The value of null, and of a name of an enumeration beside its place.
+    /// The value of null, and beside its place that of a name or of a variant without payload.
     Unit,
     Bool(bool),
     Int(i128),
@@ -19,7 +19,7 @@ pub enum Tree {
     Map(List<Pair>),
     /// One tree for each field, in the order in which the fields are declared.
     Fields(List<Tree>),
-    /// The place of an alternative or of a name, counted from 0, and its value.
+    /// The place of an alternative, a name or a variant, counted from 0, and its value.
     Variant(u32, Boxed<Tree>),
     /// Any JSON value. That of a value that fits is sound.
     Any(Json),

@@ -1,11 +1,8 @@
 use openapi_values::{
-    Components, Info, J2oasError, MediaType, OpenApi, Operation, Part, PathItem, RequestBody,
-    ResponseObject, j2oas_schema, json_admits,
+    Components, Info, MediaType, OpenApi, Operation, Part, PathItem, RequestBody, ResponseObject,
+    json_admits,
 };
-use schema_values::{
-    Boxed, InstanceType, InstanceTypes, Json, LengthBounds, List, Member, NumberBounds,
-    ObjectParts, Property, ReadError, Schema, SchemaObject, Subschemas, Text,
-};
+use schema_values::{Json, List, Member, ReadError, Text};
 use std::alloc::{AllocError, Global};
 use std::test::Fail;
 

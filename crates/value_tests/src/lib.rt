@@ -4,6 +4,10 @@
 #[cfg(test)]
 mod documents;
 #[cfg(test)]
+mod errors;
+#[cfg(test)]
+mod refusals;
+#[cfg(test)]
 mod schemas;
 #[cfg(test)]
 mod tables;

@@ -1,7 +1,7 @@
 use schema_values::{Boxed, Json, List, Text};
 use std::alloc::{AllocError, Global};
 use std::test::Fail;
-use typed_values::{Definition, Desc, DescTable, Field, IntKind, Named, Presence};
+use typed_values::{Definition, Desc, DescTable, Field, IntKind, Named, Presence, check_table};
 use written_schemas::{definition_schema, titled_schema};
 
 fn field(alloc: Global, name: &str, desc: Desc) -> Result<Field, AllocError> {
@@ -86,24 +86,32 @@ const DESCRIBED: &str = r#"{
 #[test]
 fn definitions_are_written(rt: HostRuntime) -> Result<(), Fail> {
     let alloc = rt.alloc();
-    let json = definition_schema(alloc, &point(alloc)?)?;
-    let text = json.pretty(alloc)?;
+    let table = DescTable::new(alloc);
+    assert!(rt; check_table(&table).is_ok());
+    let text = definition_schema(alloc, &table, &point(alloc)?)?.pretty(alloc)?;
     assert_eq!(rt; text.as_str(), POINT);
     Ok(())
+}
+
+/// The schema of a descriptor under the name `T`, without definitions.
+fn written(alloc: Global, desc: &Desc) -> Result<Json, AllocError> {
+    let table = DescTable::new(alloc);
+    if check_table(&table).is_err() {
+        return Err(AllocError);
+    }
+    titled_schema(alloc, &table, desc, &Text::from_str(alloc, "T")?)
 }
 
 #[test]
 fn types_have_titles_and_references_have_none(rt: HostRuntime) -> Result<(), Fail> {
     let alloc = rt.alloc();
-    let table = DescTable::new(alloc);
-    let name = Text::from_str(alloc, "Label")?;
-    let titled = titled_schema(alloc, &table, &label(), &name)?.compact(alloc)?;
+    let titled = written(alloc, &label())?.compact(alloc)?;
     assert_eq!(rt;
         titled.as_str(),
-        "{\"title\":\"Label\",\"type\":\"string\",\"minLength\":1}"
+        "{\"title\":\"T\",\"type\":\"string\",\"minLength\":1}"
     );
     let reference = Desc::Ref(Text::from_str(alloc, "Point")?);
-    let bare = titled_schema(alloc, &table, &reference, &name)?.compact(alloc)?;
+    let bare = written(alloc, &reference)?.compact(alloc)?;
     assert_eq!(rt; bare.as_str(), "{\"$ref\":\"#/components/schemas/Point\"}");
     Ok(())
 }
@@ -126,11 +134,6 @@ fn one_of_names(alloc: Global, description: Option<&str>) -> Result<Desc, AllocE
         },
     })?;
     Ok(Desc::Enumeration { names })
-}
-
-fn written(alloc: Global, desc: &Desc) -> Result<Json, AllocError> {
-    let table = DescTable::new(alloc);
-    titled_schema(alloc, &table, desc, &Text::from_str(alloc, "T")?)
 }
 
 #[test]

@@ -145,6 +145,9 @@ fn describes_a_node(schema: &Schema) -> bool {
 fn schema_at(alloc: Global, place: SchemaPlace) -> Result<Schema, AllocError> {
     let table = DescTable::new(alloc);
     let desc = option(alloc, Desc::Bool)?;
+    if check_table(&table).is_err() {
+        return Err(AllocError);
+    }
     schema_of(alloc, &table, &desc, place)
 }
 
@@ -160,8 +163,11 @@ fn an_option_adds_null_but_in_a_header(rt: HostRuntime) -> Result<(), Fail> {
 /// The schema of the definition of a node.
 fn schema_of_a_node(alloc: Global) -> Result<Schema, AllocError> {
     let table = nodes(alloc)?;
+    if check_table(&table).is_err() {
+        return Err(AllocError);
+    }
     match table.definitions() {
-        [definition] => schema_of_definition(alloc, definition),
+        [definition] => schema_of_definition(alloc, &table, definition),
         _ => Err(AllocError),
     }
 }

@@ -1,7 +1,7 @@
 use openapi_values::{J2oasError, j2oas_schema};
 use schema_values::{
-    ArrayParts, Boxed, InstanceType, InstanceTypes, Items, Json, LengthBounds, List, NumberBounds,
-    ReadError, Schema, SchemaObject, Subschemas, Text,
+    ArrayParts, Boxed, InstanceType, InstanceTypes, Items, Json, LengthBounds, List, Member,
+    NumberBounds, ObjectParts, ReadError, Schema, SchemaObject, Subschemas, Text,
 };
 use std::alloc::{AllocError, Global};
 use std::test::Fail;
@@ -59,10 +59,18 @@ const BAD_VALUES: [(Option<InstanceType>, &str, &str); 7] = [
     (Some(InstanceType::Null), "[null,false]", "BadEnumValue"),
 ];
 
-fn no_parts() -> SchemaObject {
+// An object without other members as it is written: annotations come before the members of its kind.
+const ANNOTATED: &str = concat!(
+    r#"{"description":"Seven","default":7,"#,
+    r#""x-stuff":{"hello":"there","least":[1,null]},"#,
+    r#""type":"object","additionalProperties":false}"#
+);
+
+fn no_parts(alloc: Global) -> SchemaObject {
     SchemaObject {
         title: None,
         description: None,
+        default: None,
         nullable: false,
         instance_type: None,
         format: None,
@@ -73,6 +81,7 @@ fn no_parts() -> SchemaObject {
         array: None,
         object: None,
         reference: None,
+        extensions: List::new(alloc),
     }
 }
 
@@ -85,8 +94,8 @@ fn no_kinds() -> Subschemas {
     }
 }
 
-fn of_type(kind: InstanceType, number: Option<NumberBounds>) -> SchemaObject {
-    let mut schema = no_parts();
+fn of_type(alloc: Global, kind: InstanceType, number: Option<NumberBounds>) -> SchemaObject {
+    let mut schema = no_parts(alloc);
     schema.instance_type = Some(InstanceTypes::Single(kind));
     schema.number = number;
     schema
@@ -102,7 +111,7 @@ fn values_of(alloc: Global, values: &str) -> Result<Option<List<Json>>, ReadErro
 
 // A schema with values, if there are any, with bounds, and in which an array has items.
 fn with_values(alloc: Global, values: &str) -> Result<SchemaObject, ReadError> {
-    let mut schema = no_parts();
+    let mut schema = no_parts(alloc);
     schema.number = Some(NumberBounds {
         minimum: None,
         maximum: Some(2),
@@ -121,13 +130,13 @@ fn with_values(alloc: Global, values: &str) -> Result<SchemaObject, ReadError> {
 }
 
 fn nullable_all_of(alloc: Global, reference: &str) -> Result<SchemaObject, AllocError> {
-    let mut referring = no_parts();
+    let mut referring = no_parts(alloc);
     referring.reference = Some(Text::from_str(alloc, reference)?);
     let mut all_of = List::new(alloc);
     all_of.push(Schema::Object(Boxed::new(alloc, referring)?))?;
     let mut subschemas = no_kinds();
     subschemas.all_of = Some(all_of);
-    let mut schema = no_parts();
+    let mut schema = no_parts(alloc);
     schema.title = Some(Text::from_str(alloc, "Own")?);
     schema.nullable = true;
     schema.subschemas = Some(subschemas);
@@ -143,8 +152,8 @@ fn one_of(alloc: Global, second: Schema) -> Result<Subschemas, AllocError> {
     Ok(subschemas)
 }
 
-fn of_kinds(subschemas: Subschemas) -> SchemaObject {
-    let mut schema = no_parts();
+fn of_kinds(alloc: Global, subschemas: Subschemas) -> SchemaObject {
+    let mut schema = no_parts(alloc);
     schema.subschemas = Some(subschemas);
     schema
 }
@@ -179,7 +188,7 @@ fn a_given_name_is_the_title_of_a_number(rt: HostRuntime) -> Result<(), Fail> {
     let json = written(
         alloc,
         Some("Foo"),
-        of_type(InstanceType::Integer, Some(least)),
+        of_type(alloc, InstanceType::Integer, Some(least)),
     )?;
     assert_eq!(rt;
         json.compact(alloc)?.as_str(),
@@ -227,6 +236,41 @@ fn annotations_come_before_no_values(rt: HostRuntime) -> Result<(), Fail> {
     Ok(())
 }
 
+// A member whose value is read.
+fn read_member(alloc: Global, name: &str, value: &str) -> Result<Member, Fail> {
+    let name = Text::from_str(alloc, name)?;
+    let value = Json::read(alloc, value.as_bytes())?;
+    Ok(Member { name, value })
+}
+
+fn of_no_other_members(alloc: Global) -> SchemaObject {
+    let mut schema = of_type(alloc, InstanceType::Object, None);
+    schema.object = Some(ObjectParts {
+        properties: List::new(alloc),
+        required: List::new(alloc),
+        additional: Some(Schema::Bool(false)),
+    });
+    schema
+}
+
+#[test]
+fn a_default_and_extensions_are_written_behind_the_description(
+    rt: HostRuntime,
+) -> Result<(), Fail> {
+    let alloc = rt.alloc();
+    let stuff = r#"{"hello":"there","least":[1,null]}"#;
+    let mut extensions = List::new(alloc);
+    extensions.push(read_member(alloc, "x-stuff", stuff)?)?;
+    extensions.push(read_member(alloc, "other", "true")?)?;
+    let mut schema = of_no_other_members(alloc);
+    schema.description = Some(Text::from_str(alloc, "Seven")?);
+    schema.default = Some(Json::Int(7));
+    schema.extensions = extensions;
+    let json = compact(alloc, schema)?;
+    assert_eq!(rt; json.as_str(), ANNOTATED);
+    Ok(())
+}
+
 // Why a schema is refused, or that it is written.
 fn why_refused(alloc: Global, schema: SchemaObject) -> Result<String, AllocError> {
     match written(alloc, None, schema) {
@@ -250,7 +294,7 @@ fn values_are_of_a_type(rt: HostRuntime) -> Result<(), Fail> {
 #[test]
 fn an_array_has_items(rt: HostRuntime) -> Result<(), Fail> {
     let alloc = rt.alloc();
-    let refusal = why_refused(alloc, of_type(InstanceType::Array, None))?;
+    let refusal = why_refused(alloc, of_type(alloc, InstanceType::Array, None))?;
     assert_eq!(rt; refusal.as_str(), "NoItems");
     Ok(())
 }
@@ -258,11 +302,11 @@ fn an_array_has_items(rt: HostRuntime) -> Result<(), Fail> {
 #[test]
 fn subschemas_of_one_kind_need_no_type(rt: HostRuntime) -> Result<(), Fail> {
     let alloc = rt.alloc();
-    let json = compact(alloc, of_kinds(one_of(alloc, Schema::Bool(false))?))?;
+    let json = compact(alloc, of_kinds(alloc, one_of(alloc, Schema::Bool(false))?))?;
     assert_eq!(rt; json.as_str(), r#"{"oneOf":[{},{"not":{}}]}"#);
     let mut subschemas = no_kinds();
     subschemas.not = Some(Schema::Bool(true));
-    let json = compact(alloc, of_kinds(subschemas))?;
+    let json = compact(alloc, of_kinds(alloc, subschemas))?;
     assert_eq!(rt; json.as_str(), r#"{"not":{}}"#);
     Ok(())
 }
@@ -276,7 +320,7 @@ fn one_of_and_not(alloc: Global, second: Schema) -> Result<Subschemas, AllocErro
 #[test]
 fn two_kinds_of_subschemas_stand_beside_a_type(rt: HostRuntime) -> Result<(), Fail> {
     let alloc = rt.alloc();
-    let mut schema = of_type(InstanceType::String, None);
+    let mut schema = of_type(alloc, InstanceType::String, None);
     schema.subschemas = Some(one_of_and_not(alloc, Schema::Bool(false))?);
     let json = compact(alloc, schema)?;
     assert_eq!(rt;
@@ -289,7 +333,7 @@ fn two_kinds_of_subschemas_stand_beside_a_type(rt: HostRuntime) -> Result<(), Fa
 #[test]
 fn missing_items_come_before_values(rt: HostRuntime) -> Result<(), Fail> {
     let alloc = rt.alloc();
-    let mut schema = of_type(InstanceType::Array, None);
+    let mut schema = of_type(alloc, InstanceType::Array, None);
     schema.enum_values = values_of(alloc, "[[]]")?;
     let refusal = why_refused(alloc, schema)?;
     assert_eq!(rt; refusal.as_str(), "NoItems");
@@ -299,7 +343,7 @@ fn missing_items_come_before_values(rt: HostRuntime) -> Result<(), Fail> {
 #[test]
 fn values_come_before_kinds_of_subschemas(rt: HostRuntime) -> Result<(), Fail> {
     let alloc = rt.alloc();
-    let mut schema = of_kinds(one_of_and_not(alloc, Schema::Bool(false))?);
+    let mut schema = of_kinds(alloc, one_of_and_not(alloc, Schema::Bool(false))?);
     schema.enum_values = values_of(alloc, "[1]")?;
     let refusal = why_refused(alloc, schema)?;
     assert_eq!(rt; refusal.as_str(), "EnumWithoutType");
@@ -307,7 +351,7 @@ fn values_come_before_kinds_of_subschemas(rt: HostRuntime) -> Result<(), Fail> {
 }
 
 fn list_without_items(alloc: Global) -> Result<Schema, AllocError> {
-    let array = Boxed::new(alloc, of_type(InstanceType::Array, None))?;
+    let array = Boxed::new(alloc, of_type(alloc, InstanceType::Array, None))?;
     Ok(Schema::Object(array))
 }
 
@@ -315,7 +359,7 @@ fn list_without_items(alloc: Global) -> Result<Schema, AllocError> {
 fn kinds_of_subschemas_come_before_those_inside(rt: HostRuntime) -> Result<(), Fail> {
     let alloc = rt.alloc();
     let subschemas = one_of_and_not(alloc, list_without_items(alloc)?)?;
-    let refusal = why_refused(alloc, of_kinds(subschemas))?;
+    let refusal = why_refused(alloc, of_kinds(alloc, subschemas))?;
     assert_eq!(rt; refusal.as_str(), "BadSubschema");
     Ok(())
 }
@@ -324,7 +368,7 @@ fn kinds_of_subschemas_come_before_those_inside(rt: HostRuntime) -> Result<(), F
 fn subschemas_are_refused_from_inside(rt: HostRuntime) -> Result<(), Fail> {
     let alloc = rt.alloc();
     let subschemas = one_of(alloc, list_without_items(alloc)?)?;
-    let refusal = why_refused(alloc, of_kinds(subschemas))?;
+    let refusal = why_refused(alloc, of_kinds(alloc, subschemas))?;
     assert_eq!(rt; refusal.as_str(), "NoItems");
     Ok(())
 }

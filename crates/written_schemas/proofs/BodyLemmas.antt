@@ -20,7 +20,7 @@ use Rattle.written_schemas.proofs.Whole.{titled_agrees}
 one_reading : (bytes : List ℕ) (i j : Json) → Reads bytes i → Reads bytes j → i ≡ j
 one_reading bytes i j a b = let same : Some i ≡ Some j = sym a.1 ∙ b.1 in cc same
 
-pub body_agrees : (document : OpenApi) (path method name : List ℕ) (table : List Definition) (desc : Desc) → TakesJson document path method name desc → IsWritten (open_api_json document) table desc
+pub body_agrees : (document : OpenApi) (path method name : List ℕ) (table : List Definition) (desc : Desc) → TakesJson document path method name table desc → IsWritten (open_api_json document) table desc
     → (request : WireRequest) (json : Json) → Reads request.body json → Admits (open_api_json document) path method request ↔ ((tree : Tree) × JsonDenotes table desc json tree)
 body_agrees document path method name table desc takes written request json reads =
     let doc = open_api_json document in

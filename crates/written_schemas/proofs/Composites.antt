@@ -16,8 +16,8 @@ use Rattle.openapi_values.specs.Options.{is_some_and}
 use Rattle.openapi_values.specs.Rows.{in_subset}
 use Rattle.openapi_values.specs.JsonAdmits.{members_admit, object_admits, schema_admits}
 use Rattle.typed_values.specs.Bounds.{is_long_enough, is_short_enough, is_length_within}
-use Rattle.typed_values.specs.SchemaTable.{of_type, if_count}
-use Rattle.written_schemas.proofs.Notes.{notes, hold, noted_admits}
+use Rattle.typed_values.specs.SchemaTable.{Remarks, annotations, of_type, if_count}
+use Rattle.written_schemas.proofs.Notes.{hold, noted_admits}
 use Rattle.written_schemas.proofs.Scalars.{no_form_of, type_row, least_count_row, greatest_count_row, both_bounds}
 
 abbrev pub counts : Option ℕ → Option ℕ → List Member
@@ -42,9 +42,9 @@ abbrev pub is_list_of : {X : Type 0} → (X → Bool) → Option ℕ → Option 
 is_list_of p min max (Json-F.List xs) = list_all p xs && is_length_within min max (length xs)
 is_list_of p min max _ = false
 
-module _ {X : Type 0} (doc : Json) (smaller : X → Json → Bool) (next : Json → Bool) (value : Json) (n : Bool) (t d : Option (List ℕ)) where
+module _ {X : Type 0} (doc : Json) (smaller : X → Json → Bool) (next : Json → Bool) (value : Json) (n : Bool) (t : Option (List ℕ)) (r : Remarks) where
   counts_hold : (xs : List X) (schema : List Member) (min max : Option ℕ)
-      → hold doc smaller next value (Json-F.List xs) n t d schema (counts min max) ≡ (is_long_enough min (length xs) && (is_short_enough max (length xs) && true))
+      → hold doc smaller next value (Json-F.List xs) n t r schema (counts min max) ≡ (is_long_enough min (length xs) && (is_short_enough max (length xs) && true))
   unfolding is_annotation bound_or part_of
   counts_hold xs schema (Some a) (Some b) = rw (least_count_row a (length xs), greatest_count_row b (length xs)) refl
   counts_hold xs schema (Some a) None = rw (least_count_row a (length xs)) refl
@@ -52,16 +52,16 @@ module _ {X : Type 0} (doc : Json) (smaller : X → Json → Bool) (next : Json 
   counts_hold xs schema None None = refl
 
   pub list_admits : (j : Level X) (item : Json) (min max : Option ℕ)
-      → schema_admits doc smaller next value j (Object (notes n t d ++ of_type (codes "array") (member (codes "items") item ∷ counts min max))) ≡ (n && is_null j || is_list_of (λ x. smaller x item) min max j)
+      → schema_admits doc smaller next value j (Object (annotations n t r ++ of_type (codes "array") (member (codes "items") item ∷ counts min max))) ≡ (n && is_null j || is_list_of (λ x. smaller x item) min max j)
   unfolding is_annotation bound_or part_of
   list_admits j item min max =
-      let schema = notes n t d ++ of_type (codes "array") (member (codes "items") item ∷ counts min max) in
+      let schema = annotations n t r ++ of_type (codes "array") (member (codes "items") item ∷ counts min max) in
       let (none, read) = counts_plain item min max in
-      noted_admits doc smaller next value j n t d _ _ false refl none read (no_form_of (codes "array") (member (codes "items") item ∷ counts min max) refl)
-      ∙ ap (λ (b : Bool). n && is_null j || b && hold doc smaller next value j n t d schema (member (codes "items") item ∷ counts min max)) (type_row smaller next value j schema (codes "array"))
+      noted_admits doc smaller next value j n t r _ _ false refl none read (no_form_of (codes "array") (member (codes "items") item ∷ counts min max) refl)
+      ∙ ap (λ (b : Bool). n && is_null j || b && hold doc smaller next value j n t r schema (member (codes "items") item ∷ counts min max)) (type_row smaller next value j schema (codes "array"))
       ∙ ap (λ (b : Bool). n && is_null j || b) (by_form schema j)
     where
-      by_form : (schema : List Member) (j : Level X) → (has_type (codes "array") j && hold doc smaller next value j n t d schema (member (codes "items") item ∷ counts min max)) ≡ is_list_of (λ x. smaller x item) min max j
+      by_form : (schema : List Member) (j : Level X) → (has_type (codes "array") j && hold doc smaller next value j n t r schema (member (codes "items") item ∷ counts min max)) ≡ is_list_of (λ x. smaller x item) min max j
       by_form schema Json-F.Null = refl
       by_form schema (Json-F.Bool b) = refl
       by_form schema (Json-F.Int i) = refl
@@ -70,24 +70,24 @@ module _ {X : Type 0} (doc : Json) (smaller : X → Json → Bool) (next : Json 
           ap (λ (b : Bool). list_all (λ x. smaller x item) xs && b) (counts_hold xs schema min max ∙ both_bounds (is_long_enough min (length xs)) (is_short_enough max (length xs)))
       by_form schema (Json-F.Object ms) = refl
 
-  pub choice_admits : (j : Level X) (ss : List Json) → schema_admits doc smaller next value j (Object (notes n t d ++ member (codes "anyOf") (Items ss) ∷ [])) ≡ (n && is_null j || (list_any next ss && true))
+  pub choice_admits : (j : Level X) (ss : List Json) → schema_admits doc smaller next value j (Object (annotations n t r ++ member (codes "anyOf") (Items ss) ∷ [])) ≡ (n && is_null j || (list_any next ss && true))
   unfolding is_annotation bound_or part_of
   choice_admits j ss =
-      noted_admits doc smaller next value j n t d (member (codes "anyOf") (Items ss)) [] false refl refl refl refl
+      noted_admits doc smaller next value j n t r (member (codes "anyOf") (Items ss)) [] false refl refl refl refl
       ∙ ap (λ (x : Level Json). n && is_null j || (is_some_and (as_list x) (list_any next) && true)) (json.outs-List ss)
 
   -- exactly one of some schemas
-  pub one_admitted : (j : Level X) (ss : List Json) → schema_admits doc smaller next value j (Object (notes n t d ++ member (codes "oneOf") (Items ss) ∷ [])) ≡ (n && is_null j || ((count_by next ss == 1) && true))
+  pub one_admitted : (j : Level X) (ss : List Json) → schema_admits doc smaller next value j (Object (annotations n t r ++ member (codes "oneOf") (Items ss) ∷ [])) ≡ (n && is_null j || ((count_by next ss == 1) && true))
   unfolding is_annotation bound_or part_of
   one_admitted j ss =
-      noted_admits doc smaller next value j n t d (member (codes "oneOf") (Items ss)) [] false refl refl refl refl
+      noted_admits doc smaller next value j n t r (member (codes "oneOf") (Items ss)) [] false refl refl refl refl
       ∙ ap (λ (x : Level Json). n && is_null j || (is_some_and (as_list x) (λ ss. count_by next ss == 1) && true)) (json.outs-List ss)
 
   -- an `allOf` of one schema
-  pub wrapped_admits : (j : Level X) (s : Json) → schema_admits doc smaller next value j (Object (notes n t d ++ member (codes "allOf") (Items (s ∷ [])) ∷ [])) ≡ (n && is_null j || ((next s && true) && true))
+  pub wrapped_admits : (j : Level X) (s : Json) → schema_admits doc smaller next value j (Object (annotations n t r ++ member (codes "allOf") (Items (s ∷ [])) ∷ [])) ≡ (n && is_null j || ((next s && true) && true))
   unfolding is_annotation bound_or part_of
   wrapped_admits j s =
-      noted_admits doc smaller next value j n t d (member (codes "allOf") (Items (s ∷ []))) [] false refl refl (ap (λ (x : Level Json). is_some_and (as_list x) (λ xs. length xs == 1) && true) (json.outs-List (s ∷ []))) refl
+      noted_admits doc smaller next value j n t r (member (codes "allOf") (Items (s ∷ []))) [] false refl refl (ap (λ (x : Level Json). is_some_and (as_list x) (λ xs. length xs == 1) && true) (json.outs-List (s ∷ []))) refl
       ∙ ap (λ (x : Level Json). n && is_null j || (is_some_and (as_list x) (list_all next) && true)) (json.outs-List (s ∷ []))
 
 -- a reference alone

@@ -21,9 +21,9 @@ use Rattle.typed_values.specs.declared.desc.Named.{Named}
 use Rattle.typed_values.specs.Definitions.{listed_name}
 use Rattle.typed_values.specs.declared.fault.FaultKind.TheVariants.{NotListed}
 use Rattle.typed_values.specs.Denotes.{refused, named_from, where_found, bare, one_of_names}
-use Rattle.typed_values.specs.SchemaTable.{plain, enumerated, is_described, described_choice, plain_choice, choices_of, drawn_json}
+use Rattle.typed_values.specs.SchemaTable.{Remarks, annotations, plain, enumerated, is_described, described_choice, plain_choice, choices_of, drawn_json}
 use Rattle.written_schemas.proofs.Counted.{none_of, count, no_other, counted_map}
-use Rattle.written_schemas.proofs.Notes.{notes, noted_admits}
+use Rattle.written_schemas.proofs.Notes.{noted_admits}
 use Rattle.written_schemas.proofs.Scalars.{type_row, never_admits}
 
 -- a value is the text of a name
@@ -66,15 +66,15 @@ text_listed value w names e =
     ∙ ap (λ (v : Json). list_any (same_json v) (map Words names)) (sym (roll-out-Json value) ∙ ap roll-Json e ∙ json.rolls-Text w)
     ∙ texts_listed w names
 
-module _ (doc : Json) (smaller : Json → Json → Bool) (next : Json → Bool) (value : Json) (n : Bool) (t d : Option (List ℕ)) where
+module _ (doc : Json) (smaller : Json → Json → Bool) (next : Json → Bool) (value : Json) (n : Bool) (t : Option (List ℕ)) (r : Remarks) where
   -- without names nothing is admitted
-  pub names_admit : (names : List (List ℕ)) → schema_admits doc smaller next value (out-Json value) (Object (notes n t d ++ (enumerated names).members)) ≡ (n && is_null (out-Json value) || list_any (is_named (out-Json value)) names)
+  pub names_admit : (names : List (List ℕ)) → schema_admits doc smaller next value (out-Json value) (Object (annotations n t r ++ (enumerated names).members)) ≡ (n && is_null (out-Json value) || list_any (is_named (out-Json value)) names)
   unfolding is_annotation bound_or part_of
-  names_admit [] = never_admits doc smaller next value n t d (out-Json value)
+  names_admit [] = never_admits doc smaller next value n t r (out-Json value)
   names_admit (name ∷ others) =
       let names = name ∷ others in
-      let schema = notes n t d ++ (enumerated names).members in
-      noted_admits doc smaller next value (out-Json value) n t d _ _ false refl refl refl (no_form name others)
+      let schema = annotations n t r ++ (enumerated names).members in
+      noted_admits doc smaller next value (out-Json value) n t r _ _ false refl refl refl (no_form name others)
       ∙ ap (λ (b : Bool). n && is_null (out-Json value) || b && (is_listed value (Items (map Words names)) && true)) (type_row smaller next value (out-Json value) schema (codes "string"))
       ∙ ap (λ (b : Bool). n && is_null (out-Json value) || b) (by_form names (out-Json value) refl)
     where

@@ -15,47 +15,48 @@ use Rattle.typed_values.specs.declared.fault.FaultKind.TheVariants.{WrongKind, N
 use Rattle.typed_values.specs.declared.table.Definition.{Definition}
 use Rattle.typed_values.specs.Definitions.{listed_name, variant_name}
 use Rattle.typed_values.specs.Denotes.{told, refused, without_payload, with_payload, are_all_named, external, is_declared, member_name}
+use Rattle.typed_values.specs.DescBeside.{variant_with}
 use Rattle.typed_values.specs.Rows.{told_field, told_fields, struct_row}
-use Rattle.typed_values.specs.SchemaTable.{bare_names}
+use Rattle.typed_values.specs.SchemaTable.{bare_names, drawn}
 use Rattle.typed_values.proofs.Denoted.{ok_below, ok_all, ok_struct}
 use Rattle.written_schemas.proofs.Counted.{none_of}
 use Rattle.written_schemas.proofs.Enumerations.{is_named, turned}
-use Rattle.written_schemas.proofs.Forms.{drawn_variant_of}
 use Rattle.written_schemas.proofs.FoundByName.{any_same, any_and, ok_found, ok_if, ok_chosen}
 use Rattle.written_schemas.proofs.Structs.{all_same}
 use Rattle.written_schemas.proofs.VariantForms.{required_of}
 
--- the names of variants without payload
-abbrev pub names_bare : List Variant → List (List ℕ)
-names_bare vs = map listed_name (bare_names (map drawn_variant_of vs))
+module _ (table : List Definition) where
+  -- the names of variants without payload
+  abbrev pub names_bare : List Variant → List (List ℕ)
+  names_bare vs = map listed_name (bare_names (map (variant_with (drawn table)) vs))
 
-bare_row : (w : List ℕ) (v : Variant) (vs : List Variant) (o : Option Desc) → v.payload ≡ o
-    → list_any (bytes_eq w) (names_bare (v ∷ vs)) ≡ (bytes_eq w v.name && is_none o || list_any (bytes_eq w) (names_bare vs))
-bare_row w v vs None e = rw e (ap (λ (b : Bool). b || list_any (bytes_eq w) (names_bare vs)) (sym (and-true (bytes_eq w v.name))))
-bare_row w v vs (Some d) e = rw e (ap (λ (b : Bool). b || list_any (bytes_eq w) (names_bare vs)) (sym (and-false (bytes_eq w v.name))))
+  bare_row : (w : List ℕ) (v : Variant) (vs : List Variant) (o : Option Desc) → v.payload ≡ o
+      → list_any (bytes_eq w) (names_bare (v ∷ vs)) ≡ (bytes_eq w v.name && is_none o || list_any (bytes_eq w) (names_bare vs))
+  bare_row w v vs None e = rw e (ap (λ (b : Bool). b || list_any (bytes_eq w) (names_bare vs)) (sym (and-true (bytes_eq w v.name))))
+  bare_row w v vs (Some d) e = rw e (ap (λ (b : Bool). b || list_any (bytes_eq w) (names_bare vs)) (sym (and-false (bytes_eq w v.name))))
 
-bare_new : (name : List ℕ) (vs : List Variant) → AllByRecursion (λ other. name ≢ other) (map variant_name vs) → AllByRecursion (λ other. name ≢ other) (names_bare vs)
-bare_new name [] h = tt
-bare_new name (v ∷ vs) h = by_payload v.payload refl (bare_new name vs h.1)
-  where
-    by_payload : (o : Option Desc) → v.payload ≡ o → AllByRecursion (λ other. name ≢ other) (names_bare vs) → AllByRecursion (λ other. name ≢ other) (names_bare (v ∷ vs))
-    by_payload None e later = rw e (h.0, later)
-    by_payload (Some d) e later = rw e later
+  bare_new : (name : List ℕ) (vs : List Variant) → AllByRecursion (λ other. name ≢ other) (map variant_name vs) → AllByRecursion (λ other. name ≢ other) (names_bare vs)
+  bare_new name [] h = tt
+  bare_new name (v ∷ vs) h = by_payload v.payload refl (bare_new name vs h.1)
+    where
+      by_payload : (o : Option Desc) → v.payload ≡ o → AllByRecursion (λ other. name ≢ other) (names_bare vs) → AllByRecursion (λ other. name ≢ other) (names_bare (v ∷ vs))
+      by_payload None e later = rw e (h.0, later)
+      by_payload (Some d) e later = rw e later
 
-pub bare_distinct : (vs : List Variant) → AreDistinct (map variant_name vs) → AreDistinct (names_bare vs)
-bare_distinct [] h = tt
-bare_distinct (v ∷ vs) h = by_payload v.payload refl (bare_distinct vs h.1)
-  where
-    by_payload : (o : Option Desc) → v.payload ≡ o → AreDistinct (names_bare vs) → AreDistinct (names_bare (v ∷ vs))
-    by_payload None e later = rw e (bare_new v.name vs h.0, later)
-    by_payload (Some d) e later = rw e later
+  pub bare_distinct : (vs : List Variant) → AreDistinct (map variant_name vs) → AreDistinct (names_bare vs)
+  bare_distinct [] h = tt
+  bare_distinct (v ∷ vs) h = by_payload v.payload refl (bare_distinct vs h.1)
+    where
+      by_payload : (o : Option Desc) → v.payload ≡ o → AreDistinct (names_bare vs) → AreDistinct (names_bare (v ∷ vs))
+      by_payload None e later = rw e (bare_new v.name vs h.0, later)
+      by_payload (Some d) e later = rw e later
 
-bare_is : (w : List ℕ) (vs : List Variant) → list_any (bytes_eq w) (names_bare vs) ≡ list_any (λ v. bytes_eq v.name w && is_none v.payload) vs
-bare_is w [] = refl
-bare_is w (v ∷ vs) =
-    bare_row w v vs v.payload refl
-    ∙ ap (λ (b : Bool). b && is_none v.payload || list_any (bytes_eq w) (names_bare vs)) (turned w v.name)
-    ∙ ap (λ (b : Bool). bytes_eq v.name w && is_none v.payload || b) (bare_is w vs)
+  bare_is : (w : List ℕ) (vs : List Variant) → list_any (bytes_eq w) (names_bare vs) ≡ list_any (λ v. bytes_eq v.name w && is_none v.payload) vs
+  bare_is w [] = refl
+  bare_is w (v ∷ vs) =
+      bare_row w v vs v.payload refl
+      ∙ ap (λ (b : Bool). b && is_none v.payload || list_any (bytes_eq w) (names_bare vs)) (turned w v.name)
+      ∙ ap (λ (b : Bool). bytes_eq v.name w && is_none v.payload || b) (bare_is w vs)
 
 ok_without : (i : ℕ) (v : Variant) → is_ok (without_payload i v) ≡ is_none v.payload
 ok_without i v = by_payload v.payload refl
@@ -120,11 +121,11 @@ module _ (table : List Definition) (whole : Desc) where
       by_payload name (Some d) = none name d
 
   neither : (y : Json-F Json Member) → ((name : List ℕ) → is_named y name ≡ false) → ((name : List ℕ) (d : Desc) → is_ok (struct_row table whole (required_of name d ∷ []) true y) ≡ false) → (vs : List Variant)
-      → false ≡ (list_any (is_named y) (names_bare vs) || list_any (payload_told y) vs)
-  neither y no_name none vs = sym (ap (λ (b : Bool). b || list_any (payload_told y) vs) (none_of (is_named y) no_name (names_bare vs)) ∙ no_payload y none vs)
+      → false ≡ (list_any (is_named y) (names_bare table vs) || list_any (payload_told y) vs)
+  neither y no_name none vs = sym (ap (λ (b : Bool). b || list_any (payload_told y) vs) (none_of (is_named y) no_name (names_bare table vs)) ∙ no_payload y none vs)
 
   -- a name of the enumeration, or the struct of one payload
-  pub external_is : (vs : List Variant) → AreDistinct (map variant_name vs) → (y : Json-F Json Member) → is_ok (external (told table whole) vs y) ≡ (list_any (is_named y) (names_bare vs) || list_any (payload_told y) vs)
+  pub external_is : (vs : List Variant) → AreDistinct (map variant_name vs) → (y : Json-F Json Member) → is_ok (external (told table whole) vs y) ≡ (list_any (is_named y) (names_bare table vs) || list_any (payload_told y) vs)
   external_is vs once Json-F.Null = neither Json-F.Null (λ name. refl) (λ name d. refl) vs
   external_is vs once (Json-F.Bool b) = neither (Json-F.Bool b) (λ name. refl) (λ name d. refl) vs
   external_is vs once (Json-F.Int i) = neither (Json-F.Int i) (λ name. refl) (λ name d. refl) vs
@@ -132,16 +133,16 @@ module _ (table : List Definition) (whole : Desc) where
   external_is vs once (Json-F.Object []) = neither (Json-F.Object []) (λ name. refl) (λ name d. refl) vs
   external_is vs once (Json-F.Text w) =
       ok_found variant_name without_payload (refused NotListed) (λ v. is_none v.payload) refl ok_without w 0 vs once
-      ∙ sym (bare_is w vs)
-      ∙ sym (or-false (list_any (bytes_eq w) (names_bare vs)))
-      ∙ ap (λ (b : Bool). list_any (bytes_eq w) (names_bare vs) || b) (sym (no_payload (Json-F.Text w) (λ name d. refl) vs))
+      ∙ sym (bare_is table w vs)
+      ∙ sym (or-false (list_any (bytes_eq w) (names_bare table vs)))
+      ∙ ap (λ (b : Bool). list_any (bytes_eq w) (names_bare table vs) || b) (sym (no_payload (Json-F.Text w) (λ name d. refl) vs))
   external_is vs once (Json-F.Object (m ∷ ms)) =
       let y = Json-F.Object (m ∷ ms) in
       ok_if (are_all_named m.name ms) WrongKind _
       ∙ ap (λ (b : Bool). are_all_named m.name ms && b) (ok_found variant_name (with_payload (told table whole m.value)) (refused NotListed) (λ v. payload_at m.value v.payload) refl (ok_with m.value) m.name 0 vs once)
       ∙ sym (any_and (are_all_named m.name ms) (λ v. bytes_eq v.name m.name && payload_at m.value v.payload) vs)
       ∙ any_same _ (payload_told y) (λ v. sym (payload_row m ms v.name v.payload)) vs
-      ∙ ap (λ (b : Bool). b || list_any (payload_told y) vs) (sym (none_of (is_named y) (λ name. refl) (names_bare vs)))
+      ∙ ap (λ (b : Bool). b || list_any (payload_told y) vs) (sym (none_of (is_named y) (λ name. refl) (names_bare table vs)))
 
   -- a text is no payload
   pub name_or_payload : (y : Json-F Json Member) (names : List (List ℕ)) (vs : List Variant) → list_any (is_named y) names ≡ true → list_any (payload_told y) vs ≡ false

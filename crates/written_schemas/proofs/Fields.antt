@@ -16,22 +16,18 @@ use Rattle.openapi_values.specs.Rows.{property_admitted}
 use Rattle.typed_values.specs.declared.desc.Desc.{Desc}
 use Rattle.typed_values.specs.declared.desc.Field.{Field}
 use Rattle.typed_values.specs.declared.desc.Presence.{Presence}
-use Rattle.typed_values.specs.declared.desc.Presence.TheVariants.{Required, Nullable, Skipped}
+use Rattle.typed_values.specs.declared.desc.Presence.TheVariants.{Required, Nullable, Skipped, Default}
 use Rattle.typed_values.specs.declared.table.Definition.{Definition}
 use Rattle.typed_values.specs.Definitions.{field_name}
-use Rattle.typed_values.specs.Denotes.{value_named, is_declared, told, by_presence}
+use Rattle.typed_values.specs.Denotes.{Told, value_named, is_declared, told, by_presence, if_absent, if_present}
 use Rattle.typed_values.specs.Order.{sorted_by}
 use Rattle.typed_values.specs.Rows.{value_denotes, told_field, told_fields, told_struct}
-use Rattle.typed_values.specs.SchemaTable.{property_of, required_names, same_name}
+use Rattle.typed_values.specs.SchemaTable.{same_name}
 use Rattle.typed_values.proofs.Denoted.{ok_below, ok_just, ok_all, ok_struct}
 use Rattle.typed_values.proofs.Found.{contains_first, contains_later, other_name}
-use Rattle.written_schemas.proofs.Forms.{drawn_of}
+use Rattle.written_schemas.proofs.Forms.{field_property, names_required}
 use Rattle.written_schemas.proofs.Structs.{all_same, is_struct_of, other_passes}
 use Rattle.written_schemas.proofs.Sorted.{all_sorted, any_sorted, first_sorted, absent, and_swapped}
-
--- a field as it stands among the properties
-abbrev pub property : Field → Member
-property f = property_of (drawn_of f)
 
 no_value : (name : List ℕ) (ms : List Member) → AllByRecursion (λ other. name ≢ other) (map name_of ms) → value_named ms name ≡ None
 no_value name [] h = refl
@@ -72,17 +68,32 @@ abbrev if_required : Presence → Bool → Bool
 if_required Required b = b
 if_required Nullable b = true
 if_required Skipped b = true
+if_required (Default tree) b = true
 
-required_row : (p : Presence) (q : List ℕ → Bool) (f : Field) (fs : List Field) → f.presence ≡ p
-    → list_all q (required_names (map drawn_of (f ∷ fs))) ≡ (if_required p (q f.name) && list_all q (required_names (map drawn_of fs)))
-required_row Required q f fs e = rw e refl
-required_row Nullable q f fs e = rw e refl
-required_row Skipped q f fs e = rw e refl
+-- a field that is absent, and one that is there
+absent_row : (p : Presence) (name : List ℕ) → if_required p false ≡ is_ok (if_absent p name)
+absent_row Required name = refl
+absent_row Nullable name = refl
+absent_row Skipped name = refl
+absent_row (Default tree) name = refl
+
+present_row : (p : Presence) (admitted : Bool) (o : Told) → admitted ≡ is_ok o → (admitted && if_required p true) ≡ is_ok (if_present p o)
+present_row Required admitted o same = and-true admitted ∙ same
+present_row Nullable admitted o same = and-true admitted ∙ same
+present_row Skipped admitted o same = and-true admitted ∙ same ∙ sym (ok_just o)
+present_row (Default tree) admitted o same = and-true admitted ∙ same
 
 module _ (table : List Definition) (whole : Desc) (smaller : Json → Json → Bool) where
+  required_row : (p : Presence) (q : List ℕ → Bool) (f : Field) (fs : List Field) → f.presence ≡ p
+      → list_all q (names_required table (f ∷ fs)) ≡ (if_required p (q f.name) && list_all q (names_required table fs))
+  required_row Required q f fs e = rw e refl
+  required_row Nullable q f fs e = rw e refl
+  required_row Skipped q f fs e = rw e refl
+  required_row (Default tree) q f fs e = rw e refl
+
   -- each field's schema admits the value exactly where it denotes a tree
   abbrev pub AgreesOn : List Field → Json → Type 0
-  AgreesOn fs v = (f : Field) → Contains fs f → smaller v (property f).value ≡ is_ok (told table whole v f.desc)
+  AgreesOn fs v = (f : Field) → Contains fs f → smaller v (field_property table f).value ≡ is_ok (told table whole v f.desc)
 
   found_agrees : (fs : List Field) (name : List ℕ) (ms : List Member) → AllByRecursion (λ m. AgreesOn fs m.value) ms → MatchOption (value_named ms name) ⊤ (AgreesOn fs)
   found_agrees fs name [] h = tt
@@ -92,14 +103,10 @@ module _ (table : List Definition) (whole : Desc) (smaller : Json → Json → B
       by_name true o k = h.0
       by_name false o k = k
 
-  field_row : (p : Presence) (f : Field) (fs : List Field) (o : Option Json) → f.presence ≡ p → MatchOption o ⊤ (AgreesOn (f ∷ fs))
-      → (is_none_or o (λ v. smaller v (property f).value) && if_required p (is_some o)) ≡ is_ok (by_presence f (value_denotes table whole f.desc o))
-  field_row Required f fs None e h = rw e refl
-  field_row Nullable f fs None e h = rw e refl
-  field_row Skipped f fs None e h = rw e refl
-  field_row Required f fs (Some v) e h = rw e (and-true _ ∙ h f (contains_first f fs) ∙ sym (ok_below _ (told table whole v f.desc)))
-  field_row Nullable f fs (Some v) e h = rw e (and-true _ ∙ h f (contains_first f fs) ∙ sym (ok_below _ (told table whole v f.desc)))
-  field_row Skipped f fs (Some v) e h = rw e (and-true _ ∙ h f (contains_first f fs) ∙ sym (ok_below _ (told table whole v f.desc)) ∙ sym (ok_just _))
+  field_row : (f : Field) (fs : List Field) (o : Option Json) → MatchOption o ⊤ (AgreesOn (f ∷ fs))
+      → (is_none_or o (λ v. smaller v (field_property table f).value) && if_required f.presence (is_some o)) ≡ is_ok (by_presence f (value_denotes table whole f.desc o))
+  field_row f fs None h = absent_row f.presence f.name
+  field_row f fs (Some v) h = present_row f.presence (smaller v (field_property table f).value) _ (h f (contains_first f fs) ∙ sym (ok_below _ (told table whole v f.desc)))
 
   both_rows : (v p r names : Bool) → ((v && p) && (r && names)) ≡ ((v && r) && (p && names))
   both_rows true true r names = refl
@@ -111,46 +118,46 @@ module _ (table : List Definition) (whole : Desc) (smaller : Json → Json → B
   later_agree f fs [] h = tt
   later_agree f fs (m ∷ ms) h = (λ g c. h.0 g (contains_later f fs g c), later_agree f fs ms h.1)
 
-  new_property : (name : List ℕ) (fs : List Field) → AllByRecursion (λ other. name ≢ other) (map field_name fs) → AllByRecursion (λ other. name ≢ other) (map name_of (map property fs))
+  new_property : (name : List ℕ) (fs : List Field) → AllByRecursion (λ other. name ≢ other) (map field_name fs) → AllByRecursion (λ other. name ≢ other) (map name_of (map (field_property table) fs))
   new_property name [] h = tt
   new_property name (f ∷ fs) h = (h.0, new_property name fs h.1)
 
   fields_agree : (fs : List Field) (ms : List Member) → AreDistinct (map field_name fs) → AreDistinct (map name_of ms) → AllByRecursion (λ m. AgreesOn fs m.value) ms
-      → (list_all (property_admitted smaller (map property fs)) ms && list_all (λ name. has_member name ms) (required_names (map drawn_of fs))) ≡ list_all (λ f. is_ok (told_field table whole ms f)) fs
+      → (list_all (property_admitted smaller (map (field_property table) fs)) ms && list_all (λ name. has_member name ms) (names_required table fs)) ≡ list_all (λ f. is_ok (told_field table whole ms f)) fs
   fields_agree [] ms h k agree = none_asked ms
     where
       none_asked : (ms : List Member) → (list_all (property_admitted smaller []) ms && true) ≡ true
       none_asked [] = refl
       none_asked (m ∷ ms) = none_asked ms
   fields_agree (f ∷ fs) ms h k agree =
-      let rest = list_all (property_admitted smaller (map property fs)) ms in
-      let names = list_all (λ name. has_member name ms) (required_names (map drawn_of fs)) in
-      ap (λ (b : Bool). b && list_all (λ name. has_member name ms) (required_names (map drawn_of (f ∷ fs)))) (one_property smaller (property f) (map property fs) ms (absent f.name (map property fs) (new_property f.name fs h.0)) k)
-      ∙ ap (λ (b : Bool). (asks smaller (property f) ms && rest) && b) (required_row f.presence (λ name. has_member name ms) f fs refl ∙ ap (λ (b : Bool). if_required f.presence b && names) (has_value f.name ms))
-      ∙ both_rows (asks smaller (property f) ms) rest (if_required f.presence (is_some (value_named ms f.name))) names
-      ∙ ap (λ (b : Bool). b && (rest && names)) (field_row f.presence f fs (value_named ms f.name) refl (found_agrees (f ∷ fs) f.name ms agree))
+      let rest = list_all (property_admitted smaller (map (field_property table) fs)) ms in
+      let names = list_all (λ name. has_member name ms) (names_required table fs) in
+      ap (λ (b : Bool). b && list_all (λ name. has_member name ms) (names_required table (f ∷ fs))) (one_property smaller (field_property table f) (map (field_property table) fs) ms (absent f.name (map (field_property table) fs) (new_property f.name fs h.0)) k)
+      ∙ ap (λ (b : Bool). (asks smaller (field_property table f) ms && rest) && b) (required_row f.presence (λ name. has_member name ms) f fs refl ∙ ap (λ (b : Bool). if_required f.presence b && names) (has_value f.name ms))
+      ∙ both_rows (asks smaller (field_property table f) ms) rest (if_required f.presence (is_some (value_named ms f.name))) names
+      ∙ ap (λ (b : Bool). b && (rest && names)) (field_row f fs (value_named ms f.name) (found_agrees (f ∷ fs) f.name ms agree))
       ∙ ap (λ (b : Bool). is_ok (told_field table whole ms f) && b) (fields_agree fs ms h.1 k (later_agree f fs ms agree))
 
-  declared_is : (fs : List Field) (name : List ℕ) → has_member name (map property fs) ≡ is_declared fs name
+  declared_is : (fs : List Field) (name : List ℕ) → has_member name (map (field_property table) fs) ≡ is_declared fs name
   declared_is [] name = refl
   declared_is (f ∷ fs) name = by_name (bytes_eq f.name name) (declared_is fs name)
     where
-      by_name : (b : Bool) → has_member name (map property fs) ≡ is_declared fs name → (b || has_member name (map property fs)) ≡ cond b true (is_declared fs name)
+      by_name : (b : Bool) → has_member name (map (field_property table) fs) ≡ is_declared fs name → (b || has_member name (map (field_property table) fs)) ≡ cond b true (is_declared fs name)
       by_name true e = refl
       by_name false e = e
 
   pub struct_agrees : (fs : List Field) (deny : Bool) (ms : List Member) → AreDistinct (map field_name fs) → AreDistinct (map name_of ms) → AllByRecursion (λ m. AgreesOn fs m.value) ms
       → ((v : Json) → smaller v (Truth false) ≡ false)
-      → is_struct_of smaller (sorted_by name_of (map property fs)) (sorted_by same_name (required_names (map drawn_of fs))) deny (Json-F.Object ms) ≡ is_ok (told_struct table whole fs deny ms)
+      → is_struct_of smaller (sorted_by name_of (map (field_property table) fs)) (sorted_by same_name (names_required table fs)) deny (Json-F.Object ms) ≡ is_ok (told_struct table whole fs deny ms)
   struct_agrees fs deny ms h k agree nothing =
-      let properties = sorted_by name_of (map property fs) in
-      let names = sorted_by same_name (required_names (map drawn_of fs)) in
+      let properties = sorted_by name_of (map (field_property table) fs) in
+      let names = sorted_by same_name (names_required table fs) in
       ap (λ (b : Bool). b && (list_all (λ name. has_member name ms) names && (not deny || list_all (other_passes smaller properties) ms)))
-      (all_same (property_admitted smaller properties) (property_admitted smaller (map property fs)) (λ m. ap (λ (o : Option Json). is_none_or o (smaller m.value)) (first_sorted m.name (map property fs))) ms)
-      ∙ ap (λ (b : Bool). list_all (property_admitted smaller (map property fs)) ms && (b && (not deny || list_all (other_passes smaller properties) ms))) (all_sorted same_name (λ name. has_member name ms) (required_names (map drawn_of fs)))
-      ∙ sym (and_assoc (list_all (property_admitted smaller (map property fs)) ms) (list_all (λ name. has_member name ms) (required_names (map drawn_of fs))) (not deny || list_all (other_passes smaller properties) ms))
+      (all_same (property_admitted smaller properties) (property_admitted smaller (map (field_property table) fs)) (λ m. ap (λ (o : Option Json). is_none_or o (smaller m.value)) (first_sorted m.name (map (field_property table) fs))) ms)
+      ∙ ap (λ (b : Bool). list_all (property_admitted smaller (map (field_property table) fs)) ms && (b && (not deny || list_all (other_passes smaller properties) ms))) (all_sorted same_name (λ name. has_member name ms) (names_required table fs))
+      ∙ sym (and_assoc (list_all (property_admitted smaller (map (field_property table) fs)) ms) (list_all (λ name. has_member name ms) (names_required table fs)) (not deny || list_all (other_passes smaller properties) ms))
       ∙ ap (λ (b : Bool). b && (not deny || list_all (other_passes smaller properties) ms)) (fields_agree fs ms h k agree ∙ sym (ok_all (λ i f. told_field table whole ms f) (λ f. is_ok (told_field table whole ms f)) (λ i f. refl) 0 fs))
       ∙ ap (λ (b : Bool). is_ok (told_fields table whole ms fs) && (not deny || b))
       (all_same (other_passes smaller properties) (λ m. is_declared fs m.name) (λ m.
-      ap (λ (b : Bool). has_member m.name properties || b) (nothing m.value) ∙ or-false (has_member m.name properties) ∙ any_sorted name_of (λ p. bytes_eq p.name m.name) (map property fs) ∙ declared_is fs m.name) ms)
+      ap (λ (b : Bool). has_member m.name properties || b) (nothing m.value) ∙ or-false (has_member m.name properties) ∙ any_sorted name_of (λ p. bytes_eq p.name m.name) (map (field_property table) fs) ∙ declared_is fs m.name) ms)
       ∙ sym (ok_struct deny fs ms (told_fields table whole ms fs))

@@ -1,5 +1,4 @@
 mod SchemaForms
-mod Induction
 mod SchemaMembers
 mod NotRefused
 mod DrawnParts

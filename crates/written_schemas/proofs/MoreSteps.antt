@@ -1,7 +1,7 @@
 -- More steps at each value tell the same of a table that passes: they are those of the whole descriptor under options.
 use Rattle.std.proofs.Common.{◌≡◌, ℕ, zero, suc, ◌+◌, ◌-◌, ◌≤◌, Bool, List, [], ◌∷◌, length, Option, Some, None, option_map, refl, sym, ◌∙◌, ap, subst, arith, MatchOption, bytes_eq, cond, true, false}
 use Rattle.std.specs.List.{AllByRecursion}
-use Rattle.std.specs.Prelude.{Contains}
+use Rattle.std.specs.Prelude.{Contains, ⊤}
 use Rattle.std.specs.declared.result.Result.{Result}
 use Rattle.schema_values.specs.declared.json_value.Json.{Json, out-Json}
 use Rattle.schema_values.specs.declared.json_value.Json.TheOpen.{Json-F}
@@ -29,7 +29,7 @@ use Rattle.typed_values.proofs.Found.{contains_first, contains_later, definition
 use Rattle.typed_values.proofs.Needed.{IsNeeded, of_whole, needed_part, option_needed, list_needed, map_needed, field_needed, payload_needed, variant_needed, alternative_needed, reference_needed}
 use Rattle.typed_values.proofs.Rows.{row_at}
 use Rattle.typed_values.proofs.SortedLemmas.{all_sorted}
-use Rattle.typed_values.proofs.Soundness.{passes_is_sound, each_of}
+use Rattle.typed_values.proofs.Soundness.{guarded_is_sound, each_of}
 use Rattle.typed_values.proofs.Tops.{nodes_at}
 use Rattle.written_schemas.proofs.Parts.{OfParts, by_parts}
 
@@ -53,7 +53,7 @@ module _ (table : List Definition) where
   each_more Less More step [] h = tt
   each_more Less More step (d ∷ ds) h = (step d h.0, each_more Less More step ds h.1)
 
-  found_more : (Less More : Desc → Type 0) → ((d : Desc) → Less d → More d) → (o : Option Desc) → MatchOption o ⊥ Less → MatchOption o ⊥ More
+  found_more : (Less More : Desc → Type 0) → ((d : Desc) → Less d → More d) → (o : Option Desc) → MatchOption o ⊤ Less → MatchOption o ⊤ More
   found_more Less More step None h = h
   found_more Less More step (Some d) h = step d h
 
@@ -202,8 +202,8 @@ module _ (table : List Definition) (whole more : Desc) (sound : IsSound table wh
   module _ (j : Json) (below_j : OfParts Same (out-Json j)) where
     same_reference : (n : ℕ) → ((d : Desc) → Rests table n d → IsNeeded table whole d → told table more j d ≡ told table whole j d)
         → (d : Desc) (name : List ℕ) → IsNeeded table whole d → out-Desc d ≡ Desc-F.Ref name → (o : Option Definition) → entry_of table name ≡ o
-        → MatchOption (option_map (λ e. e.desc) o) ⊥ (Rests table n) → at_definition (told table more j) (option_map (λ e. e.desc) o) ≡ at_definition (told table whole j) (option_map (λ e. e.desc) o)
-    same_reference n ih d name need e None f rests = absurd rests
+        → MatchOption (option_map (λ e. e.desc) o) ⊤ (Rests table n) → at_definition (told table more j) (option_map (λ e. e.desc) o) ≡ at_definition (told table whole j) (option_map (λ e. e.desc) o)
+    same_reference n ih d name need e None f rests = refl
     same_reference n ih d name need e (Some y) f rests = ih y.desc rests (reference_needed table whole d name y e f need)
 
     same_by : (n : ℕ) → ((d : Desc) → Rests table n d → IsNeeded table whole d → told table more j d ≡ told table whole j d)
@@ -227,7 +227,7 @@ module _ (table : List Definition) (whole more : Desc) (sound : IsSound table wh
     same_by n ih d need (Desc-F.Ref name) e rests =
         let found = definition_is table name in
         ap (at_definition (told table more j)) found
-        ∙ same_reference n ih d name need e (entry_of table name) refl (subst (λ (o : Option Desc). MatchOption o ⊥ (Rests table n)) found rests)
+        ∙ same_reference n ih d name need e (entry_of table name) refl (subst (λ (o : Option Desc). MatchOption o ⊤ (Rests table n)) found rests)
         ∙ ap (at_definition (told table whole j)) (sym found)
 
     same_at : (n : ℕ) (d : Desc) → Rests table n d → IsNeeded table whole d → told table more j d ≡ told table whole j d
@@ -249,4 +249,4 @@ more_steps table desc passes right json steps le =
     let k : ℕ = steps - room table desc in
     let is : room table (options k desc) ≡ steps = omega (arith, room_under table k desc, le) in
     sym (ap (λ (n : ℕ). told_within table n json n desc) is)
-    ∙ same table desc (options k desc) (passes_is_sound table desc passes right) (omega (arith, is, le)) json desc (of_whole the_whole)
+    ∙ same table desc (options k desc) (guarded_is_sound table desc passes.guarded) (omega (arith, is, le)) json desc (of_whole the_whole)

@@ -3,7 +3,7 @@ use Rattle.std.proofs.Common.{◌≡◌, ℕ, List, [], ◌∷◌, ◌++◌, map
 use Rattle.std.specs.List.{AllByRecursion, list_all, list_any}
 use Rattle.std.specs.Option.{option_map_or, option_or}
 use Rattle.std.specs.Prelude.{⊤}
-use Rattle.schema_values.specs.declared.json_value.Json.{Text as Words}
+use Rattle.schema_values.specs.declared.json_value.Json.{Json, Text as Words}
 use Rattle.schema_values.specs.declared.json_value.Json.TheVariants as json
 use Rattle.schema_values.specs.declared.schema.ArrayParts.{roll-ArrayParts}
 use Rattle.schema_values.specs.declared.schema.InstanceType.TheVariants.{Object, Array, String}
@@ -22,17 +22,17 @@ use Rattle.typed_values.specs.declared.desc.Desc.TheOpen.{Desc-F}
 use Rattle.typed_values.specs.declared.desc.Desc.TheViews.{out-roll-Desc}
 use Rattle.typed_values.specs.declared.desc.Field.{Field}
 use Rattle.typed_values.specs.declared.desc.Named.{Named}
-use Rattle.typed_values.specs.declared.desc.Presence.{Presence}
-use Rattle.typed_values.specs.declared.desc.Presence.TheVariants.{Required}
 use Rattle.typed_values.specs.declared.desc.TaggedVariant.{TaggedVariant}
 use Rattle.typed_values.specs.declared.desc.Variant.{Variant}
+use Rattle.typed_values.specs.declared.table.Definition.{Definition}
 use Rattle.typed_values.specs.Definitions.{tagged_description, tagged_fields, tagged_name}
+use Rattle.typed_values.specs.DescBeside.{Beside, beside_with}
 use Rattle.typed_values.specs.Order.{sorted_by}
-use Rattle.typed_values.specs.SchemaTable.{bare_names, is_described, same_name}
-use Rattle.typed_values.specs.Schemas.{Parts, Sketch, FieldSketch, object_of, no_parts, no_subschemas, of_single, annotatable, with_null, with_description, property_name, property_of, required_field, required_names, nothing_more, list_of, struct_parts, map_of, choice_of, one_of, all_or_none, other_members, texts_of, not_described, enumerated, described_choice, plain_choice, choices_of, enumeration, external_choices, payload_choices, tagged_choice, sketch, sketch_step, schema_sketch, schema_parts, sketch_of_field, sketch_of_tagged, sketch_of_variant, schema_value}
+use Rattle.typed_values.specs.SchemaTable.{bare_names, default_of, is_described, same_name}
+use Rattle.typed_values.specs.Schemas.{Parts, Sketch, object_of, no_parts, no_subschemas, of_single, annotatable, with_null, with_default, with_description, property, property_name, property_of, required_names, nothing_more, list_of, struct_parts, map_of, choice_of, one_of, all_or_none, other_members, texts_of, not_described, enumerated, described_choice, plain_choice, choices_of, enumeration, external_choices, payload_choices, tagged_choice, sketch_step, schema_sketch, schema_parts, sketch_of_field, sketch_of_tagged, sketch_of_variant, schema_value}
+use Rattle.typed_values.proofs.Induction.{InField, InFields, InTagged, InVariant, KnownLevel, firsts, by_levels, each_holds}
 use Rattle.typed_values.proofs.SchemaRows.{parts_row, sketch_level}
 use Rattle.typed_values.proofs.SortedLemmas.{all_sorted}
-use Rattle.written_schemas.proofs.Induction.{InField, InFields, InTagged, InVariant, KnownLevel, firsts, by_levels, each_holds}
 use Rattle.written_schemas.proofs.SchemaForms.{StructParts, object_parts, in_all_of, kept, wrapped}
 
 -- parts in which each part with schemas stands as its refusal
@@ -40,6 +40,7 @@ abbrev level_of : Parts → Level SchemaObject-F
 level_of p = record {
   title = p.title;
   description = p.description;
+  default = p.default;
   nullable = p.nullable;
   instance_type = p.instance_type;
   format = p.format;
@@ -50,6 +51,7 @@ level_of p = record {
   array = option_map array_refusal p.array;
   object = option_map object_parts_refusal p.object;
   reference = p.reference;
+  extensions = p.extensions;
 }
 
 by_parts : (p : Parts) → refusal_of (object_of p) ≡ object_step (level_of p)
@@ -89,6 +91,11 @@ null_taken p h = by_parts (with_null p) ∙ sym (by_parts (annotatable p)) ∙ a
 pub described_taken : (description : Option (List ℕ)) (p : Parts) → refusal_of (object_of p) ≡ None → refusal_of (object_of (with_description description p)) ≡ None
 described_taken None p h = h
 described_taken (Some text) p h = by_parts (with_description (Some text) p) ∙ sym (by_parts (annotatable p)) ∙ annotatable_taken p h
+
+-- nor does a default
+defaulted_taken : (default : Option Json) (p : Parts) → Taken p → Taken (with_default default p)
+defaulted_taken None p h = h
+defaulted_taken (Some json) p h = by_parts (with_default (Some json) p) ∙ sym (by_parts (annotatable p)) ∙ annotatable_taken p h
 
 list_taken : (p : Parts) (min max : Option ℕ) → Taken p → Taken (list_of (object_of p) min max)
 list_taken p min max h =
@@ -166,79 +173,78 @@ enumeration_taken ns = by_case (list_any is_described ns)
 
 -- ---- structs
 
-property_taken : (name : List ℕ) (presence : Presence) (description : Option (List ℕ)) (s : Sketch) → Taken s.parts
-    → property_refusal (property_of (record { name = name; desc = s; presence = presence; description = description })) ≡ None
-property_taken name presence description s h =
-    property-is (property_of (record { name = name; desc = s; presence = presence; description = description })) ∙ described_taken description s.parts h
-
-abbrev IsTaken : Desc → Type 0
-IsTaken d = Taken (schema_parts d)
-
 abbrev AreTakenProperties : List Property → Type 0
 AreTakenProperties = AllByRecursion (λ (p : Property). property_refusal p ≡ None)
 
-properties_taken : (fs : List Field) → InFields IsTaken fs → AreTakenProperties (map property_of (map sketch_of_field fs))
-properties_taken [] h = tt
-properties_taken (f ∷ fs) h = (property_taken f.name f.presence f.description (schema_sketch f.desc) h.0, properties_taken fs h.1)
+property_taken : (name : List ℕ) (p : Parts) → Taken p → property_refusal (property name p) ≡ None
+property_taken name p h = property-is (property name p) ∙ h
 
-struct_taken : (fs : List FieldSketch) (deny : Bool) → AreTakenProperties (map property_of fs) → Taken (struct_parts fs deny)
-struct_taken fs deny h =
-    object_taken (object_parts (sorted_by property_name (map property_of fs)) (sorted_by same_name (required_names fs)) deny)
-    (all_sorted (λ (p : Property). property_refusal p ≡ None) property_name (map property_of fs) h) (nothing_more_taken deny)
-
--- ---- variants
+struct_taken : (ps : List Property) (names : List (List ℕ)) (deny : Bool) → AreTakenProperties ps → Taken (struct_parts ps names deny)
+struct_taken ps names deny h =
+    object_taken (object_parts (sorted_by property_name ps) (sorted_by same_name names) deny) (all_sorted (λ (p : Property). property_refusal p ≡ None) property_name ps h) (nothing_more_taken deny)
 
 both_taken : (ss others : List Schema) → AreTaken ss → AreTaken others → AreTaken (ss ++ others)
 both_taken [] others h k = k
 both_taken (s ∷ ss) others h k = (h.0, both_taken ss others h.1 k)
 
-payloads_taken : (vs : List Variant) → AllByRecursion (InVariant IsTaken) vs → AreTaken (payload_choices (map sketch_of_variant vs))
-payloads_taken [] h = tt
-payloads_taken (v ∷ vs) h = by_payload v.payload h.0 (payloads_taken vs h.1)
-  where
-    by_payload : (payload : Option Desc) → MatchOption payload ⊤ IsTaken → AreTaken (payload_choices (map sketch_of_variant vs))
-        → AreTaken (payload_choices (record { name = v.name; description = v.description; payload = option_map schema_sketch payload } ∷ map sketch_of_variant vs))
-    by_payload None taken later = later
-    by_payload (Some x) taken later =
-        let field = required_field v.name (schema_sketch x) in
-        (described_taken v.description (struct_parts (field ∷ []) true) (struct_taken (field ∷ []) true (property_taken v.name Required None (schema_sketch x) taken, tt)), later)
+module _ (table : List Definition) where
+  abbrev IsTaken : Desc → Type 0
+  IsTaken d = Taken (schema_parts table d)
 
-external_taken : (vs : List Variant) → AllByRecursion (InVariant IsTaken) vs → AreTaken (external_choices (map sketch_of_variant vs))
-external_taken vs h =
-    let names = bare_names (map sketch_of_variant vs) in
-    both_taken (choices_of names) (payload_choices (map sketch_of_variant vs)) (choices_taken (not_described names) (filter is_described names)) (payloads_taken vs h)
+  properties_taken : (fs : List Field) → InFields IsTaken fs → AreTakenProperties (map (property_of table) (map (sketch_of_field table) fs))
+  properties_taken [] h = tt
+  properties_taken (f ∷ fs) h =
+      let described = described_taken f.description (schema_parts table f.desc) h.0 in
+      (property_taken f.name _ (defaulted_taken (default_of table f.presence f.desc) _ described), properties_taken fs h.1)
 
-tagged_taken : (tag : List ℕ) (vs : List TaggedVariant) → AllByRecursion (InTagged IsTaken) vs → AreTaken (map (tagged_choice tag) (map sketch_of_tagged vs))
-tagged_taken tag [] h = tt
-tagged_taken tag (v ∷ vs) h =
-    let name = sketch (enumerated (Words (tagged_name v) ∷ [])) in
-    let fields = required_field tag name ∷ map sketch_of_field (tagged_fields v) in
-    let one = listed_taken (record { name = tagged_name v; description = None } ∷ []) in
-    (described_taken (tagged_description v) (struct_parts fields false) (struct_taken fields false (property_taken tag Required None name one, properties_taken (tagged_fields v) h.0)), tagged_taken tag vs h.1)
+  -- ---- variants
 
--- ---- one row for each descriptor
+  payloads_taken : (vs : List Variant) → AllByRecursion (InVariant IsTaken) vs → AreTaken (payload_choices (map (sketch_of_variant table) vs))
+  payloads_taken [] h = tt
+  payloads_taken (v ∷ vs) h = by_payload v.payload h.0 (payloads_taken vs h.1)
+    where
+      by_payload : (payload : Option Desc) → MatchOption payload ⊤ IsTaken → AreTaken (payload_choices (map (sketch_of_variant table) vs))
+          → AreTaken (payload_choices (record { name = v.name; description = v.description; payload = option_map (beside_with (schema_sketch table)) payload } ∷ map (sketch_of_variant table) vs))
+      by_payload None taken later = later
+      by_payload (Some x) taken later =
+          (described_taken v.description _ (struct_taken (property v.name (schema_parts table x) ∷ []) (v.name ∷ []) true (property_taken v.name (schema_parts table x) taken, tt)), later)
 
-alternatives_taken : (ds : List Desc) → AllByRecursion IsTaken ds → AreTaken (map (λ (s : Sketch). object_of s.parts) (map schema_sketch ds))
-alternatives_taken [] h = tt
-alternatives_taken (d ∷ ds) h = (h.0, alternatives_taken ds h.1)
+  external_taken : (vs : List Variant) → AllByRecursion (InVariant IsTaken) vs → AreTaken (external_choices (map (sketch_of_variant table) vs))
+  external_taken vs h =
+      let names = bare_names (map (sketch_of_variant table) vs) in
+      both_taken (choices_of names) (payload_choices (map (sketch_of_variant table) vs)) (choices_taken (not_described names) (filter is_described names)) (payloads_taken vs h)
 
-taken_by : (y : KnownLevel IsTaken) → Taken (sketch_level (firsts IsTaken y)).parts
-taken_by Desc-F.Any = by_parts _
-taken_by Desc-F.Never = nothing_taken
-taken_by Desc-F.Null = by_parts _
-taken_by Desc-F.Bool = by_parts _
-taken_by Desc-F.Char = by_parts _
-taken_by (Desc-F.Int kind min max) = by_parts (sketch_step (Desc-F.Int kind min max)).parts
-taken_by (Desc-F.Text min max format) = by_parts (sketch_step (Desc-F.Text min max format)).parts
-taken_by (Desc-F.Enumeration ns) = enumeration_taken ns
-taken_by (Desc-F.Option e) = null_taken (schema_parts e.0) e.1
-taken_by (Desc-F.List e min max) = list_taken (schema_parts e.0) min max e.1
-taken_by (Desc-F.Map e) = map_taken (schema_sketch e.0) e.1
-taken_by (Desc-F.Struct es deny) = struct_taken _ deny (properties_taken (map (λ e. e.0) es) (each_holds (InField IsTaken) es))
-taken_by (Desc-F.External es) = one_of_taken _ (external_taken (map (λ e. e.0) es) (each_holds (InVariant IsTaken) es))
-taken_by (Desc-F.Tagged tag es) = one_of_taken _ (tagged_taken tag (map (λ e. e.0) es) (each_holds (InTagged IsTaken) es))
-taken_by (Desc-F.Untagged es) = choice_taken _ (alternatives_taken (map (λ e. e.0) es) (each_holds IsTaken es))
-taken_by (Desc-F.Ref name) = by_parts (sketch_step (Desc-F.Ref name)).parts
+  tagged_taken : (tag : List ℕ) (vs : List TaggedVariant) → AllByRecursion (InTagged IsTaken) vs → AreTaken (map (tagged_choice table tag) (map (sketch_of_tagged table) vs))
+  tagged_taken tag [] h = tt
+  tagged_taken tag (v ∷ vs) h =
+      let name = enumerated (Words (tagged_name v) ∷ []) in
+      let one = listed_taken (record { name = tagged_name v; description = None } ∷ []) in
+      let fields = map (sketch_of_field table) (tagged_fields v) in
+      (described_taken (tagged_description v) _ (struct_taken (property tag name ∷ map (property_of table) fields) (tag ∷ required_names fields) false (property_taken tag name one, properties_taken (tagged_fields v) h.0)), tagged_taken tag vs h.1)
 
-pub never_refused : (d : Desc) → refusal_of (schema_value d) ≡ None
-never_refused = by_levels IsTaken (λ y. subst Taken (sym (parts_row _ (firsts IsTaken y) (out-roll-Desc (firsts IsTaken y)))) (taken_by y))
+  -- ---- one row for each descriptor
+
+  alternatives_taken : (ds : List Desc) → AllByRecursion IsTaken ds → AreTaken (map (λ (s : Beside Sketch). object_of s.made.parts) (map (beside_with (schema_sketch table)) ds))
+  alternatives_taken [] h = tt
+  alternatives_taken (d ∷ ds) h = (h.0, alternatives_taken ds h.1)
+
+  taken_by : (y : KnownLevel IsTaken) → Taken (sketch_level table (firsts IsTaken y)).parts
+  taken_by Desc-F.Any = by_parts _
+  taken_by Desc-F.Never = nothing_taken
+  taken_by Desc-F.Null = by_parts _
+  taken_by Desc-F.Bool = by_parts _
+  taken_by Desc-F.Char = by_parts _
+  taken_by (Desc-F.Int kind min max) = by_parts (sketch_step table (Desc-F.Int kind min max)).parts
+  taken_by (Desc-F.Text min max format) = by_parts (sketch_step table (Desc-F.Text min max format)).parts
+  taken_by (Desc-F.Enumeration ns) = enumeration_taken ns
+  taken_by (Desc-F.Option e) = null_taken (schema_parts table e.0) e.1
+  taken_by (Desc-F.List e min max) = list_taken (schema_parts table e.0) min max e.1
+  taken_by (Desc-F.Map e) = map_taken (schema_sketch table e.0) e.1
+  taken_by (Desc-F.Struct es deny) = struct_taken _ (required_names (map (sketch_of_field table) (map (λ e. e.0) es))) deny (properties_taken (map (λ e. e.0) es) (each_holds (InField IsTaken) es))
+  taken_by (Desc-F.External es) = one_of_taken _ (external_taken (map (λ e. e.0) es) (each_holds (InVariant IsTaken) es))
+  taken_by (Desc-F.Tagged tag es) = one_of_taken _ (tagged_taken tag (map (λ e. e.0) es) (each_holds (InTagged IsTaken) es))
+  taken_by (Desc-F.Untagged es) = choice_taken _ (alternatives_taken (map (λ e. e.0) es) (each_holds IsTaken es))
+  taken_by (Desc-F.Ref name) = by_parts (sketch_step table (Desc-F.Ref name)).parts
+
+  pub never_refused : (d : Desc) → refusal_of (schema_value table d) ≡ None
+  never_refused = by_levels IsTaken (λ y. subst Taken (sym (parts_row table _ (firsts IsTaken y) (out-roll-Desc (firsts IsTaken y)))) (taken_by y))

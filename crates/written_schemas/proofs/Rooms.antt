@@ -40,11 +40,11 @@ module _ (table : List Definition) where
   weight : List ℕ → Json → ℕ
   weight name v = min (top_named (entry_of table name)) (values v)
 
-  weight_is : (name : List ℕ) (e : Definition) → entry_of table name ≡ Some e → weight name (schema_json_described e.description e.desc) ≡ top_cost e.desc
+  weight_is : (name : List ℕ) (e : Definition) → entry_of table name ≡ Some e → weight name (schema_json_described table e.description e.desc) ≡ top_cost e.desc
   unfolding weight top_named
   weight_is name e f =
-      let v = schema_json_described e.description e.desc in
-      let fits : top_cost e.desc ≤ values v = omega (arith, top_fits e.desc, described_fits e.desc e.description) in
+      let v = schema_json_described table e.description e.desc in
+      let fits : top_cost e.desc ≤ values v = omega (arith, top_fits table e.desc, described_fits table e.desc e.description) in
       ap (λ (o : Option Definition). min (top_named o) (values v)) f ∙ min-eq_left fits
 
   weights_fit : (ms : List Member) → summed weight ms ≤ total ms
@@ -57,7 +57,7 @@ module _ (table : List Definition) (whole : Desc) (doc : Json) (passes : TablePa
   -- the schema of a definition that is reached stands among those left, or the definition has led to here
   AreLeft : List Member → Desc → Type 0
   AreLeft left d = (name : List ℕ) (e : Definition) → IsReached table whole name → entry_of table name ≡ Some e
-      → (first_named name left ≡ Some (schema_json_described e.description e.desc)) ⊎ ((target : List ℕ) → Reaches table target d → Reaches table target e.desc)
+      → (first_named name left ≡ Some (schema_json_described table e.description e.desc)) ⊎ ((target : List ℕ) → Reaches table target d → Reaches table target e.desc)
 
   none_taken : (d : Desc) → AreLeft (schemas_in doc) d
   unfolding AreLeft
@@ -91,7 +91,7 @@ module _ (table : List Definition) (whole : Desc) (doc : Json) (passes : TablePa
       elim (inv name y reached f) [
         | inl a ↦
             let less = bounded (without name left) y.desc (reference_needed table whole d name y e f need) (take_out left y.desc name y f (λ target r. r) (go_on left d y.desc led inv)) in
-            omega (arith, less, taken (weight table) name left (schema_json_described y.description y.desc) a, weight_is table name y f)
+            omega (arith, less, taken (weight table) name left (schema_json_described table y.description y.desc) a, weight_is table name y f)
         | inr back ↦
             let cycle : Reaches table name y.desc = back name (at_once (named_here e)) in
             absurd (passes.guarded y (entry_inside table name y f) (subst (λ (m : List ℕ). Reaches table m y.desc) (sym (entry_name table name y f)) cycle))
@@ -129,25 +129,25 @@ module _ (table : List Definition) (whole : Desc) (doc : Json) (passes : TablePa
   bounded_at zero left d need inv = omega arith
   bounded_at (suc n) left d need inv = bounded_by n (bounded_at n) left d need inv (out-Desc d) refl
 
-  whole_bounded : (n : ℕ) (d : Desc) → IsNeeded table whole d → IsInside table whole d → cost table n d ≤ values doc + bare whole
+  whole_bounded : (n : ℕ) (d : Desc) → IsNeeded table whole d → IsInside table whole d → cost table n d ≤ values doc + bare table whole
   unfolding Bounded
-  whole_bounded n d need (inl a) = omega (arith, bounded_at n (schemas_in doc) d need (none_taken d), a.fewer, top_fits whole, weights_fit table (schemas_in doc), schemas_fit doc)
-  whole_bounded n d need (inr b) = omega (arith, bounded_at n (schemas_in doc) d need (none_taken d), b, top_fits d, weights_fit table (schemas_in doc), schemas_fit doc)
+  whole_bounded n d need (inl a) = omega (arith, bounded_at n (schemas_in doc) d need (none_taken d), a.fewer, top_fits table whole, weights_fit table (schemas_in doc), schemas_fit doc)
+  whole_bounded n d need (inr b) = omega (arith, bounded_at n (schemas_in doc) d need (none_taken d), b, top_fits table d, weights_fit table (schemas_in doc), schemas_fit doc)
 
   definition_bounded : (n : ℕ) (d : Desc) (name : List ℕ) (e : Definition) → IsReached table whole name → entry_of table name ≡ Some e → IsNeeded table whole d → IsInside table e.desc d → cost table n d ≤ values doc
   unfolding Bounded total
   definition_bounded n d name e r f need (inl a) =
       let all = schemas_in doc in
-      let v = schema_json_described e.description e.desc in
+      let v = schema_json_described table e.description e.desc in
       let there : first_named name all ≡ Some v = sym (definition_found doc name) ∙ defines name e r f in
       omega (arith, bounded_at n (without name all) d need (take_out all d name e f a.reaches (none_taken d)), a.fewer, taken (weight table) name all v there, weight_is table name e f, weights_fit table all, schemas_fit doc)
   definition_bounded n d name e r f need (inr b) =
       let all = schemas_in doc in
-      let v = schema_json_described e.description e.desc in
+      let v = schema_json_described table e.description e.desc in
       let there : first_named name all ≡ Some v = sym (definition_found doc name) ∙ defines name e r f in
-      omega (arith, bounded_at n all d need (none_taken d), b, top_fits d, described_fits e.desc e.description, taken (weight table) name all v there, taken (λ name v. values v) name all v there, weight_is table name e f, weights_fit table (without name all), schemas_fit doc)
+      omega (arith, bounded_at n all d need (none_taken d), b, top_fits table d, described_fits table e.desc e.description, taken (weight table) name all v there, taken (λ name v. values v) name all v there, weight_is table name e f, weights_fit table (without name all), schemas_fit doc)
 
   -- no needed schema takes more steps than the document and the schema have values
-  pub cost_bounded : (n : ℕ) (d : Desc) → IsNeeded table whole d → cost table n d ≤ values doc + bare whole
+  pub cost_bounded : (n : ℕ) (d : Desc) → IsNeeded table whole d → cost table n d ≤ values doc + bare table whole
   cost_bounded n d (of_whole s) = whole_bounded n d (of_whole s) (stands_inside table whole d s)
   cost_bounded n d (of_reached name e r f s) = omega (arith, definition_bounded n d name e r f (of_reached name e r f s) (stands_inside table e.desc d s))

@@ -19,8 +19,8 @@ use Rattle.typed_values.specs.declared.desc.IntKind.TheVariants.{I8, I16, I32, I
 use Rattle.typed_values.specs.Bounds.{least_of, greatest_of, is_at_least, is_at_most, is_number_of, is_long_enough, is_short_enough, is_length_within}
 use Rattle.typed_values.specs.Denotes.{Told, nought, truth, character, number, words, if_holds}
 use Rattle.typed_values.specs.declared.fault.FaultKind.{FaultKind}
-use Rattle.typed_values.specs.SchemaTable.{of_type, if_number, if_text, if_count, format_of, least_shown, all_or_none, null_alone, one_character}
-use Rattle.written_schemas.proofs.Notes.{IsNoNote, notes, notes_passed, no_null_form, hold, noted_admits, all_admitted}
+use Rattle.typed_values.specs.SchemaTable.{Remarks, annotations, of_type, if_number, if_text, if_count, format_of, least_shown, all_or_none, null_alone, one_character}
+use Rattle.written_schemas.proofs.Notes.{IsNoNote, notes_passed, no_null_form, hold, noted_admits, all_admitted}
 
 pub ok_holds : (b : Bool) (kind : FaultKind) (told : Told) → is_ok told ≡ true → is_ok (if_holds b kind told) ≡ b
 ok_holds true kind told e = e
@@ -116,10 +116,10 @@ numbers_read name (Some least) None = refl
 numbers_read name None (Some greatest) = refl
 numbers_read name None None = refl
 
-module _ {X : Type 0} (doc : Json) (smaller : X → Json → Bool) (next : Json → Bool) (value : Json) (n : Bool) (t d : Option (List ℕ)) where
+module _ {X : Type 0} (doc : Json) (smaller : X → Json → Bool) (next : Json → Bool) (value : Json) (n : Bool) (t : Option (List ℕ)) (r : Remarks) where
   numbers_hold : (i : ℤ) (schema : List Member) (name : List ℕ) (least greatest : Option ℤ)
       → is_integer schema ≡ true → is_set (codes "exclusiveMinimum") schema ≡ false → is_set (codes "exclusiveMaximum") schema ≡ false
-      → hold doc smaller next value (Json-F.Int i) n t d schema (numbers name least greatest) ≡ (in_format name i && (is_at_least least i && (is_at_most greatest i && true)))
+      → hold doc smaller next value (Json-F.Int i) n t r schema (numbers name least greatest) ≡ (in_format name i && (is_at_least least i && (is_at_most greatest i && true)))
   unfolding is_annotation bound_or part_of
   numbers_hold i schema name (Some least) (Some greatest) e f g = rw (format_row smaller next value i schema name e, least_row smaller next value i schema least f, greatest_row smaller next value i schema greatest g) refl
   numbers_hold i schema name (Some least) None e f g = rw (format_row smaller next value i schema name e, least_row smaller next value i schema least f) refl
@@ -127,46 +127,46 @@ module _ {X : Type 0} (doc : Json) (smaller : X → Json → Bool) (next : Json 
   numbers_hold i schema name None None e f g = rw (format_row smaller next value i schema name e) refl
 
   whole_numbers : List ℕ → Option ℤ → Option ℤ → List Member
-  whole_numbers name least greatest = notes n t d ++ of_type (codes "integer") (numbers name least greatest)
+  whole_numbers name least greatest = annotations n t r ++ of_type (codes "integer") (numbers name least greatest)
 
   no_mark : (name : List ℕ) → IsNoNote name → bytes_eq name (codes "type") ≡ false → bytes_eq name (codes "format") ≡ false → bytes_eq name (codes "minimum") ≡ false → bytes_eq name (codes "maximum") ≡ false
       → (format : List ℕ) (least greatest : Option ℤ) → first_named name (whole_numbers format least greatest) ≡ None
   unfolding whole_numbers
-  no_mark name h e f g k format least greatest = notes_passed n t d _ name h ∙ rw (e, f) (passed_bounds name least greatest g k)
+  no_mark name h e f g k format least greatest = notes_passed n t r _ name h ∙ rw (e, f) (passed_bounds name least greatest g k)
 
   is_of_numbers : (name : List ℕ) (least greatest : Option ℤ) → is_integer (whole_numbers name least greatest) ≡ true
   unfolding whole_numbers
   is_of_numbers name least greatest =
-      ap (λ (o : Option Json). is_some_and o (λ s. is_some_and (as_text (out-Json s)) (λ name. bytes_eq name (codes "integer")))) (notes_passed n t d _ (codes "type") (refl, refl, refl))
+      ap (λ (o : Option Json). is_some_and o (λ s. is_some_and (as_text (out-Json s)) (λ name. bytes_eq name (codes "integer")))) (notes_passed n t r _ (codes "type") (refl, refl, refl, refl))
       ∙ ap (λ (x : Level Json). is_some_and (as_text x) (λ name. bytes_eq name (codes "integer"))) (json.outs-Text (codes "integer"))
 
   pub number_admits : (j : Level X) (kind : IntKind) (min max : Option ℤ)
-      → schema_admits doc smaller next value j (Object (notes n t d ++ of_type (codes "integer") (numbers (format_of kind) (least_shown kind min) max))) ≡ (n && is_null j || is_ok (number kind min max j))
+      → schema_admits doc smaller next value j (Object (annotations n t r ++ of_type (codes "integer") (numbers (format_of kind) (least_shown kind min) max))) ≡ (n && is_null j || is_ok (number kind min max j))
   unfolding is_annotation bound_or part_of whole_numbers
   number_admits j kind min max =
       let schema = whole_numbers (format_of kind) (least_shown kind min) max in
-      noted_admits doc smaller next value j n t d _ _ false refl (passed_bounds (codes "nullable") (least_shown kind min) max refl refl) (numbers_read (format_of kind) (least_shown kind min) max) (no_form_of (codes "integer") (numbers (format_of kind) (least_shown kind min) max) refl)
-      ∙ ap (λ (b : Bool). n && is_null j || b && hold doc smaller next value j n t d schema (numbers (format_of kind) (least_shown kind min) max)) (type_row smaller next value j schema (codes "integer"))
+      noted_admits doc smaller next value j n t r _ _ false refl (passed_bounds (codes "nullable") (least_shown kind min) max refl refl) (numbers_read (format_of kind) (least_shown kind min) max) (no_form_of (codes "integer") (numbers (format_of kind) (least_shown kind min) max) refl)
+      ∙ ap (λ (b : Bool). n && is_null j || b && hold doc smaller next value j n t r schema (numbers (format_of kind) (least_shown kind min) max)) (type_row smaller next value j schema (codes "integer"))
       ∙ ap (λ (b : Bool). n && is_null j || b) (by_form j)
     where
-      by_form : (j : Level X) → (has_type (codes "integer") j && hold doc smaller next value j n t d (whole_numbers (format_of kind) (least_shown kind min) max) (numbers (format_of kind) (least_shown kind min) max)) ≡ is_ok (number kind min max j)
+      by_form : (j : Level X) → (has_type (codes "integer") j && hold doc smaller next value j n t r (whole_numbers (format_of kind) (least_shown kind min) max) (numbers (format_of kind) (least_shown kind min) max)) ≡ is_ok (number kind min max j)
       by_form Json-F.Null = refl
       by_form (Json-F.Bool b) = refl
       by_form (Json-F.Int i) =
           numbers_hold i (whole_numbers (format_of kind) (least_shown kind min) max) (format_of kind) (least_shown kind min) max (is_of_numbers _ _ _)
-          (ap (λ (o : Option Json). is_some_and o (λ s. is_true (out-Json s))) (no_mark (codes "exclusiveMinimum") (refl, refl, refl) refl refl refl refl _ _ _))
-          (ap (λ (o : Option Json). is_some_and o (λ s. is_true (out-Json s))) (no_mark (codes "exclusiveMaximum") (refl, refl, refl) refl refl refl refl _ _ _))
+          (ap (λ (o : Option Json). is_some_and o (λ s. is_true (out-Json s))) (no_mark (codes "exclusiveMinimum") (refl, refl, refl, refl) refl refl refl refl _ _ _))
+          (ap (λ (o : Option Json). is_some_and o (λ s. is_true (out-Json s))) (no_mark (codes "exclusiveMaximum") (refl, refl, refl, refl) refl refl refl refl _ _ _))
           ∙ shown kind min max i
           ∙ sym (ok_holds (is_number_of kind min max i) _ _ refl)
       by_form (Json-F.Text w) = refl
       by_form (Json-F.List js) = refl
       by_form (Json-F.Object ms) = refl
 
-  pub truth_admits : (j : Level X) → schema_admits doc smaller next value j (Object (notes n t d ++ of_type (codes "boolean") [])) ≡ (n && is_null j || is_ok (truth j))
+  pub truth_admits : (j : Level X) → schema_admits doc smaller next value j (Object (annotations n t r ++ of_type (codes "boolean") [])) ≡ (n && is_null j || is_ok (truth j))
   unfolding is_annotation bound_or part_of
   truth_admits j =
-      noted_admits doc smaller next value j n t d _ [] false refl refl refl (no_form_of (codes "boolean") [] refl)
-      ∙ ap (λ (b : Bool). n && is_null j || (b && true)) (type_row smaller next value j (notes n t d ++ of_type (codes "boolean") []) (codes "boolean"))
+      noted_admits doc smaller next value j n t r _ [] false refl refl refl (no_form_of (codes "boolean") [] refl)
+      ∙ ap (λ (b : Bool). n && is_null j || (b && true)) (type_row smaller next value j (annotations n t r ++ of_type (codes "boolean") []) (codes "boolean"))
       ∙ ap (λ (b : Bool). n && is_null j || b) (by_form j)
     where
       by_form : (j : Level X) → (has_type (codes "boolean") j && true) ≡ is_ok (truth j)
@@ -216,9 +216,9 @@ null_form =
     ∙ ap (λ (x : Level Json). is_some_and (as_list x) is_null_alone) (json.outs-List (Null ∷ []))
     ∙ ap is_null json.outs-Null
 
-module _ {X : Type 0} (doc : Json) (smaller : X → Json → Bool) (next : Json → Bool) (value : Json) (n : Bool) (t d : Option (List ℕ)) where
+module _ {X : Type 0} (doc : Json) (smaller : X → Json → Bool) (next : Json → Bool) (value : Json) (n : Bool) (t : Option (List ℕ)) (r : Remarks) where
   lengths_hold : (w : List ℕ) (schema : List Member) (min max : Option ℕ)
-      → hold doc smaller next value (Json-F.Text w) n t d schema (lengths min max) ≡ (is_long_enough min (length w) && (is_short_enough max (length w) && true))
+      → hold doc smaller next value (Json-F.Text w) n t r schema (lengths min max) ≡ (is_long_enough min (length w) && (is_short_enough max (length w) && true))
   unfolding is_annotation bound_or part_of
   lengths_hold w schema (Some a) (Some b) = rw (least_count_row a (length w), greatest_count_row b (length w)) refl
   lengths_hold w schema (Some a) None = rw (least_count_row a (length w)) refl
@@ -226,22 +226,22 @@ module _ {X : Type 0} (doc : Json) (smaller : X → Json → Bool) (next : Json 
   lengths_hold w schema None None = refl
 
   texts_hold : (w : List ℕ) (schema : List Member) (format : Option (List ℕ)) (min max : Option ℕ)
-      → hold doc smaller next value (Json-F.Text w) n t d schema (texts format min max) ≡ hold doc smaller next value (Json-F.Text w) n t d schema (lengths min max)
+      → hold doc smaller next value (Json-F.Text w) n t r schema (texts format min max) ≡ hold doc smaller next value (Json-F.Text w) n t r schema (lengths min max)
   unfolding is_annotation bound_or part_of
   texts_hold w schema (Some format) min max = refl
   texts_hold w schema None min max = refl
 
   pub words_admit : (j : Level X) (format : Option (List ℕ)) (min max : Option ℕ)
-      → schema_admits doc smaller next value j (Object (notes n t d ++ of_type (codes "string") (texts format min max))) ≡ (n && is_null j || is_ok (words min max j))
+      → schema_admits doc smaller next value j (Object (annotations n t r ++ of_type (codes "string") (texts format min max))) ≡ (n && is_null j || is_ok (words min max j))
   unfolding is_annotation bound_or part_of
   words_admit j format min max =
-      let schema = notes n t d ++ of_type (codes "string") (texts format min max) in
+      let schema = annotations n t r ++ of_type (codes "string") (texts format min max) in
       let (none, no_values, read) = texts_plain format min max in
-      noted_admits doc smaller next value j n t d _ _ false refl none read (no_null_form (of_type (codes "string") (texts format min max)) no_values)
-      ∙ ap (λ (b : Bool). n && is_null j || b && hold doc smaller next value j n t d schema (texts format min max)) (type_row smaller next value j schema (codes "string"))
+      noted_admits doc smaller next value j n t r _ _ false refl none read (no_null_form (of_type (codes "string") (texts format min max)) no_values)
+      ∙ ap (λ (b : Bool). n && is_null j || b && hold doc smaller next value j n t r schema (texts format min max)) (type_row smaller next value j schema (codes "string"))
       ∙ ap (λ (b : Bool). n && is_null j || b) (by_form schema j)
     where
-      by_form : (schema : List Member) (j : Level X) → (has_type (codes "string") j && hold doc smaller next value j n t d schema (texts format min max)) ≡ is_ok (words min max j)
+      by_form : (schema : List Member) (j : Level X) → (has_type (codes "string") j && hold doc smaller next value j n t r schema (texts format min max)) ≡ is_ok (words min max j)
       by_form schema Json-F.Null = refl
       by_form schema (Json-F.Bool b) = refl
       by_form schema (Json-F.Int i) = refl
@@ -250,13 +250,13 @@ module _ {X : Type 0} (doc : Json) (smaller : X → Json → Bool) (next : Json 
       by_form schema (Json-F.List js) = refl
       by_form schema (Json-F.Object ms) = refl
 
-  pub character_admits : (j : Level X) → schema_admits doc smaller next value j (Object (notes n t d ++ one_character.members)) ≡ (n && is_null j || is_ok (character j))
+  pub character_admits : (j : Level X) → schema_admits doc smaller next value j (Object (annotations n t r ++ one_character.members)) ≡ (n && is_null j || is_ok (character j))
   character_admits j = words_admit j None (Some 1) (Some 1) ∙ ap (λ (b : Bool). n && is_null j || b) (one_is j)
 
-  pub null_admits : (j : Level X) → schema_admits doc smaller next value j (Object (notes n t d ++ null_alone.members)) ≡ (n && is_null j || is_ok (nought j))
+  pub null_admits : (j : Level X) → schema_admits doc smaller next value j (Object (annotations n t r ++ null_alone.members)) ≡ (n && is_null j || is_ok (nought j))
   unfolding is_annotation bound_or part_of
   null_admits j =
-      noted_admits doc smaller next value j n t d _ _ true refl refl refl null_form
+      noted_admits doc smaller next value j n t r _ _ true refl refl refl null_form
       ∙ ap (λ (b : Bool). n && is_null j || b) (by_form j)
     where
       by_form : (j : Level X) → is_null j ≡ is_ok (nought j)
@@ -267,11 +267,11 @@ module _ {X : Type 0} (doc : Json) (smaller : X → Json → Bool) (next : Json 
       by_form (Json-F.List js) = refl
       by_form (Json-F.Object ms) = refl
 
-  pub any_admits : (j : Level X) → schema_admits doc smaller next value j (Object (notes n t d ++ (all_or_none true).members)) ≡ (n && is_null j || true)
-  any_admits j = all_admitted doc smaller next value j n t d ∙ sym (or-true (n && is_null j))
+  pub any_admits : (j : Level X) → schema_admits doc smaller next value j (Object (annotations n t r ++ (all_or_none true).members)) ≡ (n && is_null j || true)
+  any_admits j = all_admitted doc smaller next value j n t r ∙ sym (or-true (n && is_null j))
 
-  pub never_admits : (j : Level X) → schema_admits doc smaller next value j (Object (notes n t d ++ (all_or_none false).members)) ≡ (n && is_null j || false)
+  pub never_admits : (j : Level X) → schema_admits doc smaller next value j (Object (annotations n t r ++ (all_or_none false).members)) ≡ (n && is_null j || false)
   unfolding is_annotation bound_or part_of
   never_admits j =
-      noted_admits doc smaller next value j n t d (member (codes "not") (Object [])) [] false refl refl
+      noted_admits doc smaller next value j n t r (member (codes "not") (Object [])) [] false refl refl
       (ap (λ (x : Level Json). is_some_and (as_object x) (λ ms. length ms == 0) && true) (json.outs-Object [])) refl

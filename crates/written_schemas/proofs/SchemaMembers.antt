@@ -1,6 +1,6 @@
 -- The members of the schema of a descriptor beside its annotations: as they are written, and in the table.
 use Rattle.std.proofs.Common.{◌≡◌, ℕ, ℤ, List, [], ◌∷◌, ◌++◌, map, Option, Some, None, option_map, unwrap_or, if◌then◌else◌, Bool, true, false, refl, sym, ◌∙◌, ap, codes}
-use Rattle.std.specs.Option.{option_map_or}
+use Rattle.std.specs.Option.{option_map_or, option_or}
 use Rattle.schema_values.specs.declared.json_value.Json.{Json, Bool as TruthJson, Text as Words, List as ListOf, Object}
 use Rattle.schema_values.specs.declared.json_value.Member.{Member}
 use Rattle.schema_values.specs.declared.schema.ArrayParts.{roll-ArrayParts}
@@ -14,12 +14,13 @@ use Rattle.schema_values.specs.declared.schema.Schema.{Schema, Bool as Truth}
 use Rattle.schema_values.specs.declared.schema.SchemaObject.{SchemaObject-F, roll-SchemaObject, out-roll-SchemaObject}
 use Rattle.schema_values.specs.declared.schema.Subschemas.{roll-Subschemas}
 use Rattle.schema_values.specs.Member.{member}
+use Rattle.openapi_values.specs.IfTrue.{if_true as truth_if}
 use Rattle.openapi_values.specs.Objects.{Entry, pair_member, present, members_of, object_of as entries_object, reference_json, unless_empty}
-use Rattle.openapi_values.specs.SchemaJson.{Written, Level, untitled, additional_json, count_json, names_json, annotations, nothing_entries, type_entries, without_values, entries_behind, object_step, schema_written, array_written, object_parts_written, property_written, subschemas_written, schema_json}
+use Rattle.openapi_values.specs.SchemaJson.{Written, Level, untitled, additional_json, count_json, names_json, extension_entries, annotations as annotation_entries, nothing_entries, type_entries, without_values, entries_behind, object_step, schema_written, array_written, object_parts_written, property_written, subschemas_written, schema_json}
 use Rattle.openapi_values.proofs.ObjectLemmas.{members_of-append}
 use Rattle.openapi_values.proofs.SchemaLevels.{truth-is, object-under, items-are, array-is, subschemas-are, object_parts-are, object-is}
 use Rattle.typed_values.specs.declared.desc.IntKind.{IntKind}
-use Rattle.typed_values.specs.SchemaTable.{nothing, if_true, if_text, if_number, if_count, if_members, if_names, if_denied, of_type, format_of, reference}
+use Rattle.typed_values.specs.SchemaTable.{Remarks, annotations, nothing, if_true, if_text, if_value, if_number, if_count, if_members, if_names, if_denied, of_type, format_of, reference}
 use Rattle.typed_values.specs.Schemas.{Parts, object_of, of_single, no_subschemas, number_bounds, length_bounds, nothing_more, list_of, struct_of, map_of, choice_of, one_of, all_or_none}
 use Rattle.typed_values.proofs.Rows.{two_maps}
 use Rattle.written_schemas.proofs.SchemaForms.{StructParts, object_parts, of_reference, in_all_of}
@@ -31,6 +32,7 @@ abbrev level_of : Parts → Level SchemaObject-F
 level_of p = record {
   title = p.title;
   description = p.description;
+  default = p.default;
   nullable = p.nullable;
   instance_type = p.instance_type;
   format = p.format;
@@ -41,11 +43,12 @@ level_of p = record {
   array = option_map array_written p.array;
   object = option_map object_parts_written p.object;
   reference = p.reference;
+  extensions = p.extensions;
 }
 
 -- a level without annotations, which behind them make no difference
 abbrev without_notes : Level SchemaObject-F → Level SchemaObject-F
-without_notes s = record s { title = None; description = None; nullable = false; reference = None }
+without_notes s = record s { title = None; description = None; default = None; nullable = false; reference = None; extensions = [] }
 
 type_alone : (type : Option InstanceTypes) (s : Level SchemaObject-F) → type_entries type s ≡ type_entries type (without_notes s)
 type_alone None s = refl
@@ -63,44 +66,62 @@ behind_alone s = ap (λ (es : List Entry). if without_values s.enum_values then 
 abbrev pub beside : Parts → List Member
 beside p = members_of (entries_behind (without_notes (level_of p)))
 
-abbrev pub notes : Bool → Option (List ℕ) → Option (List ℕ) → List Member
-notes nullable title description = if_true nullable (codes "nullable") (if_text title (codes "title") (if_text description (codes "description") []))
-
 by_parts : (given : Option (List ℕ)) (p : Parts) → schema_json given (object_of p) ≡ object_step (level_of p) given
 by_parts given p =
     ap (λ (w : Written). w.under given) (object-under (roll-SchemaObject p))
     ∙ object-is (roll-SchemaObject p) given
     ∙ ap (λ (q : Parts). object_step (level_of q) given) (out-roll-SchemaObject p)
 
-notes_are : (given : Option (List ℕ)) (nullable : Bool) (description : Option (List ℕ)) → members_of (annotations given None description nullable) ≡ notes nullable given description
-notes_are None true None = refl
-notes_are None true (Some text) = refl
-notes_are None false None = refl
-notes_are None false (Some text) = refl
-notes_are (Some title) true None = refl
-notes_are (Some title) true (Some text) = refl
-notes_are (Some title) false None = refl
-notes_are (Some title) false (Some text) = refl
+-- what the parts add to their schema
+abbrev pub remarks_of : Parts → Remarks
+remarks_of p = record { description = p.description; default = p.default }
 
--- parts that are no reference and have no title of their own
-pub written_beside : (given : Option (List ℕ)) (p : Parts) → p.reference ≡ None → p.title ≡ None → schema_json given (object_of p) ≡ Object (notes p.nullable given p.description ++ beside p)
-written_beside given p no_reference no_title =
+-- ---- annotations that may be absent
+
+true_if : (b : Bool) (name : List ℕ) (rest : List Member) → present name (truth_if b) rest ≡ if_true b name rest
+true_if true name rest = refl
+true_if false name rest = refl
+
+text_if : (o : Option (List ℕ)) (name : List ℕ) (rest : List Member) → present name (option_map Words o) rest ≡ if_text o name rest
+text_if None name rest = refl
+text_if (Some text) name rest = refl
+
+value_if : (o : Option Json) (name : List ℕ) (rest : List Member) → present name o rest ≡ if_value o name rest
+value_if None name rest = refl
+value_if (Some value) name rest = refl
+
+own_title : (given : Option (List ℕ)) → option_or given None ≡ given
+own_title None = refl
+own_title (Some title) = refl
+
+-- parts without a title of their own and without extensions
+notes_are : (given : Option (List ℕ)) (p : Parts) → p.title ≡ None → p.extensions ≡ [] → members_of (annotation_entries given p) ≡ annotations p.nullable given (remarks_of p)
+notes_are given p no_title no_extensions =
+    let last = present (codes "default") p.default (members_of (extension_entries p.extensions)) in
+    let more = present (codes "description") (option_map Words p.description) last in
+    true_if p.nullable (codes "nullable") (present (codes "title") (option_map Words (option_or given p.title)) more)
+    ∙ ap (if_true p.nullable (codes "nullable"))
+    (ap (λ (t : Option (List ℕ)). present (codes "title") (option_map Words t) more) (ap (option_or given) no_title ∙ own_title given)
+    ∙ text_if given (codes "title") more
+    ∙ ap (if_text given (codes "title"))
+    (text_if p.description (codes "description") last
+    ∙ ap (if_text p.description (codes "description"))
+    (ap (λ (ms : List Member). present (codes "default") p.default (members_of (extension_entries ms))) no_extensions ∙ value_if p.default (codes "default") [])))
+
+-- parts that are no reference, too
+pub written_beside : (given : Option (List ℕ)) (p : Parts) → p.reference ≡ None → p.title ≡ None → p.extensions ≡ [] → schema_json given (object_of p) ≡ Object (annotations p.nullable given (remarks_of p) ++ beside p)
+written_beside given p no_reference no_title no_extensions =
     let behind = entries_behind (without_notes (level_of p)) in
     by_parts given p
-    ∙ ap (λ (es : List Entry). option_map_or reference_json p.reference (entries_object (annotations given p.title p.description p.nullable ++ es))) (behind_alone (level_of p))
-    ∙ ap (λ (r : Option (List ℕ)). option_map_or reference_json r (entries_object (annotations given p.title p.description p.nullable ++ behind))) no_reference
-    ∙ ap (λ (t : Option (List ℕ)). entries_object (annotations given t p.description p.nullable ++ behind)) no_title
-    ∙ ap Object (members_of-append (annotations given None p.description p.nullable) behind ∙ ap (λ (ms : List Member). ms ++ beside p) (notes_are given p.nullable p.description))
+    ∙ ap (λ (es : List Entry). option_map_or reference_json p.reference (entries_object (annotation_entries given p ++ es))) (behind_alone (level_of p))
+    ∙ ap (λ (r : Option (List ℕ)). option_map_or reference_json r (entries_object (annotation_entries given p ++ behind))) no_reference
+    ∙ ap Object (members_of-append (annotation_entries given p) behind ∙ ap (λ (ms : List Member). ms ++ beside p) (notes_are given p no_title no_extensions))
 
 -- a reference is written alone, whatever the title
 pub written_reference : (given : Option (List ℕ)) (name : List ℕ) → schema_json given (object_of (of_reference name)) ≡ Object (reference name).members
 written_reference given name = by_parts given (of_reference name)
 
 -- ---- members that may be absent
-
-text_if : (o : Option (List ℕ)) (name : List ℕ) (rest : List Member) → present name (option_map Words o) rest ≡ if_text o name rest
-text_if None name rest = refl
-text_if (Some text) name rest = refl
 
 members_if : (ms : List Member) (name : List ℕ) (rest : List Member) → present name (unless_empty ms) rest ≡ if_members ms name rest
 members_if [] name rest = refl

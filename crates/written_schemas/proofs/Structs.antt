@@ -12,8 +12,8 @@ use Rattle.openapi_values.specs.Levels.{Named, Level, is_null, is_true, as_text,
 use Rattle.openapi_values.specs.Options.{is_some_and}
 use Rattle.openapi_values.specs.Rows.{in_subset, is_property, property_admitted, other_admitted}
 use Rattle.openapi_values.specs.JsonAdmits.{schema_admits}
-use Rattle.typed_values.specs.SchemaTable.{of_type, if_members, if_names, if_denied}
-use Rattle.written_schemas.proofs.Notes.{notes, notes_passed, hold, noted_admits}
+use Rattle.typed_values.specs.SchemaTable.{Remarks, annotations, of_type, if_members, if_names, if_denied}
+use Rattle.written_schemas.proofs.Notes.{notes_passed, hold, noted_admits}
 use Rattle.written_schemas.proofs.Scalars.{no_form_of, type_row}
 
 abbrev pub parts : List Member → List (List ℕ) → Bool → List Member
@@ -48,9 +48,9 @@ module _ {X : Type 0} (smaller : X → Json → Bool) where
   none_admitted [] = refl
   none_admitted (m ∷ ms) = none_admitted ms
 
-module _ {X : Type 0} (doc : Json) (smaller : X → Json → Bool) (next : Json → Bool) (value : Json) (n : Bool) (t d : Option (List ℕ)) where
+module _ {X : Type 0} (doc : Json) (smaller : X → Json → Bool) (next : Json → Bool) (value : Json) (n : Bool) (t : Option (List ℕ)) (r : Remarks) where
   abbrev holds_of : List (Named X) → List Member → List Member → Bool
-  holds_of ms schema members = hold doc smaller next value (Json-F.Object ms) n t d schema members
+  holds_of ms schema members = hold doc smaller next value (Json-F.Object ms) n t r schema members
 
   properties_hold : (ms : List (Named X)) (schema properties rest : List Member)
       → holds_of ms schema (if_members properties (codes "properties") rest) ≡ (list_all (property_admitted smaller properties) ms && holds_of ms schema rest)
@@ -84,12 +84,12 @@ module _ {X : Type 0} (doc : Json) (smaller : X → Json → Bool) (next : Json 
       ∙ ap (λ (x : Level Json). has_member m.name properties || (is_true x || smaller m.value (Truth false))) (json.outs-Bool false)) ms
 
   struct_schema : List Member → List (List ℕ) → Bool → List Member
-  struct_schema properties names deny = notes n t d ++ of_type (codes "object") (parts properties names deny)
+  struct_schema properties names deny = annotations n t r ++ of_type (codes "object") (parts properties names deny)
 
   property_found : (properties : List Member) (names : List (List ℕ)) (deny : Bool) (name : List ℕ) → is_property (struct_schema properties names deny) name ≡ has_member name properties
   unfolding struct_schema
   property_found properties names deny name =
-      ap (λ (o : Option Json). is_some_and o (λ s. is_some_and (as_object (out-Json s)) (has_member name))) (notes_passed n t d _ (codes "properties") (refl, refl, refl))
+      ap (λ (o : Option Json). is_some_and o (λ s. is_some_and (as_object (out-Json s)) (has_member name))) (notes_passed n t r _ (codes "properties") (refl, refl, refl, refl))
       ∙ by_cases properties names deny
     where
       by_cases : (properties : List Member) (names : List (List ℕ)) (deny : Bool) → is_some_and (first_named (codes "properties") (of_type (codes "object") (parts properties names deny))) (λ s. is_some_and (as_object (out-Json s)) (has_member name)) ≡ has_member name properties
@@ -100,17 +100,17 @@ module _ {X : Type 0} (doc : Json) (smaller : X → Json → Bool) (next : Json 
       by_cases (p ∷ ps) names deny = ap (λ (x : Level Json). is_some_and (as_object x) (has_member name)) (json.outs-Object (p ∷ ps))
 
   pub struct_admits : (j : Level X) (properties : List Member) (names : List (List ℕ)) (deny : Bool)
-      → schema_admits doc smaller next value j (Object (notes n t d ++ of_type (codes "object") (parts properties names deny))) ≡ (n && is_null j || is_struct_of smaller properties names deny j)
+      → schema_admits doc smaller next value j (Object (annotations n t r ++ of_type (codes "object") (parts properties names deny))) ≡ (n && is_null j || is_struct_of smaller properties names deny j)
   unfolding is_annotation bound_or part_of struct_schema
   struct_admits j properties names deny =
       let schema = struct_schema properties names deny in
       let (none, read) = parts_plain properties names deny in
-      noted_admits doc smaller next value j n t d _ _ false refl none read (no_form_of (codes "object") (parts properties names deny) refl)
-      ∙ ap (λ (b : Bool). n && is_null j || b && hold doc smaller next value j n t d schema (parts properties names deny)) (type_row smaller next value j schema (codes "object"))
+      noted_admits doc smaller next value j n t r _ _ false refl none read (no_form_of (codes "object") (parts properties names deny) refl)
+      ∙ ap (λ (b : Bool). n && is_null j || b && hold doc smaller next value j n t r schema (parts properties names deny)) (type_row smaller next value j schema (codes "object"))
       ∙ ap (λ (b : Bool). n && is_null j || b) (by_form schema (property_found properties names deny) j)
     where
       by_form : (schema : List Member) → ((name : List ℕ) → is_property schema name ≡ has_member name properties) → (j : Level X)
-          → (has_type (codes "object") j && hold doc smaller next value j n t d schema (parts properties names deny)) ≡ is_struct_of smaller properties names deny j
+          → (has_type (codes "object") j && hold doc smaller next value j n t r schema (parts properties names deny)) ≡ is_struct_of smaller properties names deny j
       by_form schema same Json-F.Null = refl
       by_form schema same (Json-F.Bool b) = refl
       by_form schema same (Json-F.Int i) = refl

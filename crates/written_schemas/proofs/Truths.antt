@@ -1,8 +1,9 @@
 -- Which descriptors say by a truth value what other members are: any value, and no value.
-use Rattle.std.proofs.Common.{◌≡◌, Bool, true, false, map, Some, None, cond, refl, sym, ◌∙◌, ap, ◌⊎◌, inl, inr}
+use Rattle.std.proofs.Common.{◌≡◌, Bool, true, false, List, map, Some, None, cond, refl, sym, ◌∙◌, ap, ◌⊎◌, inl, inr}
 use Rattle.std.specs.List.{list_any}
 use Rattle.typed_values.specs.declared.desc.Desc.{Desc, out-Desc}
 use Rattle.typed_values.specs.declared.desc.Desc.TheOpen.{Desc-F}
+use Rattle.typed_values.specs.declared.table.Definition.{Definition}
 use Rattle.typed_values.specs.Definitions.{listed_name}
 use Rattle.typed_values.specs.SchemaTable.{Drawn, drawn, drawn_step, is_described}
 use Rattle.typed_values.specs.Levels.{DescLevel}
@@ -13,15 +14,15 @@ no_truth : (b : Bool) (x y : Drawn) → x.truth ≡ None → y.truth ≡ None �
 no_truth true x y e f = e
 no_truth false x y e f = f
 
-module _ (d : Desc) (b : Bool) (told : (drawn d).truth ≡ Some b) where
+module _ (table : List Definition) (d : Desc) (b : Bool) (told : (drawn table d).truth ≡ Some b) where
   abbrev IsTruth : Type 0
   IsTruth = ((out-Desc d ≡ Desc-F.Any) × (b ≡ true)) ⊎ ((out-Desc d ≡ Desc-F.Never) × (b ≡ false))
 
-  not_told : (z : DescLevel) → out-Desc d ≡ z → (drawn_step (drawn_level z)).truth ≡ None → IsTruth
-  not_told z e none = absurd (let never : Some b ≡ None = sym told ∙ ap (λ (s : Drawn). s.truth) (drawn_row d z e) ∙ none in cc never)
+  not_told : (z : DescLevel) → out-Desc d ≡ z → (drawn_step table (drawn_level table z)).truth ≡ None → IsTruth
+  not_told z e none = absurd (let never : Some b ≡ None = sym told ∙ ap (λ (s : Drawn). s.truth) (drawn_row table d z e) ∙ none in cc never)
 
-  is_told : (z : DescLevel) → out-Desc d ≡ z → (c : Bool) → (drawn_step (drawn_level z)).truth ≡ Some c → b ≡ c
-  is_told z e c f = let same : Some b ≡ Some c = sym told ∙ ap (λ (s : Drawn). s.truth) (drawn_row d z e) ∙ f in cc same
+  is_told : (z : DescLevel) → out-Desc d ≡ z → (c : Bool) → (drawn_step table (drawn_level table z)).truth ≡ Some c → b ≡ c
+  is_told z e c f = let same : Some b ≡ Some c = sym told ∙ ap (λ (s : Drawn). s.truth) (drawn_row table d z e) ∙ f in cc same
 
   by_form : (z : DescLevel) → out-Desc d ≡ z → IsTruth
   by_form Desc-F.Any e = inl (e, is_told Desc-F.Any e true refl)

@@ -6,14 +6,15 @@ use Rattle.openapi_values.specs.declared.media.RequestBody.{RequestBody}
 use Rattle.openapi_values.specs.declared.operation.Operation.{Operation}
 use Rattle.openapi_values.specs.Find.{value_at, operation_in}
 use Rattle.typed_values.specs.declared.desc.Desc.{Desc}
+use Rattle.typed_values.specs.declared.table.Definition.{Definition}
 use Rattle.typed_values.specs.SchemaTable.{schema_json_titled}
 
 -- the operation of a path and a method takes JSON under the schema of a descriptor, which has a name
-pub record TakesJson (document : OpenApi) (path method name : List ℕ) (desc : Desc) : Type 0 where
+pub record TakesJson (document : OpenApi) (path method name : List ℕ) (table : List Definition) (desc : Desc) : Type 0 where
   pub operation : Operation
   pub listed : operation_in document path method ≡ Some operation
   pub body : RequestBody
   pub has_body : operation.request_body ≡ Some body
   pub media : MediaType
   pub under_json : value_at (codes "application/json") body.content ≡ Some media
-  pub schema_is : media.schema ≡ schema_json_titled name desc
+  pub schema_is : media.schema ≡ schema_json_titled table name desc

@@ -11,4 +11,4 @@ use Rattle.typed_values.specs.Reached.{IsReached}
 -- a document has the schema of each definition that a descriptor reaches, under its name
 abbrev pub DefinesReached : Json → List Definition → Desc → Type 0
 DefinesReached doc table desc =
-    (name : List ℕ) (e : Definition) → IsReached table desc name → entry_of table name ≡ Some e → schema_of_name doc name ≡ Some (schema_json_described e.description e.desc)
+    (name : List ℕ) (e : Definition) → IsReached table desc name → entry_of table name ≡ Some e → schema_of_name doc name ≡ Some (schema_json_described table e.description e.desc)

@@ -24,20 +24,20 @@ ghost use Rattle.written_schemas.specs.Written.{IsWritten, AdmitsDenoted, StepsS
 /// a description.
 pub fn schemas_agree()
     ensures plain { (doc : JsonValue) (table : List Entry) (desc : Descriptor) → IsWritten doc table desc
-        → AdmitsDenoted doc (schema_json desc) table desc }
+        → AdmitsDenoted doc (schema_json table desc) table desc }
     ensures titled { (doc : JsonValue) (table : List Entry) (desc : Descriptor) (name : List ℕ)
         → IsWritten doc table desc
-        → AdmitsDenoted doc (schema_json_titled name desc) table desc }
+        → AdmitsDenoted doc (schema_json_titled table name desc) table desc }
     ensures described { (doc : JsonValue) (table : List Entry) (desc : Descriptor) (text : Option (List ℕ))
         → IsWritten doc table desc
-        → AdmitsDenoted doc (schema_json_described text desc) table desc }
+        → AdmitsDenoted doc (schema_json_described table text desc) table desc }
 {}
 
 /// Where an operation of a written document takes JSON under a descriptor's titled schema, a request whose
 /// body reads as JSON is admitted exactly where that JSON denotes a tree.
 pub fn bodies_agree()
     ensures { (document : Document) (path method name : List ℕ) (table : List Entry) (desc : Descriptor)
-        → TakesJson document path method name desc → IsWritten (open_api_json document) table desc
+        → TakesJson document path method name table desc → IsWritten (open_api_json document) table desc
         → (request : Request) (json : JsonValue) → Reads request.body json
         → Admits (open_api_json document) path method request
         ↔ ((tree : Value) × JsonDenotes table desc json tree) }
@@ -50,11 +50,11 @@ pub fn steps_suffice()
         → (json : JsonValue) (steps : ℕ) → steps_of_table table desc ≤ steps
         → told_within table steps json steps desc ≡ told table desc json desc }
     ensures plain { (doc : JsonValue) (table : List Entry) (desc : Descriptor) → IsWritten doc table desc
-        → StepsSuffice doc (schema_json desc) }
+        → StepsSuffice doc (schema_json table desc) }
     ensures titled { (doc : JsonValue) (table : List Entry) (desc : Descriptor) (name : List ℕ)
-        → IsWritten doc table desc → StepsSuffice doc (schema_json_titled name desc) }
+        → IsWritten doc table desc → StepsSuffice doc (schema_json_titled table name desc) }
     ensures described { (doc : JsonValue) (table : List Entry) (desc : Descriptor) (text : Option (List ℕ))
-        → IsWritten doc table desc → StepsSuffice doc (schema_json_described text desc) }
+        → IsWritten doc table desc → StepsSuffice doc (schema_json_described table text desc) }
 {}
 
 /// What is written for a value of a descriptor is admitted by the descriptor's schema; so it is under a title
@@ -62,26 +62,29 @@ pub fn steps_suffice()
 pub fn encodings_agree()
     ensures plain { (doc : JsonValue) (table : List Entry) (desc : Descriptor) (tree : Value)
         → IsWritten doc table desc → Fits table desc tree
-        → JsonAdmits doc (schema_json desc) (json_of_tree table desc tree) }
+        → JsonAdmits doc (schema_json table desc) (json_of_tree table desc tree) }
     ensures titled { (doc : JsonValue) (table : List Entry) (desc : Descriptor) (name : List ℕ) (tree : Value)
         → IsWritten doc table desc → Fits table desc tree
-        → JsonAdmits doc (schema_json_titled name desc) (json_of_tree table desc tree) }
+        → JsonAdmits doc (schema_json_titled table name desc) (json_of_tree table desc tree) }
     ensures described { (doc : JsonValue) (table : List Entry) (desc : Descriptor) (text : Option (List ℕ))
         (tree : Value) → IsWritten doc table desc → Fits table desc tree
-        → JsonAdmits doc (schema_json_described text desc) (json_of_tree table desc tree) }
+        → JsonAdmits doc (schema_json_described table text desc) (json_of_tree table desc tree) }
 {}
 
 /// The schema of a descriptor is never refused. It is written as the table of schemas has it, also under a
 /// title, which a reference does not show; so is the schema that stands in a header.
 pub fn schemas_written()
-    ensures accepted { (desc : Descriptor) → refusal_of (schema_value desc) ≡ None }
-    ensures plain { (desc : Descriptor) → json_written None (schema_value desc) ≡ schema_json desc }
-    ensures titled { (desc : Descriptor) (name : List ℕ)
-        → json_written (Some name) (schema_value desc) ≡ schema_json_titled name desc }
-    ensures header_accepted { (desc : Descriptor) → refusal_of (schema_value (in_header desc)) ≡ None }
-    ensures header_plain { (desc : Descriptor) → json_written None (schema_value (in_header desc))
-        ≡ schema_json (in_header desc) }
-    ensures header_titled { (desc : Descriptor) (name : List ℕ)
-        → json_written (Some name) (schema_value (in_header desc))
-        ≡ schema_json_titled name (in_header desc) }
+    ensures accepted { (table : List Entry) (desc : Descriptor)
+        → refusal_of (schema_value table desc) ≡ None }
+    ensures plain { (table : List Entry) (desc : Descriptor)
+        → json_written None (schema_value table desc) ≡ schema_json table desc }
+    ensures titled { (table : List Entry) (desc : Descriptor) (name : List ℕ)
+        → json_written (Some name) (schema_value table desc) ≡ schema_json_titled table name desc }
+    ensures header_accepted { (table : List Entry) (desc : Descriptor)
+        → refusal_of (schema_value table (in_header desc)) ≡ None }
+    ensures header_plain { (table : List Entry) (desc : Descriptor)
+        → json_written None (schema_value table (in_header desc)) ≡ schema_json table (in_header desc) }
+    ensures header_titled { (table : List Entry) (desc : Descriptor) (name : List ℕ)
+        → json_written (Some name) (schema_value table (in_header desc))
+        ≡ schema_json_titled table name (in_header desc) }
 {}

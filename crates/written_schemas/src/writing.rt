@@ -3,6 +3,7 @@ ghost use Rattle.std.specs.Prelude.{◌≡◌, IfOk, None, option_map};
 ghost use Rattle.std.specs.Str.{chars};
 ghost use Rattle.openapi_values.specs.Refusal.{refusal_of};
 ghost use Rattle.openapi_values.specs.SchemaJson.{schema_json};
+ghost use Rattle.typed_values.specs.Checks.{TablePasses};
 ghost use Rattle.typed_values.specs.SchemaTable.{schema_json_titled, schema_json_described};
 
 use openapi_values::{J2oasError, j2oas_schema};
@@ -17,18 +18,24 @@ pub fn titled_schema(
     desc: &Desc,
     name: &Text,
 ) -> Result<Json, AllocError>
-    ensures { IfOk result (λ json. json ≡ schema_json_titled name.now desc.now) }
+    requires { TablePasses table.now }
+    ensures { IfOk result (λ json. json ≡ schema_json_titled table.now name.now desc.now) }
 {
     let schema = schema_of(alloc, table, desc, SchemaPlace::Plain)?;
     written(alloc, Some(name.as_str()), &schema)
 }
 
-/// The schema of a definition, with its description.
-pub fn definition_schema(alloc: Global, definition: &Definition) -> Result<Json, AllocError>
-    ensures { IfOk result (λ json. json ≡ schema_json_described definition.now.description
+/// The schema of a definition of the table, with its description.
+pub fn definition_schema(
+    alloc: Global,
+    table: &DescTable,
+    definition: &Definition,
+) -> Result<Json, AllocError>
+    requires { TablePasses table.now }
+    ensures { IfOk result (λ json. json ≡ schema_json_described table.now definition.now.description
         definition.now.desc) }
 {
-    let schema = schema_of_definition(alloc, definition)?;
+    let schema = schema_of_definition(alloc, table, definition)?;
     written(alloc, None, &schema)
 }
 

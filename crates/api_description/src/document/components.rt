@@ -1,10 +1,11 @@
 //! The responses and schemas that operations refer to.
 ghost use Rattle.std.specs.Prelude.{◌≡◌, fold, map, IfOk, OnOk};
 ghost use Rattle.semver.specs.Identifiers.{parts_of};
+ghost use Rattle.typed_values.specs.Checks.{TablePasses};
 ghost use Rattle.api_description.specs.Documents.{by_name, components_of, entries_of_error, error_entries};
 ghost use Rattle.api_description.specs.Documents.{error_object, reached_definitions, schema_entries};
 ghost use Rattle.api_description.specs.Documents.{schema_entry, with_entry};
-ghost use Rattle.api_description.specs.Endpoints.{boxed, held_at};
+ghost use Rattle.api_description.specs.Endpoints.{boxed, held_at, HavePassingTables};
 
 use crate::api_respond::{ApiEndpointErrorResponse, HandlerShape, RouteHandler};
 use crate::document::operations::content;
@@ -25,6 +26,7 @@ pub(crate) fn components(
     endpoints: &[ApiEndpoint],
     version: &Version,
 ) -> Result<Components, AllocError>
+    requires { HavePassingTables (boxed ⟦<dyn RouteHandler as RouteHandler>⟧) endpoints.now }
     ensures { IfOk result (λ components. components ≡ components_of
         (boxed ⟦<dyn RouteHandler as RouteHandler>⟧) (parts_of version.now) endpoints.now) }
 {
@@ -39,6 +41,7 @@ fn responses(
     endpoints: &[ApiEndpoint],
     version: &Version,
 ) -> Result<BTreeMap<Text, ResponseObject>, AllocError>
+    requires { HavePassingTables (boxed ⟦<dyn RouteHandler as RouteHandler>⟧) endpoints.now }
     ensures { IfOk result (λ responses. responses.entries ≡ by_name
         (error_entries (boxed ⟦<dyn RouteHandler as RouteHandler>⟧)
         (held_at (parts_of version.now) endpoints.now))) }
@@ -58,6 +61,7 @@ fn schemas(
     endpoints: &[ApiEndpoint],
     version: &Version,
 ) -> Result<BTreeMap<Text, Json>, AllocError>
+    requires { HavePassingTables (boxed ⟦<dyn RouteHandler as RouteHandler>⟧) endpoints.now }
     ensures { IfOk result (λ schemas. schemas.entries ≡ by_name
         (schema_entries (boxed ⟦<dyn RouteHandler as RouteHandler>⟧)
         (held_at (parts_of version.now) endpoints.now))) }
@@ -77,8 +81,9 @@ fn add_error(
     table: &DescTable,
     error: &Option<ApiEndpointErrorResponse>,
 ) -> Result<(), AllocError>
+    requires { TablePasses table.now }
     ensures { OnOk result (responses.new.entries ≡ fold with_entry responses.old.entries
-        (entries_of_error error.now)) }
+        (entries_of_error table.now error.now)) }
 {
     match error {
         Some(error) if !responses.contains_key(&error.name) => {
@@ -94,7 +99,8 @@ fn error_object(
     table: &DescTable,
     error: &ApiEndpointErrorResponse,
 ) -> Result<ResponseObject, AllocError>
-    ensures { IfOk result (λ object. object ≡ error_object error.now) }
+    requires { TablePasses table.now }
+    ensures { IfOk result (λ object. object ≡ error_object table.now error.now) }
 {
     Ok(ResponseObject {
         description: Some(error.name.copy(alloc)?),
@@ -108,13 +114,14 @@ fn add_schemas(
     schemas: &mut BTreeMap<Text, Json>,
     shape: &HandlerShape,
 ) -> Result<(), AllocError>
+    requires { TablePasses shape.now.table }
     ensures { OnOk result (schemas.new.entries ≡ fold with_entry schemas.old.entries
-        (map schema_entry (reached_definitions shape.now))) }
+        (map (schema_entry shape.now.table) (reached_definitions shape.now))) }
 {
     let names = reached(alloc, shape)?;
     for definition in shape.table.definitions() {
         if names.contains(&definition.name) {
-            add_schema(alloc, schemas, definition)?;
+            add_schema(alloc, schemas, &shape.table, definition)?;
         }
     }
     Ok(())
@@ -123,13 +130,15 @@ fn add_schemas(
 fn add_schema(
     alloc: Global,
     schemas: &mut BTreeMap<Text, Json>,
+    table: &DescTable,
     definition: &Definition,
 ) -> Result<(), AllocError>
+    requires { TablePasses table.now }
     ensures { OnOk result (schemas.new.entries ≡ with_entry schemas.old.entries
-        (schema_entry definition.now)) }
+        (schema_entry table.now definition.now)) }
 {
     if !schemas.contains_key(&definition.name) {
-        let schema = definition_schema(alloc, definition)?;
+        let schema = definition_schema(alloc, table, definition)?;
         schemas.insert(definition.name.copy(alloc)?, schema)?;
     }
     Ok(())

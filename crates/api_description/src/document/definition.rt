@@ -1,5 +1,5 @@
 //! A document as JSON and as text, and how it is written.
-ghost use Rattle.std.specs.Prelude.{◌≡◌, ◌≤◌, IfOk, OnOk, OnErr, IsErrOf};
+ghost use Rattle.std.specs.Prelude.{◌≡◌, ◌≤◌, [], IfOk, OnOk, OnErr, IsErrOf};
 ghost use Rattle.std.specs.Io.KnownBytes.{Appends};
 ghost use Rattle.std.specs.Str.{chars, encode_utf8_all};
 ghost use Rattle.line_session.specs.Causes.{Rose};
@@ -7,6 +7,7 @@ ghost use Rattle.line_session.specs.Parts.{AppendsPart};
 ghost use Rattle.semver.specs.Identifiers.{parts_of};
 ghost use Rattle.api_description.specs.Endpoints.{boxed};
 ghost use Rattle.api_description.specs.Documents.{document_of, document_text};
+ghost use Rattle.api_description.specs.Registering.{AreAccepted};
 
 use crate::api_respond::RouteHandler;
 use crate::description::ApiDescription;
@@ -69,6 +70,8 @@ impl ApiDescription {
 impl OpenApiDefinition<'_> {
     /// The document as JSON.
     pub fn json(&self, alloc: Global) -> Result<Json, AllocError>
+        requires { AreAccepted
+            (boxed ⟦<dyn RouteHandler as RouteHandler>⟧) [] self.now.api.now.endpoints.items }
         ensures { IfOk result (λ json. json ≡ document_of
             (boxed ⟦<dyn RouteHandler as RouteHandler>⟧) self.now.api.now.endpoints.items
             self.now.title (parts_of self.now.version)) }
@@ -87,6 +90,8 @@ impl OpenApiDefinition<'_> {
 
     /// The pretty text of the document and a newline.
     pub fn text(&self, alloc: Global) -> Result<Text, AllocError>
+        requires { AreAccepted
+            (boxed ⟦<dyn RouteHandler as RouteHandler>⟧) [] self.now.api.now.endpoints.items }
         ensures { IfOk result (λ text. text ≡ document_text
             (boxed ⟦<dyn RouteHandler as RouteHandler>⟧) self.now.api.now.endpoints.items
             self.now.title (parts_of self.now.version)) }
@@ -98,6 +103,8 @@ impl OpenApiDefinition<'_> {
 
     /// Writes the pretty text of the document and a newline; at an `Err` a part from the front.
     pub fn write<K: Sink>(&self, alloc: Global, sink: &mut K) -> Result<(), WriteError>
+        requires { AreAccepted
+            (boxed ⟦<dyn RouteHandler as RouteHandler>⟧) [] self.now.api.now.endpoints.items }
         ensures ok { OnOk result (Appends (K.taken sink.old) (K.taken sink.new)
             (encode_utf8_all
             (document_text

@@ -2,8 +2,9 @@
 ghost use Rattle.std.specs.Prelude.{◌≡◌, ◌++◌, ◌∷◌, [], IfOk, IsTrue, OnOk};
 ghost use Rattle.std.specs.Fmt.{decimal};
 ghost use Rattle.schema_values.specs.Ascii.{all_ascii};
+ghost use Rattle.typed_values.specs.Checks.{TablePasses};
 ghost use Rattle.typed_values.specs.SchemaTable.{schema_json_titled};
-ghost use Rattle.api_description.specs.Endpoints.{boxed};
+ghost use Rattle.api_description.specs.Endpoints.{boxed, shape_at, HavePassingTables};
 ghost use Rattle.api_description.specs.Documents.{body_of, error_references, media, operation_at};
 ghost use Rattle.api_description.specs.Documents.{operation_of, path_item_of, paths_of, reference_to};
 ghost use Rattle.api_description.specs.Documents.{response_of_success, responses_by, template_of, templates};
@@ -30,6 +31,7 @@ pub(crate) fn paths(
     endpoints: &[ApiEndpoint],
     version: &Version,
 ) -> Result<List<(Text, PathItem)>, AllocError>
+    requires { HavePassingTables (boxed ⟦<dyn RouteHandler as RouteHandler>⟧) endpoints.now }
     ensures { IfOk result (λ paths. paths ≡ paths_of
         (boxed ⟦<dyn RouteHandler as RouteHandler>⟧) (parts_of version.now) endpoints.now) }
 {
@@ -69,6 +71,7 @@ fn path_item(
     version: &Version,
     template: &Text,
 ) -> Result<PathItem, AllocError>
+    requires { HavePassingTables (boxed ⟦<dyn RouteHandler as RouteHandler>⟧) endpoints.now }
     ensures { IfOk result (λ item. item ≡ path_item_of
         (boxed ⟦<dyn RouteHandler as RouteHandler>⟧) (parts_of version.now) endpoints.now
         template.now) }
@@ -92,6 +95,7 @@ fn operation(
     template: &Text,
     method: &str,
 ) -> Result<Option<Operation>, AllocError>
+    requires { HavePassingTables (boxed ⟦<dyn RouteHandler as RouteHandler>⟧) endpoints.now }
     ensures { IfOk result (λ operation. operation ≡ operation_at
         (boxed ⟦<dyn RouteHandler as RouteHandler>⟧) (parts_of version.now) endpoints.now
         template.now method.now) }
@@ -103,6 +107,7 @@ fn operation(
 }
 
 fn operation_of(alloc: Global, endpoint: &ApiEndpoint) -> Result<Operation, AllocError>
+    requires { TablePasses (shape_at (boxed ⟦<dyn RouteHandler as RouteHandler>⟧) endpoint.now).table }
     ensures { IfOk result (λ operation. operation ≡ operation_of
         (boxed ⟦<dyn RouteHandler as RouteHandler>⟧) endpoint.now) }
 {
@@ -119,7 +124,8 @@ fn request_body(
     kind: ApiEndpointBodyContentType,
     shape: &HandlerShape,
 ) -> Result<Option<RequestBody>, AllocError>
-    ensures { IfOk result (λ body. body ≡ body_of kind shape.now.slots) }
+    requires { TablePasses shape.now.table }
+    ensures { IfOk result (λ body. body ≡ body_of kind shape.now.table shape.now.slots) }
 {
     match shape.slots.as_slice() {
         [Slot::TypedBody(desc, name), ..] => Ok(Some(RequestBody {
@@ -138,9 +144,10 @@ pub(crate) fn content(
     desc: &Desc,
     name: &Text,
 ) -> Result<List<(Text, MediaType)>, AllocError>
-    requires { IsTrue (all_ascii media_type.now) }
+    requires ascii { IsTrue (all_ascii media_type.now) }
+    requires table { TablePasses table.now }
     ensures { IfOk result (λ content. content ≡ media media_type.now
-        (schema_json_titled name.now desc.now) ∷ []) }
+        (schema_json_titled table.now name.now desc.now) ∷ []) }
 {
     let mut content = List::new(alloc);
     let schema = titled_schema(alloc, table, desc, name)?;
@@ -153,8 +160,9 @@ fn responses(
     alloc: Global,
     shape: &HandlerShape,
 ) -> Result<List<(Text, ResponseObject)>, AllocError>
-    ensures { IfOk result (λ responses.
-        responses ≡ responses_by shape.now.response.success shape.now.response shape.now.error) }
+    requires { TablePasses shape.now.table }
+    ensures { IfOk result (λ responses. responses ≡ responses_by shape.now.response.success
+        shape.now.table shape.now.response shape.now.error) }
 {
     let mut responses = List::new(alloc);
     let success = success(alloc, &shape.table, &shape.response)?;
@@ -181,7 +189,8 @@ fn success(
     table: &DescTable,
     response: &ApiEndpointResponse,
 ) -> Result<ResponseObject, AllocError>
-    ensures { IfOk result (λ success. success ≡ response_of_success response.now) }
+    requires { TablePasses table.now }
+    ensures { IfOk result (λ success. success ≡ response_of_success table.now response.now) }
 {
     let content = match &response.content {
         ContentShape::Json(desc, name) => content(alloc, "application/json", table, desc, name)?,

@@ -1,18 +1,14 @@
-//! Errors that are answered, the bodies that tell them, and responses.
-ghost use Rattle.std.specs.Prelude.{◌≡◌, [], ◌∷◌, ◌++◌, IfOk, OnOk, IsTrue};
-ghost use Rattle.schema_values.specs.Ascii.{all_ascii};
-ghost use Rattle.schema_values.specs.declared.json_value.Json.{Text as Words};
-ghost use Rattle.schema_values.specs.Member.{member};
-ghost use Rattle.api_description.specs.Responses.{bad_request, internal_error, code_members, error_body_json};
-ghost use Rattle.api_description.specs.Responses.{error_definition, error_response, text_field};
+//! Errors that are answered, and responses.
+ghost use Rattle.std.specs.Prelude.{◌≡◌, IfOk};
+ghost use Rattle.api_description.specs.Responses.{bad_request, internal_error, error_response};
 
-use crate::http_status::{ErrorStatusCode, HeaderList, RequestId};
+use crate::http_status::error_body::copy_code;
+use crate::http_status::{ErrorStatusCode, HeaderList, HttpErrorResponseBody, RequestId};
 use http::StatusCode;
 use http_header::{CONTENT_TYPE, HeaderName, HeaderValue};
-use schema_values::{Json, List, Member, Text};
+use schema_values::{List, Text};
 use std::alloc::{AllocError, Global};
 use std::fmt;
-use typed_values::{Definition, Desc, Field, Presence};
 
 /// An error that is answered: its status, its code for programs, and a message for the client and one for the
 /// log.
@@ -42,17 +38,6 @@ impl fmt::Display for HttpError {
             self.status_code, self.external_message
         )
     }
-}
-
-/// The body of an error's response.
-#[derive(Drop)]
-pub struct HttpErrorResponseBody {
-    /// The id of the request.
-    pub request_id: Text,
-    /// The code for programs.
-    pub error_code: Option<Text>,
-    /// The message for the client.
-    pub message: Text,
 }
 
 /// What is sent back: a status, header lines and the bytes of the body.
@@ -141,107 +126,4 @@ impl HttpError {
             body: text.into_bytes(),
         })
     }
-}
-
-impl HttpErrorResponseBody {
-    /// A body equal to this one.
-    pub fn copy(&self, alloc: Global) -> Result<HttpErrorResponseBody, AllocError>
-        ensures { IfOk result (λ copy. copy ≡ self.now) }
-    {
-        Ok(HttpErrorResponseBody {
-            request_id: self.request_id.copy(alloc)?,
-            error_code: copy_code(alloc, &self.error_code)?,
-            message: self.message.copy(alloc)?,
-        })
-    }
-
-    /// The body as JSON: the code is left out where there is none.
-    pub fn to_json(self, alloc: Global) -> Result<Json, AllocError>
-        ensures { IfOk result (λ json. json ≡ error_body_json self) }
-    {
-        let HttpErrorResponseBody {
-            request_id,
-            error_code,
-            message,
-        } = self;
-        let mut members = List::new(alloc);
-        push_text(alloc, &mut members, "request_id", request_id)?;
-        push_code(alloc, &mut members, error_code)?;
-        push_text(alloc, &mut members, "message", message)?;
-        Ok(Json::Object(members))
-    }
-}
-
-fn copy_code(alloc: Global, code: &Option<Text>) -> Result<Option<Text>, AllocError>
-    ensures { IfOk result (λ copy. copy ≡ code.now) }
-{
-    match code {
-        Some(code) => Ok(Some(code.copy(alloc)?)),
-        None => Ok(None),
-    }
-}
-
-// Adds the member of a code where there is one.
-fn push_code(
-    alloc: Global,
-    members: &mut List<Member>,
-    code: Option<Text>,
-) -> Result<(), AllocError>
-    ensures { OnOk result (members.new ≡ members.old ++ code_members code) }
-{
-    match code {
-        Some(code) => push_text(alloc, members, "error_code", code),
-        None => Ok(()),
-    }
-}
-
-// Adds a member of this name, which is ASCII, and this text.
-fn push_text(
-    alloc: Global,
-    members: &mut List<Member>,
-    name: &str,
-    text: Text,
-) -> Result<(), AllocError>
-    requires { IsTrue (all_ascii name.now) }
-    ensures { OnOk result (members.new ≡ members.old ++ member name.now (Words text) ∷ []) }
-{
-    let name = Text::from_ascii(alloc, name)?;
-    members.push(Member {
-        name,
-        value: Json::Text(text),
-    })
-}
-
-/// The definition of the body of errors: the request's id, a code where there is one, and a message.
-pub fn error_definition(alloc: Global) -> Result<Definition, AllocError>
-    ensures { IfOk result (λ definition. definition ≡ error_definition) }
-{
-    let mut fields = List::new(alloc);
-    fields.push(text_field(alloc, "request_id", Presence::Required)?)?;
-    fields.push(text_field(alloc, "error_code", Presence::Skipped)?)?;
-    fields.push(text_field(alloc, "message", Presence::Required)?)?;
-    Ok(Definition {
-        name: Text::from_ascii(alloc, "Error")?,
-        description: Some(Text::from_ascii(alloc, "Error information from a response.")?),
-        desc: Desc::Struct {
-            fields,
-            deny_unknown: false,
-        },
-    })
-}
-
-fn text_field(alloc: Global, name: &str, presence: Presence) -> Result<Field, AllocError>
-    requires { IsTrue (all_ascii name.now) }
-    ensures { IfOk result (λ field. field ≡ text_field name.now presence) }
-{
-    Ok(Field {
-        name: Text::from_ascii(alloc, name)?,
-        desc: Desc::Text {
-            min: None,
-            max: None,
-            format: None,
-        },
-        presence,
-        description: None,
-    })
 }

@@ -214,13 +214,25 @@ pub fn define(table: &mut DescTable, name: &str, desc: Desc) -> Result<(), Alloc
     }
 }
 
-/// The definitions `Record`, `Numbers`, `Choice` and `Folder`.
+/// A nest that may be in another, or in none.
+fn nest(alloc: Global) -> Result<Desc, AllocError> {
+    let mut fields = List::new(alloc);
+    let inner = option(alloc, named(alloc, "Nest")?)?;
+    push(alloc, &mut fields, "inner", Presence::Nullable, inner)?;
+    Ok(Desc::Struct {
+        fields,
+        deny_unknown: false,
+    })
+}
+
+/// The definitions `Record`, `Numbers`, `Choice`, `Folder` and `Nest`.
 pub fn definitions(alloc: Global) -> Result<DescTable, AllocError> {
     let mut table = DescTable::new(alloc);
     define(&mut table, "Record", record(alloc)?)?;
     define(&mut table, "Numbers", numbers(alloc)?)?;
     define(&mut table, "Choice", choice(alloc)?)?;
     define(&mut table, "Folder", folder(alloc)?)?;
+    define(&mut table, "Nest", nest(alloc)?)?;
     Ok(table)
 }
 

@@ -4,7 +4,7 @@
 type Row = (&'static str, &'static str, &'static str);
 
 /// Values that denote a tree, and the tree as `shown` writes it.
-pub const TREE_ROWS: [Row; 52] = [
+pub const TREE_ROWS: [Row; 56] = [
     // Any: every JSON value.
     ("Any", "null", "<null>"),
     ("Any", "true", "<true>"),
@@ -91,10 +91,19 @@ pub const TREE_ROWS: [Row; 52] = [
         r#"{"last":{"kind":"open"},"shapes":["dot",{"box":{"w":1}}]}"#,
         "([0:unit 1:(1 -)] +0:())",
     ),
+    // Defaults stand for absent fields alone.
+    ("Settings", "{}", "(3 [] 0:unit -)"),
+    ("Settings", r#"{"other":1}"#, "(3 [] 0:unit -)"),
+    ("Settings", r#"{"limit":null,"level":4}"#, "(4 [] 0:unit -)"),
+    (
+        "Settings",
+        r#"{"level":9,"tags":["a"],"shape":{"box":{"w":1}},"limit":7}"#,
+        "(9 ['a'] 1:(1 -) +7)",
+    ),
 ];
 
 /// Values that denote none, and the text of the fault.
-pub const FAULT_ROWS: [Row; 70] = [
+pub const FAULT_ROWS: [Row; 75] = [
     // Any: every JSON value.
     ("Any", "1.5", "not JSON"),
     // Never: none.
@@ -228,4 +237,10 @@ pub const FAULT_ROWS: [Row; 70] = [
         r#"{"shapes":[],"last":{}}"#,
         "last: missing field `kind`",
     ),
+    // A default does not stand for null, nor for a value that does not fit.
+    ("Settings", r#"{"level":null}"#, "level: invalid type"),
+    ("Settings", r#"{"tags":null}"#, "tags: invalid type"),
+    ("Settings", r#"{"shape":null}"#, "shape: invalid type"),
+    ("Settings", r#"{"level":256}"#, "level: value out of range"),
+    ("Settings", r#"{"shape":"box"}"#, "shape: unknown variant"),
 ];

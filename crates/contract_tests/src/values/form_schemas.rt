@@ -5,7 +5,7 @@ use openapi_values::json_admits;
 use schema_values::{Json, List, Member, Text};
 use std::alloc::{AllocError, Global};
 use std::test::Fail;
-use typed_values::DescTable;
+use typed_values::{DescTable, check_table};
 use written_schemas::definition_schema;
 
 /// What each form is written as, in pretty text.
@@ -92,7 +92,7 @@ const MIXED: &str = r##"{
 }"##;
 
 /// What each form is written as, where that is short.
-const SHORT_SCHEMAS: [(&str, &str); 15] = [
+const SHORT_SCHEMAS: [(&str, &str); 16] = [
     ("Any", "{}"),
     ("Never", r#"{"not":{}}"#),
     ("Null", r#"{"type":"string","enum":[null]}"#),
@@ -108,6 +108,7 @@ const SHORT_SCHEMAS: [(&str, &str); 15] = [
     ("Shape", SHAPE),
     ("Card", CARD),
     ("Event", EVENT),
+    ("Settings", SETTINGS),
 ];
 
 const SHAPE: &str = concat!(
@@ -128,6 +129,14 @@ const EVENT: &str = concat!(
     r#""required":["kind"]},{"description":"a step","type":"object","properties":{"kind":{"type":"string","#,
     r#""enum":["move"]},"note":{"type":"string"},"x":{"type":"integer","format":"int8"}},"#,
     r#""required":["kind","x"]}]}"#
+);
+
+const SETTINGS: &str = concat!(
+    r#"{"type":"object","properties":{"level":{"description":"how loud","default":3,"type":"integer","#,
+    r#""format":"uint8","minimum":0},"limit":{"nullable":true,"default":null,"type":"integer","#,
+    r#""format":"uint8","minimum":0},"shape":{"default":"dot","#,
+    r##""allOf":[{"$ref":"#/components/schemas/Shape"}]},"##,
+    r#""tags":{"default":[],"type":"array","items":{"type":"string"}}}}"#
 );
 
 const MOOD: &str = concat!(
@@ -159,13 +168,16 @@ fn object(alloc: Global, name: &str, value: Json) -> Result<Json, AllocError> {
     Ok(Json::Object(members))
 }
 
-/// A document of the schemas of a table.
+/// A document of the schemas of a table that passes its check.
 fn document(alloc: Global, table: &DescTable) -> Result<Json, AllocError> {
+    if check_table(table).is_err() {
+        return Err(AllocError);
+    }
     let mut schemas = List::new(alloc);
     for definition in table.definitions() {
         schemas.push(Member {
             name: definition.name.copy(alloc)?,
-            value: definition_schema(alloc, definition)?,
+            value: definition_schema(alloc, table, definition)?,
         })?;
     }
     object(
@@ -175,13 +187,21 @@ fn document(alloc: Global, table: &DescTable) -> Result<Json, AllocError> {
     )
 }
 
+/// The schema of the definition of a name in a table that passes its check.
+fn schema_named(alloc: Global, table: &DescTable, name: &str) -> Result<Json, AllocError> {
+    let definition = table.entry_named(name).ok_or(AllocError)?;
+    if check_table(table).is_err() {
+        return Err(AllocError);
+    }
+    definition_schema(alloc, table, definition)
+}
+
 #[test]
 fn each_form_is_written_as_its_row_says(rt: HostRuntime) -> Result<(), Fail> {
     let alloc = rt.alloc();
     let table = forms(alloc)?;
     for (name, expected) in &SCHEMAS {
-        let definition = table.entry_named(name).ok_or(AllocError)?;
-        let schema = definition_schema(alloc, definition)?.pretty(alloc)?;
+        let schema = schema_named(alloc, &table, name)?.pretty(alloc)?;
         assert_eq!(rt; schema.as_str(), *expected, "at {name}");
     }
     Ok(())
@@ -192,8 +212,7 @@ fn each_short_form_is_written_as_its_row_says(rt: HostRuntime) -> Result<(), Fai
     let alloc = rt.alloc();
     let table = forms(alloc)?;
     for (name, expected) in &SHORT_SCHEMAS {
-        let definition = table.entry_named(name).ok_or(AllocError)?;
-        let schema = definition_schema(alloc, definition)?.compact(alloc)?;
+        let schema = schema_named(alloc, &table, name)?.compact(alloc)?;
         assert_eq!(rt; schema.as_str(), *expected, "at {name}");
     }
     Ok(())

@@ -1,4 +1,5 @@
 //! A definition of each form: any value, none, null, characters, enumerations of every kind, and maps.
+use crate::values::defaults::define_defaults;
 use crate::values::definitions::{define, int, list, named, option, push};
 use crate::values::variants::define_variants;
 use schema_values::{Boxed, List, Text};
@@ -83,5 +84,6 @@ pub fn forms(alloc: Global) -> Result<DescTable, AllocError> {
     define(&mut table, "Bag", bag(alloc)?)?;
     define(&mut table, "Mixed", mixed(alloc)?)?;
     define_variants(alloc, &mut table)?;
+    define_defaults(alloc, &mut table)?;
     Ok(table)
 }

@@ -1,10 +1,10 @@
 //! An API over definitions that come back to themselves and lead to others.
 use crate::endpoints::{
-    answer, api_of, define_error, endpoint, error, named, response, slots, text, told,
+    answer, api_of, compact_document, define_error, endpoint, error, named, response, slots, text,
+    told,
 };
 use api_description::api_respond::HandlerShape;
 use schema_values::{Boxed, List, Text};
-use semver::Version;
 use std::alloc::{AllocError, Global};
 use std::test::Fail;
 use typed_values::{Desc, DescTable, Field, Presence};
@@ -146,8 +146,7 @@ fn expected(alloc: Global) -> Result<Text, AllocError> {
 fn a_document_has_the_definitions_that_are_reached(rt: HostRuntime) -> Result<(), Fail> {
     let alloc = rt.alloc();
     let api = api_of(alloc, endpoint(alloc, folder_shape(alloc)?, "/a")?)?;
-    let definition = api.openapi(alloc, "folders", Version::new(1, 0, 0))?;
-    let document = definition.json(alloc)?.compact(alloc)?;
+    let document = compact_document(alloc, &api, "folders")?;
     assert_eq!(rt; document.as_str(), expected(alloc)?.as_str());
     Ok(())
 }

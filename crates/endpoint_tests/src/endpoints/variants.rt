@@ -1,11 +1,11 @@
 //! An endpoint whose messages are variants: its document, and what it answers.
 use crate::endpoints::folders::{define, push};
 use crate::endpoints::{
-    answer, api_of, define_error, endpoint, error, named, response, slots, text, told,
+    answer, api_of, compact_document, define_error, endpoint, error, named, response, slots, text,
+    told,
 };
 use api_description::api_respond::HandlerShape;
 use schema_values::{List, Text};
-use semver::Version;
 use std::alloc::{AllocError, Global};
 use std::test::Fail;
 use typed_values::{Desc, DescTable, Field, IntKind, Presence, TaggedVariant, Variant};
@@ -102,8 +102,7 @@ fn has(text: &Text, part: &str) -> bool {
 fn a_document_has_what_payloads_and_variants_refer_to(rt: HostRuntime) -> Result<(), Fail> {
     let alloc = rt.alloc();
     let api = api_of(alloc, endpoint(alloc, message_shape(alloc)?, "/a")?)?;
-    let definition = api.openapi(alloc, "messages", Version::new(1, 0, 0))?;
-    let document = definition.json(alloc)?.compact(alloc)?;
+    let document = compact_document(alloc, &api, "messages")?;
     assert!(rt; has(&document, MESSAGE));
     assert!(rt; has(&document, SCHEMAS));
     Ok(())

@@ -16,4 +16,4 @@ returns-in_err-tree-clause-admitted g c doc written admits =
     let error = c.in_err-tree.field-0.0 in
     let refused = subst (λ x. IfFault error (λ fault. (tree : Tree) → JsonDenotes table x json tree → ⊥)) c.in_ok-desc.ensures.desc c.in_err-tree.ensures.refused in
     let p = err_from_is_err_and c.from_residual-in_err-tree.result c.from_residual-in_err-tree.ensures.1 in
-    rw (p.1, p.2) (none_refused doc (schema_json d) table d (plain_agrees doc table d written) json c.requires.sound admits error refused)
+    rw (p.1, p.2) (none_refused doc (schema_json table d) table d (plain_agrees doc table d written) json c.requires.sound admits error refused)

@@ -13,10 +13,10 @@ returns-clause-denotes g c =
 pub returns-clause-plain : goal.returns-clause-plain
 returns-clause-plain g c doc written =
     let d = g.T.ApiType.desc_of in
-    admitted doc (schema_json d) c.args.table.now d (plain_agrees doc c.args.table.now d written) c.encode_json.result c.encode_json.ensures.sound (returns-clause-denotes g c)
+    admitted doc (schema_json c.args.table.now d) c.args.table.now d (plain_agrees doc c.args.table.now d written) c.encode_json.result c.encode_json.ensures.sound (returns-clause-denotes g c)
 
 pub returns-clause-titled : goal.returns-clause-titled
 returns-clause-titled g c doc written =
     let d = g.T.ApiType.desc_of in
     let name = g.T.ApiType.name_of in
-    admitted doc (schema_json_titled name d) c.args.table.now d (titled_agrees doc c.args.table.now d written name) c.encode_json.result c.encode_json.ensures.sound (returns-clause-denotes g c)
+    admitted doc (schema_json_titled c.args.table.now name d) c.args.table.now d (titled_agrees doc c.args.table.now d written name) c.encode_json.result c.encode_json.ensures.sound (returns-clause-denotes g c)

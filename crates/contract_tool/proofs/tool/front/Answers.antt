@@ -6,6 +6,9 @@ use Rattle.contract_tool.specs.Sessions.{front_of}
 use Rattle.api_description.proofs.CloneLemmas.{parts_of-copied}
 use Rattle.contract_tool.proofs.tool.front.Goals as goal
 
+pub text-requires : goal.text-requires
+text-requires g c = rw c.in_ok-definition.ensures.api c.requires
+
 pub returns : goal.returns
 returns g c =
     let copied : parts_of c.in_ok-clone.field-0 ≡ parts_of c.args.version.now = parts_of-copied c.args.version.now c.in_ok-clone.field-0 c.in_ok-clone.ensures.cases in

@@ -24,8 +24,7 @@ object_json-returns-in-Some t c =
 
 pub object_json-returns : goal.object_json-returns
 object_json-returns t c =
-    let schema = out-SchemaObject c.args.schema.now in
-    let annotated : Adds _ (annotations c.args.title.now schema.title schema.description schema.nullable) _ = record { are = c.in_ok-add_annotations.ensures } in
+    let annotated : Adds _ (annotations c.args.title.now (out-SchemaObject c.args.schema.now)) _ = record { are = c.in_ok-add_annotations.ensures } in
     object c.new-members.ensures (joined annotated (entries_behind (object_level c.args.schema.now)) _ c.in_ok-add_behind.ensures)
     ∙ sym (parts-are c.args.schema.now c.args.title.now c.in_default.not-Some)
 

@@ -7,8 +7,8 @@ pub returns : goal.returns
 returns c = record {
   accepted = never_refused;
   plain = written_plain;
-  titled = λ desc name. written_titled name desc;
-  header_accepted = λ desc. never_refused (in_header desc);
-  header_plain = λ desc. written_plain (in_header desc);
-  header_titled = λ desc name. written_titled name (in_header desc);
+  titled = λ table desc name. written_titled table name desc;
+  header_accepted = λ table desc. never_refused table (in_header desc);
+  header_plain = λ table desc. written_plain table (in_header desc);
+  header_titled = λ table desc name. written_titled table name (in_header desc);
 }

@@ -1,7 +1,9 @@
 use Rattle.std.proofs.Common.{[], refl, sym, ◌∙◌}
 use Rattle.semver.specs.Identifiers.{parts_of}
+use Rattle.api_description.specs.Endpoints.{shape_at}
+use Rattle.api_description.specs.Replies.{ShapePasses}
 use Rattle.api_description.specs.Templates.{trimmed}
-use Rattle.api_description.proofs.Accepted.{found_passes}
+use Rattle.api_description.proofs.Accepted.{accepted_shapes, found_holds}
 use Rattle.api_description.proofs.Followed.{answers_taken}
 use Rattle.api_description.proofs.NamedAnswers.{has_id, named_by-bytes, named_answers}
 use Rattle.api_description.proofs.TextBytes.{text_bytes}
@@ -16,8 +18,9 @@ returns-in-Err-BadRequestId-clause-answers g c =
 pub answer-requires-clause-shape : goal.answer-requires-clause-shape
 answer-requires-clause-shape g c =
     let found = rw (c.endpoints.ensures, c.without_trailing_slash-path.ensures) at c.in-Some.ensures in
-    found_passes (λ e. goal.RouteHandler-dyn g (e.handler.vtable, e.handler.value)) (parts_of c.args.request.now.version) c.as_str-method.result.now
-    (trimmed c.as_str-2.result.now) [] c.args.self.now.endpoints.items c.in-Some.endpoint.now c.requires (sym found)
+    found_holds (λ e. ShapePasses (shape_at (λ e. goal.RouteHandler-dyn g (e.handler.vtable, e.handler.value)) e)) (parts_of c.args.request.now.version) c.as_str-method.result.now
+    (trimmed c.as_str-2.result.now) c.args.self.now.endpoints.items c.in-Some.endpoint.now
+    (accepted_shapes (λ e. goal.RouteHandler-dyn g (e.handler.vtable, e.handler.value)) [] c.args.self.now.endpoints.items c.requires) (sym found)
 
 pub returns-in-Some-clause-answers : goal.returns-in-Some-clause-answers
 returns-in-Some-clause-answers g c =

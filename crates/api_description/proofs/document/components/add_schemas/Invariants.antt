@@ -5,5 +5,5 @@ use Rattle.api_description.proofs.document.components.add_schemas.Given as goal
 
 abbrev pub invariant-loop-definition : goal.invariant-loop-definition
 invariant-loop-definition l =
-    fold with_entry l.initial.schemas.entries (map schema_entry (filter (λ e. is_among e.name l.names.keys) l.definition-items))
-    ≡ fold with_entry l.schemas.entries (map schema_entry (filter (λ e. is_among e.name l.names.keys) (drop l.definition-index l.definition-items)))
+    fold with_entry l.initial.schemas.entries (map (schema_entry l.shape.table) (filter (λ e. is_among e.name l.names.keys) l.definition-items))
+    ≡ fold with_entry l.schemas.entries (map (schema_entry l.shape.table) (filter (λ e. is_among e.name l.names.keys) (drop l.definition-index l.definition-items)))

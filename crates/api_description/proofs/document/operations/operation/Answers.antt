@@ -1,6 +1,15 @@
-use Rattle.std.proofs.Common.{Some, refl, ap}
+use Rattle.std.proofs.Common.{Some, refl, sym, ap}
+use Rattle.semver.specs.Identifiers.{parts_of}
+use Rattle.typed_values.specs.Checks.{TablePasses}
+use Rattle.api_description.specs.Endpoints.{shape_at}
+use Rattle.api_description.proofs.Accepted.{found_holds}
 use Rattle.api_description.proofs.TextBytes.{text_bytes}
 use Rattle.api_description.proofs.document.operations.operation.Goals as goal
+
+pub operation_of-requires : goal.operation_of-requires
+operation_of-requires g c =
+    found_holds (λ e. TablePasses (shape_at (λ e. goal.RouteHandler-dyn g (e.handler.vtable, e.handler.value)) e).table) (parts_of c.args.version.now) c.args.method.now
+    c.as_str.result.now c.args.endpoints.now c.in-Some.endpoint.now c.requires (sym c.in-Some.ensures)
 
 pub returns-in_ok-operation_of-in-Some : goal.returns-in_ok-operation_of-in-Some
 returns-in_ok-operation_of-in-Some g c =

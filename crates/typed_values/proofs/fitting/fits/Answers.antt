@@ -1,5 +1,0 @@
-use Rattle.typed_values.specs.Parts.{the_whole, of_whole}
-use Rattle.typed_values.proofs.fitting.fits.Goals as goal
-
-pub fits_at-requires : goal.fits_at-requires
-fits_at-requires c = rw c.new.ensures.whole (of_whole the_whole)

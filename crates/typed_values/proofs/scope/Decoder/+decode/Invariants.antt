@@ -1,0 +1,78 @@
+use Rattle.std.proofs.Common.{◌≡◌, suc, drop}
+use Rattle.typed_values.specs.Denotes.{told, first_told, all_told, member_name}
+use Rattle.typed_values.specs.Order.{sorted_by}
+use Rattle.typed_values.specs.Rows.{told_item, told_field, told_fields, told_entry}
+use denote.Param.Weighed.{most}
+use Rattle.schema_values.specs.declared.json_value.Json.{size-Json}
+use Rattle.schema_values.specs.declared.json_value.Member.{size-Member}
+use Rattle.typed_values.proofs.Measure.{at_size, choice_at_size, size_alone}
+use Rattle.typed_values.proofs.Loops.{after}
+use Rattle.typed_values.proofs.scope.Decoder.+decode.Given as goal
+
+abbrev pub decreases-decode_at : goal.decreases-decode_at
+decreases-decode_at l = at_size l.self.now.table.now l.self.now.whole.now (size-Json l.json.now) l.desc.now
+
+abbrev pub decreases-decode_untagged : goal.decreases-decode_untagged
+decreases-decode_untagged l = choice_at_size l.self.now.table.now l.self.now.whole.now (size-Json l.json.now) l.alternatives.now
+
+abbrev pub decreases-decode_option : goal.decreases-decode_option
+decreases-decode_option l = suc (at_size l.self.now.table.now l.self.now.whole.now (size-Json l.json.now) l.inner.now)
+
+abbrev pub decreases-decode_list : goal.decreases-decode_list
+decreases-decode_list l = suc (size_alone l.self.now.table.now l.self.now.whole.now (size-Json l.json.now))
+
+abbrev pub decreases-decode_items : goal.decreases-decode_items
+decreases-decode_items l = size_alone l.self.now.table.now l.self.now.whole.now (suc (most size-Json l.items.now))
+
+abbrev pub decreases-decode_map : goal.decreases-decode_map
+decreases-decode_map l = suc (size_alone l.self.now.table.now l.self.now.whole.now (size-Json l.json.now))
+
+abbrev pub decreases-decode_entries : goal.decreases-decode_entries
+decreases-decode_entries l = suc (size_alone l.self.now.table.now l.self.now.whole.now (most size-Member l.members.now))
+
+abbrev pub decreases-decode_pair : goal.decreases-decode_pair
+decreases-decode_pair l = size_alone l.self.now.table.now l.self.now.whole.now (size-Member l.member.now)
+
+abbrev pub decreases-decode_struct : goal.decreases-decode_struct
+decreases-decode_struct l = suc (size_alone l.self.now.table.now l.self.now.whole.now (size-Json l.json.now))
+
+abbrev pub decreases-decode_members : goal.decreases-decode_members
+decreases-decode_members l = suc (suc (size_alone l.self.now.table.now l.self.now.whole.now (most size-Member l.members.now)))
+
+abbrev pub decreases-decode_fields : goal.decreases-decode_fields
+decreases-decode_fields l = suc (size_alone l.self.now.table.now l.self.now.whole.now (most size-Member l.members.now.items.now))
+
+abbrev pub decreases-decode_field : goal.decreases-decode_field
+decreases-decode_field l = size_alone l.self.now.table.now l.self.now.whole.now (most size-Member l.members.now.items.now)
+
+abbrev pub decreases-decode_external : goal.decreases-decode_external
+decreases-decode_external l = suc (size_alone l.self.now.table.now l.self.now.whole.now (size-Json l.json.now))
+
+abbrev pub decreases-decode_payload : goal.decreases-decode_payload
+decreases-decode_payload l = size_alone l.self.now.table.now l.self.now.whole.now (size-Member l.member.now)
+
+abbrev pub decreases-decode_tagged : goal.decreases-decode_tagged
+decreases-decode_tagged l = suc (size_alone l.self.now.table.now l.self.now.whole.now (size-Json l.json.now))
+
+abbrev pub decreases-decode_variant : goal.decreases-decode_variant
+decreases-decode_variant l = suc (suc (size_alone l.self.now.table.now l.self.now.whole.now (most size-Member l.members.now.items.now)))
+
+abbrev pub invariant-decode_fields-loop-field : goal.invariant-decode_fields-loop-field
+invariant-decode_fields-loop-field l =
+    told_fields l.self.table.now l.self.whole.now l.members.items.now l.fields
+    ≡ after l.trees (all_told (λ i f. told_field l.self.table.now l.self.whole.now l.members.items.now f) l.field-index (drop l.field-index l.fields))
+
+abbrev pub invariant-decode_items-loop-i : goal.invariant-decode_items-loop-i
+invariant-decode_items-loop-i l =
+    all_told (told_item l.self.table.now l.self.whole.now l.item) 0 l.items
+    ≡ after l.trees (all_told (told_item l.self.table.now l.self.whole.now l.item) l.i (drop l.i l.items))
+
+abbrev pub invariant-decode_entries-loop-member : goal.invariant-decode_entries-loop-member
+invariant-decode_entries-loop-member l =
+    let told = told_entry l.self.table.now l.self.whole.now l.value in
+    all_told (λ i m. told m) 0 (sorted_by member_name l.members) ≡ after l.pairs (all_told (λ i m. told m) l.member-index (drop l.member-index (sorted_by member_name l.members)))
+
+abbrev pub invariant-decode_untagged-loop-i : goal.invariant-decode_untagged-loop-i
+invariant-decode_untagged-loop-i l =
+    first_told 0 (told l.self.table.now l.self.whole.now l.json) l.alternatives
+    ≡ first_told l.i (told l.self.table.now l.self.whole.now l.json) (drop l.i l.alternatives)
