@@ -22,7 +22,7 @@ NULL_ALONE = {"type": "string", "enum": [None]}
 
 def bounds_of(name):
     """The least and the greatest number of a format, as `uint8`."""
-    bits = int(name.lstrip("uint"))
+    bits = int(name.removeprefix("u").removeprefix("int"))
     return (0, 2**bits - 1) if name.startswith("u") else (-(2 ** (bits - 1)), 2 ** (bits - 1) - 1)
 
 
@@ -44,14 +44,19 @@ def translated(schema):
     return {"anyOf": [{"enum": [None]}, parts]} if schema.get("nullable") is True else parts
 
 
-def is_admitted(schemas, name, text):
-    """Whether a text is JSON over whole numbers of 64 bits that the schema of a name admits."""
+def validators(schemas):
+    """A validator for each name of some schemas, which may refer to each other."""
+    doc = {"components": {"schemas": {name: translated(schema) for name, schema in schemas.items()}}}
+    return {name: Draft4Validator({"$ref": f"#/components/schemas/{name}", **doc}) for name in schemas}
+
+
+def is_admitted(validator, text):
+    """Whether a text is JSON over whole numbers of 64 bits that a validator takes."""
     try:
         value = json.loads(text, parse_int=whole, parse_float=refuse, parse_constant=refuse)
     except ValueError:
         return False
-    doc = {"components": {"schemas": {n: translated(s) for n, s in schemas.items()}}}
-    return Draft4Validator({"$ref": f"#/components/schemas/{name}", **doc}).is_valid(value)
+    return validator.is_valid(value)
 
 
 def refuse(text):
@@ -88,15 +93,15 @@ def schema_texts(source):
 def compare_tables():
     rows = (VALUES / "form_rows.rt").read_text()
     rows = re.sub(r"(?m)^\s*//.*$", "", rows)
-    schemas = dict(schema_texts((VALUES / "form_schemas.rt").read_text()))
+    taken_by = validators(dict(schema_texts((VALUES / "form_schemas.rt").read_text())))
     compared = differing = 0
     for table, expected in (("TREE_ROWS", True), ("FAULT_ROWS", False)):
         texts = list(literals(constant(rows, table)))
         for name, body, told in zip(texts[::3], texts[1::3], texts[2::3]):
-            if name not in schemas:
+            if name not in taken_by:
                 continue
             compared += 1
-            if is_admitted(schemas, name, body) != expected:
+            if is_admitted(taken_by[name], body) != expected:
                 differing += 1
                 print(f"{name} {body}: told as {told}")
     print(f"tables: {compared} values compared, {differing} differ")
@@ -128,10 +133,10 @@ def compare_session():
     done = subprocess.run(program, input="\n".join(lines) + "\n", capture_output=True, text=True, check=True)
     document, end = json.JSONDecoder().raw_decode(done.stdout)
     replies = [json.loads(line)["outcome"] for line in done.stdout[end:].splitlines() if line]
-    schemas = document["components"]["schemas"]
+    point = validators(document["components"]["schemas"])["Point"]
     differing = 0
     for body, outcome in zip(sent, replies, strict=True):
-        if outcome != ("handled" if is_admitted(schemas, "Point", body) else "refused"):
+        if outcome != ("handled" if is_admitted(point, body) else "refused"):
             differing += 1
             print(f"{body}: {outcome}")
     print(f"session: {len(sent)} bodies compared, {differing} differ")
