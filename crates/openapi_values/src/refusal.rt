@@ -1,22 +1,23 @@
-ghost use Rattle.std.specs.Prelude.{◌≡◌, [], is_some, map, option_map, unwrap_or, None};
+ghost use Rattle.std.specs.Prelude.{◌≡◌, ◌∷◌, [], map, option_map, unwrap_or, None};
 ghost use Rattle.std.specs.List.{list_all};
 ghost use Rattle.schema_values.specs.declared.schema.SchemaObject.{out-SchemaObject};
-ghost use Rattle.openapi_values.specs.Refusal.{first_of, items_of, values_beside, object_level};
+ghost use Rattle.openapi_values.specs.Refusal.{first_of, values_beside, object_level, type_array};
+ghost use Rattle.openapi_values.specs.Refusal.{const_among, const_alone, is_bound_twice as has_both_forms};
+ghost use Rattle.openapi_values.specs.Refusal.{bounds_refusal as refusal_of_bounds};
+ghost use Rattle.openapi_values.specs.Refusal.{items_of as within_of, items_within};
 ghost use Rattle.openapi_values.specs.Refusal.{is_value_of as is_value, items_missing as missing_items};
 ghost use Rattle.openapi_values.specs.Refusal.{values_refusal as refusal_of_values};
 ghost use Rattle.openapi_values.specs.Refusal.{kinds_refusal as refusal_of_kinds};
 ghost use Rattle.openapi_values.specs.Refusal.{own_refusal as own_refusal_of};
 ghost use Rattle.openapi_values.specs.Refusal.{type_refusal as refusal_of_type};
 ghost use Rattle.openapi_values.specs.Refusal.{inner_refusal as inner_refusal_of, refusal_of};
-ghost use Rattle.openapi_values.specs.Refusal.{items_refusal as refusal_of_items};
-ghost use Rattle.openapi_values.specs.Refusal.{array_refusal as refusal_of_array};
 ghost use Rattle.openapi_values.specs.Refusal.{object_parts_refusal as refusal_of_parts};
 ghost use Rattle.openapi_values.specs.Refusal.{property_refusal as refusal_of_property};
 ghost use Rattle.openapi_values.specs.Refusal.{object_refusal as refusal_of_object, subschemas_inner};
 
 use crate::j2oas::J2oasError;
 use schema_values::{
-    ArrayParts, InstanceType, InstanceTypes, Items, Json, List, ObjectParts, Property, Schema,
+    InstanceType, InstanceTypes, Items, Json, List, NumberBounds, ObjectParts, Property, Schema,
     SchemaObject, Subschemas,
 };
 
@@ -47,29 +48,66 @@ fn object_refusal(schema: &SchemaObject) -> Option<J2oasError>
 fn own_refusal(schema: &SchemaObject) -> Option<J2oasError>
     ensures { result ≡ own_refusal_of (object_level schema.now) }
 {
-    items_missing(schema)
+    types_refusal(schema)
+        .or_else(|| items_missing(schema))
+        .or_else(|| const_refusal(schema))
         .or_else(|| values_refusal(schema))
+        .or_else(|| bounds_refusal(schema))
         .or_else(|| kinds_refusal(schema))
 }
 
-fn items_missing(schema: &SchemaObject) -> Option<J2oasError>
-    ensures { result ≡ missing_items (out-SchemaObject schema.now).instance_type
-        (items_of (object_level schema.now)) }
+fn types_refusal(schema: &SchemaObject) -> Option<J2oasError>
+    ensures { result ≡ type_array (out-SchemaObject schema.now).instance_type }
 {
     match &schema.instance_type {
-        Some(InstanceTypes::Single(InstanceType::Array)) if !has_items(schema) => {
-            Some(J2oasError::NoItems)
-        }
+        Some(InstanceTypes::Several(_)) => Some(J2oasError::TypeArray),
+        Some(InstanceTypes::Single(InstanceType::Number)) => Some(J2oasError::FloatSchema),
         _ => None,
     }
 }
 
-fn has_items(schema: &SchemaObject) -> bool
-    ensures { result ≡ is_some (items_of (object_level schema.now)) }
+fn items_missing(schema: &SchemaObject) -> Option<J2oasError>
+    ensures { result ≡ missing_items (out-SchemaObject schema.now).instance_type
+        (within_of (object_level schema.now)) }
+{
+    if !matches!(
+        schema.instance_type,
+        Some(InstanceTypes::Single(InstanceType::Array))
+    ) {
+        return None;
+    }
+    match items_of(schema) {
+        None => Some(J2oasError::NoItems),
+        Some(Items::Tuple(_)) => Some(J2oasError::TupleArray),
+        Some(Items::One(_)) => None,
+    }
+}
+
+fn items_of(schema: &SchemaObject) -> Option<&Items>
+    ensures { option_map (λ items. items_within items.now) result ≡ within_of (object_level schema.now) }
 {
     match &schema.array {
-        Some(array) => array.items.is_some(),
-        None => false,
+        Some(array) => array.items.as_ref(),
+        None => None,
+    }
+}
+
+fn const_refusal(schema: &SchemaObject) -> Option<J2oasError>
+    ensures { result ≡ first_of (const_among (out-SchemaObject schema.now).const_value
+        (out-SchemaObject schema.now).enum_values ∷ const_alone (out-SchemaObject schema.now).const_value
+        (out-SchemaObject schema.now).instance_type (object_level schema.now).subschemas ∷ []) }
+{
+    let Some(value) = &schema.const_value else {
+        return None;
+    };
+    if let Some(values) = &schema.enum_values
+        && !values.as_slice().iter().any(|other| value.equals(other))
+    {
+        return Some(J2oasError::EnumConflict);
+    }
+    match (&schema.instance_type, &schema.subschemas) {
+        (Some(_), Some(_)) => None,
+        _ => Some(J2oasError::ConstUnsupported),
     }
 }
 
@@ -91,6 +129,7 @@ fn refusal_beside(types: &Option<InstanceTypes>, values: &[Json]) -> Option<J2oa
     }
     match types {
         Some(InstanceTypes::Single(kind)) => refusal_beside_type(*kind, values),
+        Some(InstanceTypes::Several(_)) => None,
         None => Some(J2oasError::EnumWithoutType),
     }
 }
@@ -121,6 +160,24 @@ fn is_value_of(kind: InstanceType, value: &Json) -> bool
         Json::Text(_) => matches!(kind, InstanceType::String),
         Json::List(_) | Json::Object(_) => false,
     }
+}
+
+fn bounds_refusal(schema: &SchemaObject) -> Option<J2oasError>
+    ensures { result ≡ refusal_of_bounds (out-SchemaObject schema.now).instance_type
+        (out-SchemaObject schema.now).number }
+{
+    match (&schema.instance_type, &schema.number) {
+        (Some(InstanceTypes::Single(InstanceType::Integer)), Some(bounds))
+            if is_bound_twice(bounds) => { Some(J2oasError::BadBounds) }
+        _ => None,
+    }
+}
+
+fn is_bound_twice(bounds: &NumberBounds) -> bool
+    ensures { result ≡ has_both_forms bounds.now }
+{
+    bounds.minimum.is_some() && bounds.exclusive_minimum.is_some()
+        || bounds.maximum.is_some() && bounds.exclusive_maximum.is_some()
 }
 
 fn kinds_refusal(schema: &SchemaObject) -> Option<J2oasError>
@@ -161,11 +218,11 @@ fn inner_refusal(schema: &SchemaObject) -> Option<J2oasError>
 #[cycle(refusal)]
 fn type_refusal(schema: &SchemaObject) -> Option<J2oasError>
     ensures { result ≡ refusal_of_type (out-SchemaObject schema.now).instance_type
-        (items_of (object_level schema.now)) (object_level schema.now).object }
+        (within_of (object_level schema.now)) (object_level schema.now).object }
 {
     match &schema.instance_type {
-        Some(InstanceTypes::Single(InstanceType::Array)) => match &schema.array {
-            Some(array) => array_refusal(array),
+        Some(InstanceTypes::Single(InstanceType::Array)) => match items_of(schema) {
+            Some(items) => items_refusal(items),
             None => None,
         },
         Some(InstanceTypes::Single(InstanceType::Object)) => match &schema.object {
@@ -177,21 +234,12 @@ fn type_refusal(schema: &SchemaObject) -> Option<J2oasError>
 }
 
 #[cycle(refusal)]
-fn array_refusal(array: &ArrayParts) -> Option<J2oasError>
-    ensures { result ≡ unwrap_or (refusal_of_array array.now) None }
-{
-    match &array.items {
-        Some(items) => items_refusal(items),
-        None => None,
-    }
-}
-
-#[cycle(refusal)]
 fn items_refusal(items: &Items) -> Option<J2oasError>
-    ensures { result ≡ refusal_of_items items.now }
+    ensures { result ≡ (items_within items.now).refusal }
 {
     match items {
         Items::One(schema) => refusal(schema),
+        Items::Tuple(schemas) => list_refusal(schemas.as_slice()),
     }
 }
 

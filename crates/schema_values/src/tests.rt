@@ -125,26 +125,18 @@ fn schema_of(alloc: Global) -> Result<Schema, AllocError> {
         name: Text::from_str(alloc, "n")?,
         schema: Schema::Bool(false),
     })?;
-    let object = SchemaObject {
-        title: None,
-        description: Some(Text::from_str(alloc, "a thing")?),
-        default: Some(Json::Int(7)),
-        nullable: true,
-        instance_type: Some(InstanceTypes::Single(InstanceType::Object)),
-        format: None,
-        enum_values: None,
-        subschemas: None,
-        number: None,
-        string: None,
-        array: None,
-        object: Some(ObjectParts {
-            properties,
-            required: List::new(alloc),
-            additional: Some(Schema::Bool(true)),
-        }),
-        reference: None,
-        extensions: List::new(alloc),
-    };
+    let mut object = SchemaObject::new(alloc);
+    object.description = Some(Text::from_str(alloc, "a thing")?);
+    object.default = Some(Json::Int(7));
+    object.nullable = true;
+    object.instance_type = Some(InstanceTypes::Single(InstanceType::Object));
+    object.object = Some(ObjectParts {
+        properties,
+        required: List::new(alloc),
+        additional: Some(Schema::Bool(true)),
+        min: Some(1),
+        max: None,
+    });
     Ok(Schema::Object(Boxed::new(alloc, object)?))
 }
 

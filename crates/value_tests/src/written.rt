@@ -66,26 +66,7 @@ const ANNOTATED: &str = concat!(
     r#""type":"object","additionalProperties":false}"#
 );
 
-fn no_parts(alloc: Global) -> SchemaObject {
-    SchemaObject {
-        title: None,
-        description: None,
-        default: None,
-        nullable: false,
-        instance_type: None,
-        format: None,
-        enum_values: None,
-        subschemas: None,
-        number: None,
-        string: None,
-        array: None,
-        object: None,
-        reference: None,
-        extensions: List::new(alloc),
-    }
-}
-
-fn no_kinds() -> Subschemas {
+pub(crate) fn no_kinds() -> Subschemas {
     Subschemas {
         all_of: None,
         any_of: None,
@@ -94,15 +75,15 @@ fn no_kinds() -> Subschemas {
     }
 }
 
-fn of_type(alloc: Global, kind: InstanceType, number: Option<NumberBounds>) -> SchemaObject {
-    let mut schema = no_parts(alloc);
+pub(crate) fn of_type(alloc: Global, kind: InstanceType, number: Option<NumberBounds>) -> SchemaObject {
+    let mut schema = SchemaObject::new(alloc);
     schema.instance_type = Some(InstanceTypes::Single(kind));
     schema.number = number;
     schema
 }
 
 // The values of a list, and none of what is no list.
-fn values_of(alloc: Global, values: &str) -> Result<Option<List<Json>>, ReadError> {
+pub(crate) fn values_of(alloc: Global, values: &str) -> Result<Option<List<Json>>, ReadError> {
     match Json::read(alloc, values.as_bytes())? {
         Json::List(values) => Ok(Some(values)),
         _ => Ok(None),
@@ -111,10 +92,12 @@ fn values_of(alloc: Global, values: &str) -> Result<Option<List<Json>>, ReadErro
 
 // A schema with values, if there are any, with bounds, and in which an array has items.
 fn with_values(alloc: Global, values: &str) -> Result<SchemaObject, ReadError> {
-    let mut schema = no_parts(alloc);
+    let mut schema = SchemaObject::new(alloc);
     schema.number = Some(NumberBounds {
         minimum: None,
+        exclusive_minimum: None,
         maximum: Some(2),
+        exclusive_maximum: None,
     });
     schema.string = Some(LengthBounds {
         min: Some(1),
@@ -130,20 +113,20 @@ fn with_values(alloc: Global, values: &str) -> Result<SchemaObject, ReadError> {
 }
 
 fn nullable_all_of(alloc: Global, reference: &str) -> Result<SchemaObject, AllocError> {
-    let mut referring = no_parts(alloc);
+    let mut referring = SchemaObject::new(alloc);
     referring.reference = Some(Text::from_str(alloc, reference)?);
     let mut all_of = List::new(alloc);
     all_of.push(Schema::Object(Boxed::new(alloc, referring)?))?;
     let mut subschemas = no_kinds();
     subschemas.all_of = Some(all_of);
-    let mut schema = no_parts(alloc);
+    let mut schema = SchemaObject::new(alloc);
     schema.title = Some(Text::from_str(alloc, "Own")?);
     schema.nullable = true;
     schema.subschemas = Some(subschemas);
     Ok(schema)
 }
 
-fn one_of(alloc: Global, second: Schema) -> Result<Subschemas, AllocError> {
+pub(crate) fn one_of(alloc: Global, second: Schema) -> Result<Subschemas, AllocError> {
     let mut one_of = List::new(alloc);
     one_of.push(Schema::Bool(true))?;
     one_of.push(second)?;
@@ -153,7 +136,7 @@ fn one_of(alloc: Global, second: Schema) -> Result<Subschemas, AllocError> {
 }
 
 fn of_kinds(alloc: Global, subschemas: Subschemas) -> SchemaObject {
-    let mut schema = no_parts(alloc);
+    let mut schema = SchemaObject::new(alloc);
     schema.subschemas = Some(subschemas);
     schema
 }
@@ -183,7 +166,9 @@ fn a_given_name_is_the_title_of_a_number(rt: HostRuntime) -> Result<(), Fail> {
     let alloc = rt.alloc();
     let least = NumberBounds {
         minimum: Some(-1),
+        exclusive_minimum: None,
         maximum: None,
+        exclusive_maximum: None,
     };
     let json = written(
         alloc,
@@ -205,7 +190,7 @@ fn false_is_written_as_not_all(rt: HostRuntime) -> Result<(), Fail> {
     Ok(())
 }
 
-fn compact(alloc: Global, schema: SchemaObject) -> Result<Text, Fail> {
+pub(crate) fn compact(alloc: Global, schema: SchemaObject) -> Result<Text, Fail> {
     Ok(written(alloc, None, schema)?.compact(alloc)?)
 }
 
@@ -237,7 +222,7 @@ fn annotations_come_before_no_values(rt: HostRuntime) -> Result<(), Fail> {
 }
 
 // A member whose value is read.
-fn read_member(alloc: Global, name: &str, value: &str) -> Result<Member, Fail> {
+pub(crate) fn read_member(alloc: Global, name: &str, value: &str) -> Result<Member, Fail> {
     let name = Text::from_str(alloc, name)?;
     let value = Json::read(alloc, value.as_bytes())?;
     Ok(Member { name, value })
@@ -249,6 +234,8 @@ fn of_no_other_members(alloc: Global) -> SchemaObject {
         properties: List::new(alloc),
         required: List::new(alloc),
         additional: Some(Schema::Bool(false)),
+        min: None,
+        max: None,
     });
     schema
 }
@@ -272,7 +259,7 @@ fn a_default_and_extensions_are_written_behind_the_description(
 }
 
 // Why a schema is refused, or that it is written.
-fn why_refused(alloc: Global, schema: SchemaObject) -> Result<String, AllocError> {
+pub(crate) fn why_refused(alloc: Global, schema: SchemaObject) -> Result<String, AllocError> {
     match written(alloc, None, schema) {
         Ok(_) => String::from_str(alloc, "written"),
         Err(refusal) => format!(in alloc; "{refusal:?}"),

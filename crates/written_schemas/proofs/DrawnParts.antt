@@ -5,7 +5,8 @@ use Rattle.schema_values.specs.declared.json_value.Member.{Member}
 use Rattle.schema_values.specs.Member.{member}
 use Rattle.openapi_values.specs.SchemaJson.{schema_json}
 use Rattle.typed_values.specs.SchemaTable.{Drawn, Remarks, annotated, annotations, defaulted, described, drawn_json, reference}
-use Rattle.typed_values.specs.Schemas.{Parts, object_of, annotatable, with_null, with_default, with_description}
+use Rattle.schema_values.specs.Parts.{Parts}
+use Rattle.typed_values.specs.Schemas.{object_of, annotatable, with_null, with_default, with_description}
 use Rattle.written_schemas.proofs.Notes.{before_members}
 use Rattle.written_schemas.proofs.SchemaForms.{of_reference, kept}
 use Rattle.written_schemas.proofs.SchemaMembers.{beside, remarks_of, written_beside, written_reference, all_of_members}

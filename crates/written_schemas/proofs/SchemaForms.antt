@@ -10,7 +10,8 @@ use Rattle.schema_values.specs.declared.schema.SchemaObject.{SchemaObject}
 use Rattle.schema_values.specs.declared.schema.Subschemas.{Subschemas, roll-Subschemas}
 use Rattle.typed_values.specs.declared.desc.Named.{Named}
 use Rattle.typed_values.specs.SchemaTable.{is_described}
-use Rattle.typed_values.specs.Schemas.{Parts, object_of, no_parts, no_subschemas, annotatable, nothing_more, one_of, choices_of, enumerated, texts_of, enumeration}
+use Rattle.schema_values.specs.Parts.{Parts, no_parts}
+use Rattle.typed_values.specs.Schemas.{object_of, no_subschemas, annotatable, nothing_more, one_of, choices_of, enumerated, texts_of, enumeration}
 
 abbrev pub of_reference : List ℕ → Parts
 of_reference name = record no_parts { reference = Some (codes "#/components/schemas/" ++ name) }

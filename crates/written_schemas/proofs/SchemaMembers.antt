@@ -21,7 +21,8 @@ use Rattle.openapi_values.proofs.ObjectLemmas.{members_of-append}
 use Rattle.openapi_values.proofs.SchemaLevels.{truth-is, object-under, items-are, array-is, subschemas-are, object_parts-are, object-is}
 use Rattle.typed_values.specs.declared.desc.IntKind.{IntKind}
 use Rattle.typed_values.specs.SchemaTable.{Remarks, annotations, nothing, if_true, if_text, if_value, if_number, if_count, if_members, if_names, if_denied, of_type, format_of, reference}
-use Rattle.typed_values.specs.Schemas.{Parts, object_of, of_single, no_subschemas, number_bounds, length_bounds, nothing_more, list_of, struct_of, map_of, choice_of, one_of, all_or_none}
+use Rattle.schema_values.specs.Parts.{Parts}
+use Rattle.typed_values.specs.Schemas.{object_of, of_single, no_subschemas, number_bounds, length_bounds, nothing_more, list_of, struct_of, map_of, choice_of, one_of, all_or_none}
 use Rattle.typed_values.proofs.Rows.{two_maps}
 use Rattle.written_schemas.proofs.SchemaForms.{StructParts, object_parts, of_reference, in_all_of}
 

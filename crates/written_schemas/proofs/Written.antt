@@ -27,7 +27,8 @@ use Rattle.typed_values.specs.Order.{sorted_by}
 use Rattle.typed_values.specs.SchemaTable as drawing
 use Rattle.typed_values.specs.SchemaTable.{Drawn, plain, bare_names, described, default_of, is_described, if_members, if_names, if_denied, no_remarks, of_type, drawn, drawn_json, drawn_step, least_shown, same_name, schema_json_titled, schema_json_described}
 use Rattle.typed_values.specs.Schemas as meant
-use Rattle.typed_values.specs.Schemas.{Parts, Sketch, object_of, with_null, with_description, property_name, one_of, texts_of, not_described, sketch, schema_sketch, schema_parts, sketch_of_field, sketch_of_tagged, sketch_of_variant, schema_value}
+use Rattle.schema_values.specs.Parts.{Parts}
+use Rattle.typed_values.specs.Schemas.{Sketch, object_of, with_null, with_description, property_name, one_of, texts_of, not_described, sketch, schema_sketch, schema_parts, sketch_of_field, sketch_of_tagged, sketch_of_variant, schema_value}
 use Rattle.typed_values.specs.Levels.{DescLevel}
 use Rattle.typed_values.proofs.Induction.{InField, InFields, InTagged, InVariant, KnownLevel, firsts, by_levels, each_holds}
 use Rattle.typed_values.proofs.Rows.{two_maps}

@@ -8,7 +8,7 @@ use Rattle.typed_values.proofs.SchemaRows.{sketch_are, parts_are, struct_parts_a
 use Rattle.typed_values.proofs.+schema.Goals as goal
 
 pub schemas::parts_of-returns-in-Any : goal.schemas::parts_of-returns-in-Any
-schemas::parts_of-returns-in-Any t c = rw (parts_are c.args.table.now c.in-Any.is desc.outs-Any) c.no_parts.ensures
+schemas::parts_of-returns-in-Any t c = rw (parts_are c.args.table.now c.in-Any.is desc.outs-Any) c.new.ensures
 
 pub schemas::parts_of-returns-in-Never : goal.schemas::parts_of-returns-in-Never
 schemas::parts_of-returns-in-Never t c = rw (parts_are c.args.table.now c.in-Never.is desc.outs-Never) c.never_parts.ensures
