@@ -30,7 +30,7 @@ fn a_scalar_test_ends_on_a_schema_of_itself(rt: HostRuntime) -> Result<(), Fail>
     let alloc = rt.alloc();
     let mut definitions = Definitions::new(alloc);
     let schema = all_of(alloc, reference(alloc, "S")?)?;
-    definitions.insert(Text::from_str(alloc, "S")?, schema)?;
+    definitions.insert(String::from_str(alloc, "S")?, schema)?;
     let schema = reference(alloc, "S")?;
     assert_eq!(rt;
         type_is_scalar(&schema, &definitions),

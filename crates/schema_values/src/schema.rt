@@ -10,7 +10,7 @@ use indexmap::IndexMap;
 use std::alloc::Global;
 
 /// Schemas by name, in the order in which they came. A reference means one of them.
-pub type Definitions = IndexMap<Text, Schema>;
+pub type Definitions = IndexMap<String, Schema>;
 
 /// A schema of JSON values.
 #[derive(Drop)]

@@ -5,8 +5,8 @@ use crate::copy::copy_members;
 use crate::json_value::Json;
 use crate::list::List;
 use crate::schema::{
-    ArrayParts, InstanceType, InstanceTypes, Items, LengthBounds, NumberBounds, ObjectParts, Property, Schema,
-    SchemaObject, Subschemas,
+    ArrayParts, InstanceType, InstanceTypes, Items, LengthBounds, NumberBounds, ObjectParts,
+    Property, Schema, SchemaObject, Subschemas,
 };
 use crate::text::Text;
 use std::alloc::{AllocError, Global};

@@ -144,11 +144,10 @@ fn schema_of(alloc: Global) -> Result<Schema, AllocError> {
 fn a_copy_of_a_schema_is_defined(rt: HostRuntime) -> Result<(), Fail> {
     let mut definitions = Definitions::new(rt.alloc());
     definitions.insert(
-        Text::from_str(rt.alloc(), "T")?,
+        String::from_str(rt.alloc(), "T")?,
         schema_of(rt.alloc())?.copy(rt.alloc())?,
     )?;
-    let name = Text::from_str(rt.alloc(), "T")?;
-    let Some(Schema::Object(object)) = definitions.get(&name) else {
+    let Some(Schema::Object(object)) = definitions.get("T") else {
         return Err("no schema".into());
     };
     let object = object.get();

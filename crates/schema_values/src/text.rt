@@ -8,7 +8,6 @@ use crate::list::List;
 use std::alloc::{AllocError, Global};
 use std::cmp::Ordering;
 use std::fmt;
-use indexmap::Equivalent;
 use std::hash::{Hash, Hasher};
 use std::marker::Model;
 
@@ -246,23 +245,6 @@ impl Hash for Text {
 
     fn hash<H: Hasher>(&self, state: &mut H) {
         self.as_str().hash(state);
-    }
-}
-
-/// A text is looked up by its characters.
-impl Equivalent<Text> for &str {
-    ghost use Rattle.std.specs.Prelude.{bytes_eq};
-    ghost use Rattle.std.specs.Str.{encode_utf8_all};
-    ghost use Rattle.schema_values.proofs.TextKeys.{hashed_alike, equal_alike};
-
-    ghost equivalent = { λ key text. bytes_eq key.now (encode_utf8_all text) };
-
-    ghost respects_hash = { λ key text. hashed_alike key.now text };
-
-    ghost respects_eq = { λ key x y. equal_alike key.now x y };
-
-    fn equivalent(&self, text: &Text) -> bool {
-        text.equals_str(*self)
     }
 }
 
