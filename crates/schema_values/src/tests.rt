@@ -105,6 +105,20 @@ fn a_float_of_the_pack_is_told(rt: HostRuntime) -> Result<(), Fail> {
 }
 
 #[test]
+fn values_go_to_the_pack_and_come_back(rt: HostRuntime) -> Result<(), Fail> {
+    let alloc = rt.alloc();
+    let value = Json::read(alloc, b"[true]")?.to_value(alloc)?;
+    assert_eq!(rt; value.to_string(alloc)?.as_str(), "[true]");
+    assert_eq!(rt;
+        Json::of_value(alloc, &value)?.compact(alloc)?.as_str(),
+        "[true]"
+    );
+    let value = object_of(alloc, &["b", "a"])?.to_value(alloc)?;
+    assert_eq!(rt; value.to_string(alloc)?.as_str(), "{\"a\":1,\"b\":1}");
+    Ok(())
+}
+
+#[test]
 fn lists_and_texts_show_what_they_hold(rt: HostRuntime) -> Result<(), Fail> {
     let bytes = List::from_bytes(rt.alloc(), b"abc")?;
     assert_eq!(rt; bytes.get(2).copied(), Some(b'c'));
