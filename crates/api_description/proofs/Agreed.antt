@@ -111,8 +111,8 @@ module _ {X : Type 0} {F : X → Type 0} (m : Meanings X F) (e : ApiEndpoint X F
     body_agrees body =
         let admitted = bodies-admitted open_api path method (operation_of m e) (body_with e.body_content_type table desc name) (record { schema = schema }) (record { body = body }) listed has_body (under_json e.body_content_type table desc name) in
         let denoted = λ (json : Json) (reads : Reads body json). titled_agrees doc table desc written name json (reading_sound body json reads) in (
-          λ a. let read = admitted.0 a in let tree = (denoted read.0 read.1).0 read.2 in (tree.0, (read.0, read.1, tree.1)),
-          λ d. let (json, reads, denotes) = d.1 in admitted.1 (json, reads, (denoted json reads).1 (d.0, denotes)),
+          λ a. let read = admitted.0 a in let tree = (denoted read.1 read.2).0 read.3 in (tree.0, (read.1, read.2, tree.1)),
+          λ d. let (json, reads, denotes) = d.1 in admitted.1 (refl, json, reads, (denoted json reads).1 (d.0, denotes)),
         )
 
 module _ {X : Type 0} {F : X → Type 0} (m : Meanings X F) (title : List ℕ) (version : Parts) (request : RequestParts) (body : List ℕ) (asked : parts_of request.version ≡ version) where

@@ -1,10 +1,10 @@
 -- What is found in a written document.
-use Rattle.std.proofs.Common.{◌≡◌, ◌↔◌, ℕ, Bool, true, false, ◌&&◌, not, cond, List, [], ◌∷◌, Option, Some, None, IfSome, option_map, option_and_then, bytes_eq, codes, refl, sym, ◌∙◌, ap, subst}
+use Rattle.std.proofs.Common.{◌≡◌, ◌↔◌, ℕ, Bool, true, false, ◌&&◌, not, cond, List, [], ◌∷◌, map, Option, Some, None, IfSome, option_map, option_and_then, unwrap_or, bytes_eq, codes, refl, sym, ◌∙◌, ap, subst}
 use Rattle.std.specs.List.{list_all}
 use Rattle.std.proofs.lemmas.Bool.{and_parts}
 use Rattle.std.proofs.lemmas.Slice.Eq.{bytes_eq-Decides}
-use Rattle.schema_values.specs.declared.json_value.Json.{Json, Object}
-use Rattle.schema_values.specs.declared.json_value.Json.TheVariants.{outs-Object}
+use Rattle.schema_values.specs.declared.json_value.Json.{Json, Object, out-Json}
+use Rattle.schema_values.specs.declared.json_value.Json.TheVariants.{outs-List, outs-Object}
 use Rattle.schema_values.specs.declared.json_value.Member.{Member}
 use Rattle.schema_values.specs.Get.{get_of, first_named}
 use Rattle.schema_values.specs.Reading.{Reads}
@@ -13,14 +13,17 @@ use Rattle.openapi_values.specs.declared.media.MediaType.{MediaType}
 use Rattle.openapi_values.specs.declared.media.RequestBody.{RequestBody}
 use Rattle.openapi_values.specs.declared.operation.Operation.{Operation}
 use Rattle.openapi_values.specs.declared.operation.PathItem.{PathItem}
+use Rattle.openapi_values.specs.declared.parameter.Parameter.{Parameter}
 use Rattle.openapi_values.specs.declared.request.WireRequest.{WireRequest}
 use Rattle.openapi_values.specs.Admits.{method_member, path_item_at, operation_at, parameters_of, body_schema, IsJsonBody, Admits}
 use Rattle.openapi_values.specs.Document.{components_entries, components_json, open_api_entries, open_api_json}
 use Rattle.openapi_values.specs.Find.{value_at, method_of, operation_in, definition_in}
 use Rattle.openapi_values.specs.JsonAdmits.{JsonAdmits}
+use Rattle.openapi_values.specs.Levels.{as_list}
 use Rattle.openapi_values.specs.Lookup.{member_in, definition}
-use Rattle.openapi_values.specs.Objects.{Entry, present, members_of, object_of, map_members, unless_empty}
+use Rattle.openapi_values.specs.Objects.{Entry, present, members_of, object_of, list_unless_empty, map_members, unless_empty}
 use Rattle.openapi_values.specs.Operation.{media_type_entries, media_type_json, request_body_entries, request_body_json, operation_entries, operation_json, path_item_entries, path_item_json}
+use Rattle.openapi_values.specs.Parameters.{parameter_json}
 
 pub get-object : (name : List ℕ) (ms : List Member) → get_of name (Object ms) ≡ first_named name ms
 get-object name ms = rw (outs-Object ms) refl
@@ -138,9 +141,17 @@ body-stands : (operation : Operation) → get_of (codes "requestBody") (operatio
 unfolding operation_json
 body-stands operation = get-object_of (operation_entries operation) (codes "requestBody") refl
 
-pub no_parameters : (operation : Operation) → parameters_of (operation_json operation) ≡ []
+parameters_listed : (js : List Json) → unwrap_or (option_and_then (λ parameters. as_list (out-Json parameters)) (list_unless_empty js)) [] ≡ js
+parameters_listed [] = refl
+parameters_listed (j ∷ js) = rw (outs-List (j ∷ js)) refl
+
+parameters-stand : (operation : Operation) → parameters_of (operation_json operation) ≡ map parameter_json operation.parameters
 unfolding operation_json
-no_parameters operation = rw (get-object_of (operation_entries operation) (codes "parameters") refl) refl
+parameters-stand operation = rw (get-object_of (operation_entries operation) (codes "parameters") refl) (parameters_listed (map parameter_json operation.parameters))
+
+none_mapped : (ps : List Parameter) → map parameter_json ps ≡ [] → ps ≡ []
+none_mapped [] h = refl
+none_mapped (p ∷ ps) h = absurd (cc h)
 
 schema_of : (o : Option MediaType) → member_in (option_map media_type_json o) (codes "schema") ≡ option_map (λ media. media.schema) o
 schema_of None = refl
@@ -157,7 +168,7 @@ schema-stands media body =
 module _ (document : OpenApi) (path method : List ℕ) (operation : Operation) (body : RequestBody) (media : MediaType) (request : WireRequest)
     (listed : operation_in document path method ≡ Some operation) (has_body : operation.request_body ≡ Some body) (under_json : value_at (codes "application/json") body.content ≡ Some media) where
   abbrev IsAdmitted : Type 0
-  IsAdmitted = (json : Json) × Reads request.body json × JsonAdmits (open_api_json document) media.schema json
+  IsAdmitted = (operation.parameters ≡ []) × (json : Json) × Reads request.body json × JsonAdmits (open_api_json document) media.schema json
 
   operation_is : operation_at (open_api_json document) path method ≡ Some (operation_json operation)
   operation_is = operation-stands document path method ∙ ap (option_map operation_json) listed
@@ -168,17 +179,17 @@ module _ (document : OpenApi) (path method : List ℕ) (operation : Operation) (
   schema_is : body_schema (codes "application/json") (request_body_json body) ≡ Some media.schema
   schema_is = schema-stands (codes "application/json") body ∙ ap (option_map (λ m. m.schema)) under_json
 
-  admitted : IsJsonBody (open_api_json document) (request_body_json body) request.body → IsAdmitted
-  admitted b = let same : b.schema ≡ media.schema = cc (b.under_json, schema_is) in (b.json, b.reads, subst (λ s. JsonAdmits (open_api_json document) s b.json) same b.admitted)
+  admitted : operation.parameters ≡ [] → IsJsonBody (open_api_json document) (request_body_json body) request.body → IsAdmitted
+  admitted none b = let same : b.schema ≡ media.schema = cc (b.under_json, schema_is) in (none, b.json, b.reads, subst (λ s. JsonAdmits (open_api_json document) s b.json) same b.admitted)
 
   pub bodies-admitted : Admits (open_api_json document) path method request ↔ IsAdmitted
   bodies-admitted = (
     λ a. let same : a.operation ≡ operation_json operation = cc (a.stands, operation_is) in
-        admitted (subst (λ (o : Option Json). IfSome o (λ b. IsJsonBody (open_api_json document) b request.body)) (ap (get_of (codes "requestBody")) same ∙ body_is) a.body),
+        admitted (none_mapped operation.parameters (sym (parameters-stand operation) ∙ ap parameters_of (sym same) ∙ a.no_parameter)) (subst (λ (o : Option Json). IfSome o (λ b. IsJsonBody (open_api_json document) b request.body)) (ap (get_of (codes "requestBody")) same ∙ body_is) a.body),
     λ h. record {
       operation = operation_json operation;
       stands = operation_is;
-      no_parameter = no_parameters operation;
-      body = subst (λ (o : Option Json). IfSome o (λ b. IsJsonBody (open_api_json document) b request.body)) (sym body_is) (record { schema = media.schema; under_json = schema_is; json = h.0; reads = h.1; admitted = h.2 });
+      no_parameter = parameters-stand operation ∙ ap (map parameter_json) h.0;
+      body = subst (λ (o : Option Json). IfSome o (λ b. IsJsonBody (open_api_json document) b request.body)) (sym body_is) (record { schema = media.schema; under_json = schema_is; json = h.1; reads = h.2; admitted = h.3 });
     },
   )

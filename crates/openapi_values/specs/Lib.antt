@@ -17,3 +17,6 @@ pub mod Admits
 pub mod Find
 pub mod SchemaJson
 pub mod Refusal
+pub mod Info
+pub mod Tags
+pub mod Parameters

@@ -1,4 +1,4 @@
-ghost use Rattle.std.specs.Prelude.{◌≡◌, ◌↔◌, ℕ, suc, false, List, Some, option_map, codes};
+ghost use Rattle.std.specs.Prelude.{◌≡◌, ◌↔◌, ℕ, suc, false, [], List, Some, option_map, codes};
 ghost use Rattle.schema_values.specs.declared.json_value.Json.{Json as JsonValue, out-Json};
 ghost use Rattle.schema_values.specs.Reading.{Reads};
 ghost use Rattle.openapi_values.specs.declared.document.OpenApi.{OpenApi as Document};
@@ -37,12 +37,13 @@ pub fn definitions_stand()
         → definition (open_api_json document) name ≡ definition_in document name }
 {}
 
-/// A written document admits the bodies that the schema of the operation's body admits.
+/// A written document admits the bodies that the schema of the operation's body admits, where the operation has
+/// no parameters, which are not looked at yet.
 pub fn bodies_admitted()
     ensures { (document : Document) (path method : List ℕ) (listed : Listed) (body : Body) (media : Media)
         (request : Request) → operation_in document path method ≡ Some listed
         → listed.request_body ≡ Some body → value_at (codes "application/json") body.content ≡ Some media
         → Admits (open_api_json document) path method request
-        ↔ ((json : JsonValue) × Reads request.body json
+        ↔ ((listed.parameters ≡ []) × (json : JsonValue) × Reads request.body json
         × JsonAdmits (open_api_json document) media.schema json) }
 {}

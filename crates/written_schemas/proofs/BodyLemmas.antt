@@ -27,6 +27,6 @@ body_agrees document path method name table desc takes written request json read
     let admitted = bodies-admitted document path method takes.operation takes.body takes.media request takes.listed takes.has_body takes.under_json in
     let agrees = titled_agrees doc table desc written name json (reading_sound request.body json reads) in (
       λ h. let found = admitted.0 h in
-          agrees.0 (subst (λ s. JsonAdmits doc s json) takes.schema_is (subst (λ j. JsonAdmits doc takes.media.schema j) (one_reading request.body found.0 json found.1 reads) found.2)),
-      λ h. admitted.1 (json, reads, subst (λ s. JsonAdmits doc s json) (sym takes.schema_is) (agrees.1 h)),
+          agrees.0 (subst (λ s. JsonAdmits doc s json) takes.schema_is (subst (λ j. JsonAdmits doc takes.media.schema j) (one_reading request.body found.1 json found.2 reads) found.3)),
+      λ h. admitted.1 (takes.no_parameter, json, reads, subst (λ s. JsonAdmits doc s json) (sym takes.schema_is) (agrees.1 h)),
     )

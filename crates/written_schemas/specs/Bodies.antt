@@ -1,5 +1,5 @@
 -- The bodies that an operation of a document takes.
-use Rattle.std.specs.Prelude.{◌≡◌, ℕ, List, Some, codes}
+use Rattle.std.specs.Prelude.{◌≡◌, ℕ, List, [], Some, codes}
 use Rattle.openapi_values.specs.declared.document.OpenApi.{OpenApi}
 use Rattle.openapi_values.specs.declared.media.MediaType.{MediaType}
 use Rattle.openapi_values.specs.declared.media.RequestBody.{RequestBody}
@@ -9,10 +9,11 @@ use Rattle.typed_values.specs.declared.desc.Desc.{Desc}
 use Rattle.typed_values.specs.declared.table.Definition.{Definition}
 use Rattle.typed_values.specs.SchemaTable.{schema_json_titled}
 
--- the operation of a path and a method takes JSON under the schema of a descriptor, which has a name
+-- the operation of a path and a method has no parameters and takes JSON under the schema of a descriptor, which has a name
 pub record TakesJson (document : OpenApi) (path method name : List ℕ) (table : List Definition) (desc : Desc) : Type 0 where
   pub operation : Operation
   pub listed : operation_in document path method ≡ Some operation
+  pub no_parameter : operation.parameters ≡ []
   pub body : RequestBody
   pub has_body : operation.request_body ≡ Some body
   pub media : MediaType
