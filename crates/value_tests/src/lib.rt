@@ -6,6 +6,8 @@ mod documents;
 #[cfg(test)]
 mod errors;
 #[cfg(test)]
+mod parts;
+#[cfg(test)]
 mod refusals;
 #[cfg(test)]
 mod schemas;

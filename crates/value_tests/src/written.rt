@@ -75,7 +75,11 @@ pub(crate) fn no_kinds() -> Subschemas {
     }
 }
 
-pub(crate) fn of_type(alloc: Global, kind: InstanceType, number: Option<NumberBounds>) -> SchemaObject {
+pub(crate) fn of_type(
+    alloc: Global,
+    kind: InstanceType,
+    number: Option<NumberBounds>,
+) -> SchemaObject {
     let mut schema = SchemaObject::new(alloc);
     schema.instance_type = Some(InstanceTypes::Single(kind));
     schema.number = number;
