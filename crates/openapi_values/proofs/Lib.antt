@@ -1,7 +1,6 @@
 pub mod After
 pub mod Measure
 pub mod ObjectLemmas
-pub mod OneVariant
 pub mod PartMaps
 pub mod RefusalLevels
 pub mod RoomLemmas

@@ -133,10 +133,10 @@ const_alone (Some const) type subschemas = Some ConstUnsupported
 abbrev pub is_bound_twice : NumberBounds → Bool
 is_bound_twice b = (is_some b.minimum && is_some b.exclusive_minimum) || (is_some b.maximum && is_some b.exclusive_maximum)
 
--- each bound of an integer stands in one form
-abbrev pub bounds_refusal : Option InstanceTypes → Option NumberBounds → Refusal
-bounds_refusal (Some (Single Integer)) (Some bounds) = if is_bound_twice bounds then Some BadBounds else None
-bounds_refusal type bounds = None
+-- each bound stands in one form
+abbrev pub bounds_refusal : Option NumberBounds → Refusal
+bounds_refusal (Some bounds) = if is_bound_twice bounds then Some BadBounds else None
+bounds_refusal None = None
 
 -- without a type, subschemas are of exactly one kind
 abbrev pub kinds_refusal : Option InstanceTypes → Option Inner → Refusal
@@ -161,7 +161,7 @@ own_refusal schema = first_of (
     ∷ const_among schema.const_value schema.enum_values
     ∷ const_alone schema.const_value schema.instance_type schema.subschemas
     ∷ values_refusal schema.instance_type (unwrap_or schema.enum_values [])
-    ∷ bounds_refusal schema.instance_type schema.number
+    ∷ bounds_refusal schema.number
     ∷ kinds_refusal schema.instance_type schema.subschemas
     ∷ [])
 

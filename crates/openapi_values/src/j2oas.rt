@@ -27,7 +27,7 @@ pub enum J2oasError {
     EnumWithoutType,
     /// A value that is neither null nor of the type.
     BadEnumValue,
-    /// A bound of an integer stands beside its exclusive form.
+    /// A bound stands beside its exclusive form.
     BadBounds,
     /// A schema without a type has subschemas of no kind, or of more than one.
     BadSubschema,

@@ -1,10 +1,12 @@
-ghost use Rattle.std.specs.Prelude.{◌≡◌, ◌∷◌, [], map, option_map, unwrap_or, None};
+ghost use Rattle.std.specs.Prelude.{◌≡◌, [], map, option_map, option_and_then};
+ghost use Rattle.std.specs.Prelude.{unwrap_or, Some, None, if◌then◌else◌};
 ghost use Rattle.std.specs.List.{list_all};
 ghost use Rattle.schema_values.specs.declared.schema.SchemaObject.{out-SchemaObject};
+ghost use Rattle.openapi_values.specs.declared.j2oas.J2oasError.TheVariants.{TupleArray};
 ghost use Rattle.openapi_values.specs.Refusal.{first_of, values_beside, object_level, type_array};
 ghost use Rattle.openapi_values.specs.Refusal.{const_among, const_alone, is_bound_twice as has_both_forms};
 ghost use Rattle.openapi_values.specs.Refusal.{bounds_refusal as refusal_of_bounds};
-ghost use Rattle.openapi_values.specs.Refusal.{items_of as within_of, items_within};
+ghost use Rattle.openapi_values.specs.Refusal.{items_of as within_of, items_within, array_within};
 ghost use Rattle.openapi_values.specs.Refusal.{is_value_of as is_value, items_missing as missing_items};
 ghost use Rattle.openapi_values.specs.Refusal.{values_refusal as refusal_of_values};
 ghost use Rattle.openapi_values.specs.Refusal.{kinds_refusal as refusal_of_kinds};
@@ -16,9 +18,10 @@ ghost use Rattle.openapi_values.specs.Refusal.{property_refusal as refusal_of_pr
 ghost use Rattle.openapi_values.specs.Refusal.{object_refusal as refusal_of_object, subschemas_inner};
 
 use crate::j2oas::J2oasError;
+use crate::rows::is_one_of;
 use schema_values::{
-    InstanceType, InstanceTypes, Items, Json, List, NumberBounds, ObjectParts, Property, Schema,
-    SchemaObject, Subschemas,
+    ArrayParts, InstanceType, InstanceTypes, Items, Json, List, NumberBounds, ObjectParts,
+    Property, Schema, SchemaObject, Subschemas,
 };
 
 /// Why a schema is not written: its own case, or else the first inside it.
@@ -50,7 +53,8 @@ fn own_refusal(schema: &SchemaObject) -> Option<J2oasError>
 {
     types_refusal(schema)
         .or_else(|| items_missing(schema))
-        .or_else(|| const_refusal(schema))
+        .or_else(|| enum_conflict(schema))
+        .or_else(|| const_unsupported(schema))
         .or_else(|| values_refusal(schema))
         .or_else(|| bounds_refusal(schema))
         .or_else(|| kinds_refusal(schema))
@@ -70,16 +74,12 @@ fn items_missing(schema: &SchemaObject) -> Option<J2oasError>
     ensures { result ≡ missing_items (out-SchemaObject schema.now).instance_type
         (within_of (object_level schema.now)) }
 {
-    if !matches!(
-        schema.instance_type,
-        Some(InstanceTypes::Single(InstanceType::Array))
-    ) {
-        return None;
-    }
-    match items_of(schema) {
-        None => Some(J2oasError::NoItems),
-        Some(Items::Tuple(_)) => Some(J2oasError::TupleArray),
-        Some(Items::One(_)) => None,
+    match &schema.instance_type {
+        Some(InstanceTypes::Single(InstanceType::Array)) => match items_of(schema) {
+            Some(items) => tuple_array(items),
+            None => Some(J2oasError::NoItems),
+        },
+        _ => None,
     }
 }
 
@@ -92,21 +92,37 @@ fn items_of(schema: &SchemaObject) -> Option<&Items>
     }
 }
 
-fn const_refusal(schema: &SchemaObject) -> Option<J2oasError>
-    ensures { result ≡ first_of (const_among (out-SchemaObject schema.now).const_value
-        (out-SchemaObject schema.now).enum_values ∷ const_alone (out-SchemaObject schema.now).const_value
-        (out-SchemaObject schema.now).instance_type (object_level schema.now).subschemas ∷ []) }
+fn tuple_array(items: &Items) -> Option<J2oasError>
+    ensures { result ≡ (if (items_within items.now).by_place then Some TupleArray else None) }
 {
-    let Some(value) = &schema.const_value else {
-        return None;
-    };
-    if let Some(values) = &schema.enum_values
-        && !values.as_slice().iter().any(|other| value.equals(other))
-    {
-        return Some(J2oasError::EnumConflict);
+    match items {
+        Items::One(_) => None,
+        Items::Tuple(_) => Some(J2oasError::TupleArray),
     }
-    match (&schema.instance_type, &schema.subschemas) {
-        (Some(_), Some(_)) => None,
+}
+
+fn enum_conflict(schema: &SchemaObject) -> Option<J2oasError>
+    ensures { result ≡ const_among (out-SchemaObject schema.now).const_value
+        (out-SchemaObject schema.now).enum_values }
+{
+    match (&schema.const_value, &schema.enum_values) {
+        (Some(value), Some(values)) if !is_one_of(values.as_slice(), value) => {
+            Some(J2oasError::EnumConflict)
+        }
+        _ => None,
+    }
+}
+
+fn const_unsupported(schema: &SchemaObject) -> Option<J2oasError>
+    ensures { result ≡ const_alone (out-SchemaObject schema.now).const_value
+        (out-SchemaObject schema.now).instance_type (object_level schema.now).subschemas }
+{
+    match (
+        &schema.const_value,
+        &schema.instance_type,
+        &schema.subschemas,
+    ) {
+        (None, _, _) | (Some(_), Some(_), Some(_)) => None,
         _ => Some(J2oasError::ConstUnsupported),
     }
 }
@@ -163,12 +179,10 @@ fn is_value_of(kind: InstanceType, value: &Json) -> bool
 }
 
 fn bounds_refusal(schema: &SchemaObject) -> Option<J2oasError>
-    ensures { result ≡ refusal_of_bounds (out-SchemaObject schema.now).instance_type
-        (out-SchemaObject schema.now).number }
+    ensures { result ≡ refusal_of_bounds (out-SchemaObject schema.now).number }
 {
-    match (&schema.instance_type, &schema.number) {
-        (Some(InstanceTypes::Single(InstanceType::Integer)), Some(bounds))
-            if is_bound_twice(bounds) => { Some(J2oasError::BadBounds) }
+    match &schema.number {
+        Some(bounds) if is_bound_twice(bounds) => Some(J2oasError::BadBounds),
         _ => None,
     }
 }
@@ -221,8 +235,8 @@ fn type_refusal(schema: &SchemaObject) -> Option<J2oasError>
         (within_of (object_level schema.now)) (object_level schema.now).object }
 {
     match &schema.instance_type {
-        Some(InstanceTypes::Single(InstanceType::Array)) => match items_of(schema) {
-            Some(items) => items_refusal(items),
+        Some(InstanceTypes::Single(InstanceType::Array)) => match &schema.array {
+            Some(array) => array_refusal(array),
             None => None,
         },
         Some(InstanceTypes::Single(InstanceType::Object)) => match &schema.object {
@@ -230,6 +244,16 @@ fn type_refusal(schema: &SchemaObject) -> Option<J2oasError>
             None => None,
         },
         _ => None,
+    }
+}
+
+#[cycle(refusal)]
+fn array_refusal(array: &ArrayParts) -> Option<J2oasError>
+    ensures { result ≡ option_and_then (λ items. items.refusal) (array_within array.now) }
+{
+    match &array.items {
+        Some(items) => items_refusal(items),
+        None => None,
     }
 }
 

@@ -178,7 +178,8 @@ pub fn is_in_list(values: &Json, value: &Json) -> bool
     }
 }
 
-fn is_one_of(values: &[Json], value: &Json) -> bool
+/// Whether a value is one of some values.
+pub fn is_one_of(values: &[Json], value: &Json) -> bool
     ensures { result ≡ list_any (same_json value.now) values.now }
 {
     for listed in values {

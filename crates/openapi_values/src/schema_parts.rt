@@ -1,6 +1,6 @@
 ghost use Rattle.std.specs.Prelude.{◌≡◌, ◌++◌, ◌∷◌, [], IfOk, OnOk, Some, codes, map, option_map};
 ghost use Rattle.std.specs.Prelude.{option_and_then, unwrap_or};
-ghost use Rattle.std.specs.Option.{option_or};
+ghost use Rattle.std.specs.Option.{option_or, option_map_or};
 ghost use Rattle.schema_values.specs.Get.{first_named};
 ghost use Rattle.schema_values.specs.declared.json_value.Json.{Text as TextOf, Null as NullJson};
 ghost use Rattle.schema_values.specs.declared.schema.SchemaObject.{out-SchemaObject};
@@ -8,10 +8,12 @@ ghost use Rattle.openapi_values.specs.Objects.{members_of};
 ghost use Rattle.openapi_values.specs.SchemaJson.{annotations, extension_entries};
 ghost use Rattle.openapi_values.specs.SchemaJson.{number_entries, bound_entries, text_entries};
 ghost use Rattle.openapi_values.specs.SchemaJson.{bound_json as json_of_bound, nothing_entries};
-ghost use Rattle.openapi_values.specs.SchemaJson.{enum_entries, const_values, values_of, without_values};
+ghost use Rattle.openapi_values.specs.SchemaJson.{enum_entries, const_values, values_of};
+ghost use Rattle.openapi_values.specs.SchemaJson.{values_json as json_of_values, without_values};
 ghost use Rattle.openapi_values.specs.SchemaJson.{count_json as count_of, names_json};
 ghost use Rattle.openapi_values.specs.SchemaJson.{truth_json as json_of_truth, type_name};
 
+use crate::find::find_word;
 use crate::keywords::text_after;
 use crate::media::true_json;
 use crate::objects::add;
@@ -93,12 +95,10 @@ fn value_json(alloc: Global, value: &Option<Json>) -> Result<Option<Json>, Alloc
 fn example_json(alloc: Global, extensions: &[Member]) -> Result<Option<Json>, AllocError>
     ensures { IfOk result (λ json. json ≡ first_named (codes "example") extensions.now) }
 {
-    for extension in extensions {
-        if extension.name.equals_str("example") {
-            return Ok(Some(extension.value.copy(alloc)?));
-        }
+    match find_word(extensions, "example") {
+        Some(value) => Ok(Some(value.copy(alloc)?)),
+        None => Ok(None),
     }
-    Ok(None)
 }
 
 /// Adds the extensions, whose names begin with `x-`, and no other member.
@@ -153,7 +153,22 @@ fn bound_json(included: Option<i128>, excluded: Option<i128>) -> Option<Json>
     }
 }
 
+/// Adds the bounds of a number, where they are given.
 fn add_bounds(
+    alloc: Global,
+    members: &mut List<Member>,
+    bounds: &Option<NumberBounds>,
+) -> Result<(), AllocError>
+    ensures { OnOk result (members.new ≡ members.old ++ members_of
+        (option_map_or bound_entries bounds.now [])) }
+{
+    match bounds {
+        Some(bounds) => add_given_bounds(alloc, members, bounds),
+        None => Ok(()),
+    }
+}
+
+fn add_given_bounds(
     alloc: Global,
     members: &mut List<Member>,
     bounds: &NumberBounds,
@@ -167,7 +182,8 @@ fn add_bounds(
     let least = bound_json(bounds.minimum, bounds.exclusive_minimum);
     add(alloc, members, "minimum", least)?;
     let greatest = bound_json(bounds.maximum, bounds.exclusive_maximum);
-    add(alloc, members, "maximum", greatest)
+    add(alloc, members, "maximum", greatest)?;
+    Ok(())
 }
 
 /// Adds the members of a number.
@@ -182,10 +198,9 @@ pub fn add_number(
 {
     let format = option_json(alloc, &schema.format)?;
     add(alloc, members, "format", format)?;
-    if let Some(bounds) = &schema.number {
-        add_bounds(alloc, members, bounds)?;
-    }
-    add_values(alloc, members, schema)
+    add_bounds(alloc, members, &schema.number)?;
+    add_values(alloc, members, schema)?;
+    Ok(())
 }
 
 fn shortest(bounds: &Option<LengthBounds>) -> Option<u32>
@@ -243,14 +258,22 @@ pub fn add_values(
     ensures { OnOk result (members.new ≡ members.old ++ members_of (enum_entries
         (values_of (out-SchemaObject schema.now).const_value (out-SchemaObject schema.now).enum_values))) }
 {
-    if schema.const_value.is_some() {
-        return add_const(alloc, members, schema);
+    match &schema.const_value {
+        Some(value) => add_one_value(alloc, members, value.copy(alloc)?),
+        None => {
+            let values = values_json(alloc, &schema.enum_values)?;
+            add(alloc, members, "enum", values)
+        }
     }
-    let values = match &schema.enum_values {
-        Some(values) => Some(Json::List(values.copy(alloc)?)),
-        None => None,
-    };
-    add(alloc, members, "enum", values)
+}
+
+fn values_json(alloc: Global, values: &Option<List<Json>>) -> Result<Option<Json>, AllocError>
+    ensures { IfOk result (λ json. json ≡ json_of_values values.now) }
+{
+    match values {
+        Some(values) => Ok(Some(Json::List(values.copy(alloc)?))),
+        None => Ok(None),
+    }
 }
 
 /// Adds the value of a const, where it is given.

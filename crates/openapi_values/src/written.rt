@@ -188,7 +188,8 @@ fn add_object_parts(
     let additional = additional_json(alloc, object)?;
     add(alloc, members, "additionalProperties", additional)?;
     add(alloc, members, "minProperties", count_json(object.min))?;
-    add(alloc, members, "maxProperties", count_json(object.max))
+    add(alloc, members, "maxProperties", count_json(object.max))?;
+    Ok(())
 }
 
 #[cycle(written)]
