@@ -1,0 +1,5 @@
+pub mod Chains
+pub mod Steps
+pub mod Levels
+pub mod Sizes
+pub mod ScalarSteps

@@ -1,0 +1,5 @@
+pub mod Forms
+pub mod Met
+pub mod References
+pub mod Scalars
+pub mod Descriptions
