@@ -3,3 +3,4 @@ pub mod Met
 pub mod References
 pub mod Scalars
 pub mod Descriptions
+pub mod StructMembers
