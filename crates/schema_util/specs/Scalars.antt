@@ -1,61 +1,158 @@
--- Which schemas are those of scalar values, and of texts alone.
-use Rattle.std.specs.Prelude.{◌≡◌, ⊤, tt, ℕ, List, [], ◌∷◌, Some, None, Result, Ok, Err, Contains}
+-- Which schemas are those of scalar values, of texts alone, and of lists of texts (JSON Schema: `type`, `allOf`, `anyOf`, `oneOf` and `items`).
+use Rattle.std.specs.Prelude.{◌≡◌, ℕ, Bool, true, false, List, [], ◌∷◌, Option, Some, None, Ok, Err, if◌then◌else◌}
+use Rattle.std.specs.Str.{encode_utf8_all}
+use Rattle.schema_values.specs.declared.json_value.Json.{Json}
+use Rattle.schema_values.specs.declared.schema.ArrayParts.{ArrayParts, out-ArrayParts}
 use Rattle.schema_values.specs.declared.schema.InstanceType.{InstanceType}
-use Rattle.schema_values.specs.declared.schema.InstanceType.TheVariants.{Boolean, Number, String, Integer}
+use Rattle.schema_values.specs.declared.schema.InstanceType.TheVariants.{Boolean, Number, String, Integer, Array}
+use Rattle.schema_values.specs.declared.schema.InstanceTypes.{InstanceTypes}
 use Rattle.schema_values.specs.declared.schema.InstanceTypes.TheVariants.{Single}
+use Rattle.schema_values.specs.declared.schema.Items.{Items, out-Items}
+use Rattle.schema_values.specs.declared.schema.Items.TheOpen as open_types
+use Rattle.schema_values.specs.declared.schema.LengthBounds.{LengthBounds}
+use Rattle.schema_values.specs.declared.schema.NumberBounds.{NumberBounds}
+use Rattle.schema_values.specs.declared.schema.ObjectParts.{ObjectParts}
 use Rattle.schema_values.specs.declared.schema.Schema.{Schema, out-Schema}
-use Rattle.schema_values.specs.declared.schema.Schema.TheOpen.{Schema-F}
 use Rattle.schema_values.specs.declared.schema.SchemaObject.{SchemaObject, out-SchemaObject}
 use Rattle.schema_values.specs.declared.schema.Subschemas.{Subschemas}
-use Rattle.schema_util.specs.Forms.{schema_form, combination, SchemaKind, all_of, any_of, one_of, kind_of}
-use Rattle.schema_util.specs.References.{Broken, Names, Leads, IsReference}
+use Rattle.schema_util.specs.declared.scalar.Finding.{Finding}
+use Rattle.schema_util.specs.declared.scalar.Finding.TheVariants as code
+use Rattle.schema_util.specs.declared.scalar.ScalarError.{ScalarError}
+use Rattle.schema_util.specs.declared.scalar.ScalarError.TheVariants.{NotScalar, NotStringList, Dangling, Cycle}
+use Rattle.schema_util.specs.declared.scalar.Wanted.{Wanted}
+use Rattle.schema_util.specs.declared.scalar.Wanted.TheVariants.{Scalar, Text}
+use Rattle.schema_util.specs.Forms.{SchemaForm, form_of, reference, combination, SchemaKind, kind_of, all_of, any_of, one_of}
+use Rattle.schema_util.specs.References.{Broken, dangling, again, Names, step, ComesTo}
 
--- the types of scalar values
-abbrev pub scalar_types : List InstanceType
-scalar_types = Boolean ∷ Number ∷ String ∷ Integer ∷ []
+-- what a test seeks: a type of scalar values, or that of texts
+pub data Sought : Type 0 where
+  scalars : Sought
+  texts : Sought
 
--- the type of texts
-abbrev pub text_types : List InstanceType
-text_types = String ∷ []
+-- whether a type is sought
+abbrev pub is_sought : Sought → InstanceType → Bool
+is_sought sought String = true
+is_sought scalars Boolean = true
+is_sought scalars Number = true
+is_sought scalars Integer = true
+is_sought sought type = false
 
--- a schema has one of some types, and neither subschemas, array, object nor reference
-pub record IsOfTypes (types : List InstanceType) (schema : Schema) : Type 0 where
-  pub object : SchemaObject
-  pub is_object : out-Schema schema ≡ Schema-F.Object object
-  pub type : InstanceType
-  pub is_single : (out-SchemaObject object).instance_type ≡ Some (Single type)
-  pub is_among : Contains types type
-  pub no_subschemas : (out-SchemaObject object).subschemas ≡ None
-  pub no_array : (out-SchemaObject object).array ≡ None
-  pub no_object : (out-SchemaObject object).object ≡ None
-  pub no_reference : (out-SchemaObject object).reference ≡ None
+-- by types, subschemas, array, object and reference
+abbrev pub type_by : Option InstanceTypes → Option Subschemas → Option ArrayParts → Option ObjectParts → Option (List ℕ) → Option InstanceType
+type_by (Some (Single type)) None None None None = Some type
+type_by types subschemas array object text = None
 
--- a kind of subschemas asks for some members alone: an `all_of` or an `any_of` of one, or a `one_of`
-pub data Asks : SchemaKind → List Schema → Type 0 where
-  one_of_all : (member : Schema) → Asks (all_of (member ∷ [])) (member ∷ [])
-  one_of_any : (member : Schema) → Asks (any_of (member ∷ [])) (member ∷ [])
-  each_of_one : (members : List Schema) → Asks (one_of members) members
+-- the single type of a schema that has neither subschemas, array, object nor reference
+abbrev pub single_type : SchemaObject → Option InstanceType
+single_type object = type_by
+    (out-SchemaObject object).instance_type
+    (out-SchemaObject object).subschemas
+    (out-SchemaObject object).array
+    (out-SchemaObject object).object
+    (out-SchemaObject object).reference
 
--- a schema is nothing but such subschemas
-abbrev pub Combines : Schema → List Schema → Type 0
-Combines schema members = (subschemas : Subschemas) × (schema_form schema ≡ combination subschemas) × Asks (kind_of subschemas) members
+-- what a test asks of a schema: what its reference leads to, each of its subschemas, or nothing, as it fits or does not
+pub data Asked : Type 0 where
+  refers : List ℕ → Asked
+  asks : List Schema → Asked
+  fits : Asked
+  differs : Asked
 
--- why a schema is not of some types: a schema on the way is of none, or a reference is broken
+-- by the kind of subschemas that stand alone
+abbrev pub asked_of : SchemaKind → Asked
+asked_of (all_of (member ∷ [])) = asks (member ∷ [])
+asked_of (any_of (member ∷ [])) = asks (member ∷ [])
+asked_of (one_of members) = asks members
+asked_of kind = differs
+
+-- by the single type, if there is one
+abbrev pub asked_at : Sought → Option InstanceType → Asked
+asked_at sought None = differs
+asked_at sought (Some type) = if is_sought sought type then fits else differs
+
+-- by the form and the single type
+abbrev pub asked_by : Sought → SchemaForm → Option InstanceType → Asked
+asked_by sought (reference text) type = refers (encode_utf8_all text)
+asked_by sought (combination subschemas) type = asked_of (kind_of subschemas)
+asked_by sought form type = asked_at sought type
+
+-- what a test asks of a schema
+abbrev pub asked : Sought → Schema → Asked
+asked sought schema = elim (out-Schema schema) [ open_types.Bool b ↦ differs | open_types.Object object ↦ asked_by sought (form_of object) (single_type object) ]
+
+-- why a schema does not fit: one on the way is none of what is sought, or a reference is broken
 pub data Fault : Type 0 where
-  of_none : Fault
+  is_none : Sought → Fault
   broken : Broken → Fault
 
 mutual
-  -- what is told of a schema, behind the names that were met
-  pub data IsTold (types : List InstanceType) (names : Names) : List (List ℕ) → Schema → Result ⊤ Fault → Type 0 where
-    breaks : {met : List (List ℕ)} {s : Schema} (text : List ℕ) (why : Broken) → IsReference s text → Leads names met text (Err why) → IsTold types names met s (Err (broken why))
-    goes_on : {met : List (List ℕ)} {s : Schema} (text name : List ℕ) (next : Schema) (end : Result ⊤ Fault) → IsReference s text → Leads names met text (Ok (name, next)) → IsTold types names (name ∷ met) next end → IsTold types names met s end
-    is_of : {met : List (List ℕ)} {s : Schema} → IsOfTypes types s → IsTold types names met s (Ok tt)
-    combines : {met : List (List ℕ)} {s : Schema} (members : List Schema) (end : Result ⊤ Fault) → Combines s members → AreTold types names met members end → IsTold types names met s end
-    neither : {met : List (List ℕ)} {s : Schema} → ((text : List ℕ) → IsReference s text → ⊥) → (IsOfTypes types s → ⊥) → ((members : List Schema) → Combines s members → ⊥) → IsTold types names met s (Err of_none)
+  -- what is told of a schema, behind the names that were met: its first fault, if there is one
+  pub data IsTold (sought : Sought) (names : Names) : List (List ℕ) → Schema → Option Fault → Type 0 where
+    told_at_once : {met : List (List ℕ)} {schema : Schema} → asked sought schema ≡ fits → IsTold sought names met schema None
+    denied : {met : List (List ℕ)} {schema : Schema} → asked sought schema ≡ differs → IsTold sought names met schema (Some (is_none sought))
+    breaks : {met : List (List ℕ)} {schema : Schema} (text : List ℕ) (why : Broken) → asked sought schema ≡ refers text → step names met text ≡ Err why
+        → IsTold sought names met schema (Some (broken why))
+    goes_on : {met : List (List ℕ)} {schema : Schema} (text name : List ℕ) (next : Schema) (fault : Option Fault) → asked sought schema ≡ refers text
+        → step names met text ≡ Ok (name, next) → IsTold sought names (name ∷ met) next fault → IsTold sought names met schema fault
+    of_members : {met : List (List ℕ)} {schema : Schema} (members : List Schema) (fault : Option Fault) → asked sought schema ≡ asks members
+        → AreTold sought names met members fault → IsTold sought names met schema fault
 
-  -- what is told of some schemas: the first fault among them
-  pub data AreTold (types : List InstanceType) (names : Names) : List (List ℕ) → List Schema → Result ⊤ Fault → Type 0 where
-    all : {met : List (List ℕ)} → AreTold types names met [] (Ok tt)
-    first : {met : List (List ℕ)} {s : Schema} {rest : List Schema} (fault : Fault) → IsTold types names met s (Err fault) → AreTold types names met (s ∷ rest) (Err fault)
-    later : {met : List (List ℕ)} {s : Schema} {rest : List Schema} (end : Result ⊤ Fault) → IsTold types names met s (Ok tt) → AreTold types names met rest end → AreTold types names met (s ∷ rest) end
+  -- what is told of schemas in turn: the first fault among them
+  pub data AreTold (sought : Sought) (names : Names) : List (List ℕ) → List Schema → Option Fault → Type 0 where
+    none_left : {met : List (List ℕ)} → AreTold sought names met [] None
+    at_first : {met : List (List ℕ)} {schema : Schema} {rest : List Schema} (fault : Fault) → IsTold sought names met schema (Some fault)
+        → AreTold sought names met (schema ∷ rest) (Some fault)
+    at_rest : {met : List (List ℕ)} {schema : Schema} {rest : List Schema} (fault : Option Fault) → IsTold sought names met schema None
+        → AreTold sought names met rest fault → AreTold sought names met (schema ∷ rest) fault
+
+-- the one schema of all items
+abbrev pub one_item : Option Items → Option Schema
+one_item None = None
+one_item (Some items) = elim (out-Items items) [ open_types.One item ↦ Some item | open_types.Tuple items ↦ None ]
+
+-- by type, format, values, constant, subschemas, bounds of numbers and of lengths, array, object and reference
+abbrev pub item_by : Option InstanceTypes → Option (List ℕ) → Option (List Json) → Option Json → Option Subschemas → Option NumberBounds → Option LengthBounds → Option ArrayParts
+    → Option ObjectParts → Option (List ℕ) → Option Schema
+item_by (Some (Single Array)) None None None None None None (Some array) None None = one_item (out-ArrayParts array).items
+item_by types format vs const subschemas number string array object text = None
+
+-- the schema of the items of a list that has nothing but its type and its array
+abbrev pub item_of : Schema → Option Schema
+item_of schema = elim (out-Schema schema) [
+  | open_types.Bool b ↦ None
+  | open_types.Object object ↦ item_by
+      (out-SchemaObject object).instance_type
+      (out-SchemaObject object).format
+      (out-SchemaObject object).enum_values
+      (out-SchemaObject object).const_value
+      (out-SchemaObject object).subschemas
+      (out-SchemaObject object).number
+      (out-SchemaObject object).string
+      (out-SchemaObject object).array
+      (out-SchemaObject object).object
+      (out-SchemaObject object).reference
+]
+
+-- what is told of a schema of lists of texts
+pub data IsToldOfList (names : Names) (schema : Schema) : Option Fault → Type 0 where
+  is_broken : (why : Broken) → ComesTo names [] schema (Err why) → IsToldOfList names schema (Some (broken why))
+  no_list : (found : Schema) → ComesTo names [] schema (Ok found) → item_of found ≡ None → IsToldOfList names schema (Some (is_none texts))
+  of_items : (found item : Schema) (fault : Option Fault) → ComesTo names [] schema (Ok found) → item_of found ≡ Some item → IsTold texts names [] item fault
+      → IsToldOfList names schema fault
+
+-- what the code seeks, what it asks, and what its errors say
+abbrev pub sought_by : Wanted → Sought
+sought_by Scalar = scalars
+sought_by Text = texts
+
+abbrev pub found : Finding → Asked
+found (code.Reference text) = refers text.now
+found (code.Members members) = asks members.now
+found code.Fits = fits
+found code.Differs = differs
+
+abbrev pub said : ScalarError → Fault
+said NotScalar = is_none scalars
+said NotStringList = is_none texts
+said (Dangling name) = broken (dangling name.now)
+said (Cycle name) = broken (again name.now)

@@ -1,5 +1,8 @@
 //! What a schema object has beside its annotations, as far as this crate asks.
 
+ghost use Rattle.std.specs.Prelude.{◌≡◌};
+ghost use Rattle.schema_util.specs.Forms.{form_of, is_limited, kind_of, kind_seen, seen};
+
 use schema_values::{InstanceTypes, List, ObjectParts, Schema, SchemaObject, Subschemas, Text};
 
 /// The parts of a schema object. Annotations (title, description, default, the truth values and extensions) are no
@@ -32,62 +35,46 @@ pub(crate) enum Kind<'a> {
 }
 
 impl<'a> Form<'a> {
-    pub(crate) fn of(object: &'a SchemaObject) -> Form<'a> {
-        match object {
-            SchemaObject {
-                instance_type: None,
-                format: None,
-                enum_values: None,
-                const_value: None,
-                subschemas,
-                number: None,
-                string: None,
-                array: None,
-                object: None,
-                reference,
-                ..
-            } => Form::without_type(subschemas.as_ref(), reference.as_ref()),
-            SchemaObject {
-                instance_type: Some(InstanceTypes::Single(_)),
-                format: None,
-                enum_values: None,
-                const_value: None,
-                subschemas,
-                number: None,
-                string: None,
-                array: None,
-                object,
-                reference: None,
-                ..
-            } => Form::Struct(object.as_ref(), subschemas.as_ref()),
-            SchemaObject {
-                format: None,
-                enum_values: Some(_),
-                const_value: None,
-                subschemas: None,
-                number: None,
-                string: None,
-                array: None,
-                object: None,
-                reference: None,
-                ..
-            } => Form::Values,
-            _ => Form::Other,
+    pub(crate) fn of(object: &'a SchemaObject) -> Form<'a>
+        ensures { seen result ≡ form_of object.now }
+    {
+        if is_limited(object) {
+            return Form::Other;
         }
-    }
-
-    fn without_type(subschemas: Option<&'a Subschemas>, reference: Option<&'a Text>) -> Form<'a> {
-        match (subschemas, reference) {
-            (None, None) => Form::Bare,
-            (None, Some(reference)) => Form::Reference(reference),
-            (Some(subschemas), None) => Form::Combination(subschemas),
-            (Some(_), Some(_)) => Form::Other,
+        match (
+            &object.instance_type,
+            &object.enum_values,
+            &object.subschemas,
+            &object.object,
+            &object.reference,
+        ) {
+            (None, None, None, None, None) => Form::Bare,
+            (None, None, None, None, Some(reference)) => Form::Reference(reference),
+            (None, None, Some(subschemas), None, None) => Form::Combination(subschemas),
+            (Some(InstanceTypes::Single(_)), None, subschemas, object, None) => {
+                Form::Struct(object.as_ref(), subschemas.as_ref())
+            }
+            (_, Some(_), None, None, None) => Form::Values,
+            _ => Form::Other,
         }
     }
 }
 
+/// Whether a schema has a format, a constant, bounds or an array.
+fn is_limited(object: &SchemaObject) -> bool
+    ensures { result ≡ is_limited object.now }
+{
+    object.format.is_some()
+        || object.const_value.is_some()
+        || object.number.is_some()
+        || object.string.is_some()
+        || object.array.is_some()
+}
+
 impl<'a> Kind<'a> {
-    pub(crate) fn of(subschemas: &'a Subschemas) -> Kind<'a> {
+    pub(crate) fn of(subschemas: &'a Subschemas) -> Kind<'a>
+        ensures { kind_seen result ≡ kind_of subschemas.now }
+    {
         match subschemas {
             Subschemas {
                 all_of: Some(schemas),

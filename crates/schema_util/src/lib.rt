@@ -4,14 +4,16 @@
 
 mod description;
 mod form;
+mod laws;
 mod met;
-mod resolve;
+mod references;
 mod scalar;
 mod struct_members;
 #[cfg(test)]
 mod tests;
 
 pub use description::{is_empty, schema_extensions, schema_extract_description};
-pub use resolve::{ResolveError, resolve};
+pub use laws::{comes_to_once, gives_once, told_once};
+pub use references::{ResolveError, resolve};
 pub use scalar::{ScalarError, type_is_scalar, type_is_string, type_is_string_enum};
 pub use struct_members::{Schema2StructError, StructMember, schema2struct};

@@ -1,8 +1,14 @@
 //! What references lead to.
 
+ghost use Rattle.std.specs.Prelude.{◌≡◌, ℕ, [], List, Ok, Err, IfOk, IfErr};
+ghost use Rattle.std.specs.HashMap.{get_by_text};
+ghost use Rattle.std.specs.Option.{option_copied};
+ghost use Rattle.schema_util.specs.Met.{all_met};
+ghost use Rattle.schema_util.specs.References.{ComesTo, came_to, leads_to, name_in, reference_of, step as leads, told};
+
 use crate::form::Form;
 use crate::met::{Met, is_met};
-use schema_values::{Definitions, Schema, Text};
+use schema_values::{Definitions, Schema};
 
 /// Why a reference leads to no schema.
 #[derive(Clone, Copy, Debug, PartialEq, Eq)]
@@ -20,7 +26,10 @@ pub enum ResolveError<'a> {
 pub fn resolve<'a>(
     schema: &'a Schema,
     definitions: &'a Definitions,
-) -> Result<&'a Schema, ResolveError<'a>> {
+) -> Result<&'a Schema, ResolveError<'a>>
+    ensures resolved { IfOk result (λ found. ComesTo (get_by_text definitions.now) [] schema.now (Ok found.now)) }
+    ensures refused { IfErr result (λ error. ComesTo (get_by_text definitions.now) [] schema.now (Err (told error))) }
+{
     resolve_behind(schema, definitions, None)
 }
 
@@ -29,7 +38,9 @@ fn resolve_behind<'a>(
     schema: &'a Schema,
     definitions: &'a Definitions,
     met: Option<&Met<'_>>,
-) -> Result<&'a Schema, ResolveError<'a>> {
+) -> Result<&'a Schema, ResolveError<'a>>
+    ensures { ComesTo (get_by_text definitions.now) (all_met (option_copied met.entry)) schema.now (came_to result) }
+{
     let Some(reference) = reference_of(schema) else {
         return Ok(schema);
     };
@@ -39,13 +50,14 @@ fn resolve_behind<'a>(
 
 /// The definition that a reference means, with its name, where the name was not met.
 pub(crate) fn step<'a>(
-    reference: &'a Text,
+    reference: &'a str,
     definitions: &'a Definitions,
     met: Option<&Met<'_>>,
-) -> Result<(&'a str, &'a Schema), ResolveError<'a>> {
-    let text = reference.as_str();
-    let Some(name) = text.strip_prefix("#/components/schemas/") else {
-        return Err(ResolveError::Dangling(text));
+) -> Result<(&'a str, &'a Schema), ResolveError<'a>>
+    ensures { leads_to result ≡ leads (get_by_text definitions.now) (all_met (option_copied met.entry)) reference.now }
+{
+    let Some(name) = name_in(reference) else {
+        return Err(ResolveError::Dangling(reference));
     };
     if is_met(met, name) {
         return Err(ResolveError::Cycle(name));
@@ -56,12 +68,21 @@ pub(crate) fn step<'a>(
     }
 }
 
+/// The name in a reference to a definition.
+fn name_in(reference: &str) -> Option<&str>
+    ensures { option_copied result ≡ name_in reference.now }
+{
+    reference.strip_prefix("#/components/schemas/")
+}
+
 /// The reference of a schema that has no other part. Annotations are no parts.
-pub(crate) fn reference_of(schema: &Schema) -> Option<&Text> {
+pub(crate) fn reference_of(schema: &Schema) -> Option<&str>
+    ensures { option_copied result ≡ reference_of schema.now }
+{
     match schema {
         Schema::Bool(_) => None,
         Schema::Object(object) => match Form::of(object.get()) {
-            Form::Reference(reference) => Some(reference),
+            Form::Reference(reference) => Some(reference.as_str()),
             _ => None,
         },
     }
