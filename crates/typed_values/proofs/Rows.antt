@@ -143,9 +143,8 @@ module _ (table : List Definition) (whole : Desc) where
   same_external vs (Json-F.Text s) = refl
   same_external vs (Json-F.List js) = refl
   same_external vs (Json-F.Object []) = refl
-  same_external vs (Json-F.Object (m ∷ ms)) =
-      ap (λ (b : Bool). if_holds b WrongKind (where_found (refused NotListed) (with_payload (told table whole m.value)) (named_from variant_name 0 vs m.name)))
-      (list_all-map (λ n. bytes_eq (member_name n) m.name) member_of ms)
+  same_external vs (Json-F.Object (m ∷ [])) = refl
+  same_external vs (Json-F.Object (m ∷ n ∷ ms)) = refl
 
   same_tag : (o : Option Json) → option_map value_beside (option_map (beside_with meant) o) ≡ option_map (λ j. j) o
   same_tag None = refl
