@@ -21,22 +21,21 @@ use Rattle.typed_values.specs.declared.desc.Field.{Field}
 use Rattle.typed_values.specs.declared.desc.TaggedVariant.{TaggedVariant}
 use Rattle.typed_values.specs.declared.desc.Presence.{Presence}
 use Rattle.typed_values.specs.declared.desc.Presence.TheVariants.{Required, Nullable, Skipped, Default}
-use Rattle.typed_values.specs.declared.fault.FaultKind.TheVariants.{WrongKind, NotListed}
 use Rattle.typed_values.specs.declared.fault.Place.TheVariants.{Name, Item}
 use Rattle.typed_values.specs.declared.table.Definition.{Definition}
 use Rattle.typed_values.specs.declared.tree.Tree.{Tree, Unit as Nought, None as Nothing, Fields as Parts, out-Tree}
 use Rattle.typed_values.specs.declared.tree.Tree.TheOpen.{Tree-F}
 use Rattle.typed_values.specs.declared.tree.Tree.TheVariants as tree
 use Rattle.typed_values.specs.Checks.{IsOption, IsFieldOf, of_struct, of_variant, IsBadField, no_option, default_misfits, TablePasses, DescPasses}
-use Rattle.typed_values.specs.Definitions.{definition, tagged_fields, variant_name}
-use Rattle.typed_values.specs.Denotes.{Told, below, just, as_tree, if_absent, if_present, by_presence, value_named, unless_denied, denied_name, at_definition, refused, where_found, named_from, with_payload, room, told, JsonDenotes}
+use Rattle.typed_values.specs.Definitions.{definition, tagged_fields}
+use Rattle.typed_values.specs.Denotes.{Told, below, just, as_tree, if_absent, if_present, by_presence, value_named, unless_denied, denied_name, at_definition, room, told, JsonDenotes}
 use Rattle.typed_values.specs.Fits.{nought_fits, option_fits, field_desc, parts_fit, if_there, struct_of, fits_by, fits_under, Fits}
 use Rattle.typed_values.specs.Parts.{the_whole, IsPart, of_whole}
 use Rattle.typed_values.specs.Rows.{told_item, value_denotes, told_field, told_fields, told_struct, row, AreFieldsOf}
 use Rattle.typed_values.specs.Sound.{RestsBy, Rests}
 use Rattle.typed_values.specs.Levels.{DescLevel}
 use Rattle.typed_values.proofs.Arms.{definition_is_part}
-use Rattle.typed_values.proofs.DenotedRows.{Gives, shown, holds_gives, below_gives, undenied, trees_of, whole_gives, nought_gives, truth_gives, character_gives, number_gives, words_give, name_gives, just_gives, optional_gives, items_give, entries_give, fields_give, choice_gives, bare_gives, payload_gives, tagged_gives}
+use Rattle.typed_values.proofs.DenotedRows.{Gives, shown, below_gives, undenied, trees_of, whole_gives, nought_gives, truth_gives, character_gives, number_gives, words_give, name_gives, just_gives, optional_gives, items_give, entries_give, fields_give, choice_gives, bare_gives, payload_gives, tagged_gives}
 use Rattle.typed_values.proofs.FitRows.{skipped_desc}
 use Rattle.typed_values.proofs.FitSteps.{fits_row, nought_row, skipped_row, struct_row}
 use Rattle.typed_values.proofs.Found.{contains_first, contains_later, contains_cases}

@@ -1,7 +1,6 @@
 -- The rows with no steps.
 use Rattle.std.proofs.Common.{rules, ◌+◌, ◌≡◌, ℕ, ℤ, List, [], ◌∷◌, length, map, Option, Some, None, Bool, true, false, option_map, bytes_eq, refl, sym, ◌∙◌, ap, cond}
 use Rattle.std.proofs.lemmas.List.{length-map}
-use Rattle.std.proofs.lemmas.List.Folds.{list_all-map}
 use Rattle.std.specs.declared.result.Result.{Result}
 use Rattle.schema_values.specs.declared.json_value.Json.{Json, out-Json}
 use Rattle.schema_values.specs.declared.json_value.Json.TheOpen.{Json-F}
@@ -15,13 +14,13 @@ use Rattle.typed_values.specs.declared.desc.Named.{Named}
 use Rattle.typed_values.specs.declared.desc.TaggedVariant.{TaggedVariant}
 use Rattle.typed_values.specs.declared.desc.Variant.{Variant}
 use Rattle.typed_values.specs.declared.tree.Tree.{Tree, List as Items, Map as Entries, Fields as Parts}
-use Rattle.typed_values.specs.declared.fault.FaultKind.TheVariants.{BadLength, WrongKind, NotListed}
+use Rattle.typed_values.specs.declared.fault.FaultKind.TheVariants.{BadLength}
 use Rattle.typed_values.specs.declared.fault.Place.TheVariants.{Item, Name}
 use Rattle.typed_values.specs.declared.table.Definition.{Definition}
 use Rattle.typed_values.specs.Bounds.{is_length_within}
 use Rattle.typed_values.specs.Faults.{Trouble}
-use Rattle.typed_values.specs.Definitions.{tagged_fields, variant_name}
-use Rattle.typed_values.specs.Denotes.{Told, below, Meaning, NamedMeaning, Level, value_named, nought, truth, character, number, words, one_of_names, optional, items, entries, fields, all_told, field_told, by_presence, value_told, and_then, as_tree, as_pair, if_holds, unless_denied, denied_name, member_name, refused, where_found, named_from, with_payload, external, at_tag, by_tag, chosen, tagged, told_by, told_within, room, told}
+use Rattle.typed_values.specs.Definitions.{tagged_fields}
+use Rattle.typed_values.specs.Denotes.{Told, below, Meaning, NamedMeaning, Level, value_named, nought, truth, character, number, words, one_of_names, optional, items, entries, fields, all_told, field_told, by_presence, value_told, and_then, as_tree, as_pair, if_holds, unless_denied, denied_name, member_name, external, at_tag, by_tag, chosen, tagged, told_by, told_within, room, told}
 use Rattle.typed_values.specs.Order.{sorted_by}
 use Rattle.typed_values.specs.Sound.{Rests}
 use Rattle.typed_values.specs.Rows.{told_item, told_entry, value_denotes, told_field, told_fields, list_row, map_row, struct_row, row}

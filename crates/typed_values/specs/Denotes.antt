@@ -1,5 +1,4 @@
 -- Which tree a JSON value denotes under a descriptor, and which fault is told first where it denotes none.
-use Rattle.std.specs.List.{list_all}
 use Rattle.std.specs.Option.{option_map}
 use Rattle.std.specs.Prelude.{◌≡◌, ◌==◌, ℕ, zero, suc, ◌+◌, ℤ, Bool, true, false, not, List, [], ◌∷◌, length, map, filter, Option, Some, None, if◌then◌else◌, bytes_eq, sum}
 use Rattle.std.specs.declared.result.Result.{Result}

@@ -1,5 +1,5 @@
 // Decoding under external and tagged enumerations.
-ghost use Rattle.std.specs.Prelude.{◌≡◌, ◌≤◌, false, length};
+ghost use Rattle.std.specs.Prelude.{◌≤◌, false, length};
 ghost use Rattle.schema_values.specs.declared.json_value.Json.{out-Json};
 ghost use Rattle.typed_values.specs.Answer.{Tells};
 ghost use Rattle.typed_values.specs.Definitions.{tagged_fields, variant_name};

@@ -12,7 +12,7 @@ use Rattle.schema_values.specs.Member.{name_of}
 use Rattle.schema_values.specs.Sound.{AreDistinct}
 use Rattle.typed_values.specs.declared.desc.Desc.{Desc}
 use Rattle.typed_values.specs.declared.desc.Variant.{Variant}
-use Rattle.typed_values.specs.declared.fault.FaultKind.TheVariants.{WrongKind, NotListed}
+use Rattle.typed_values.specs.declared.fault.FaultKind.TheVariants.{NotListed}
 use Rattle.typed_values.specs.declared.table.Definition.{Definition}
 use Rattle.typed_values.specs.Definitions.{listed_name, variant_name}
 use Rattle.typed_values.specs.Denotes.{told, refused, without_payload, with_payload, external, is_declared, member_name}
@@ -66,6 +66,11 @@ ok_without i v = by_payload v.payload refl
     by_payload : (o : Option Desc) → v.payload ≡ o → is_ok (without_payload i v) ≡ is_none o
     by_payload None e = rw e refl
     by_payload (Some d) e = rw e refl
+
+-- the members of an object have distinct names
+abbrev pub IsNamedOnce : Json-F Json Member → Type 0
+IsNamedOnce (Json-F.Object ms) = AreDistinct (map name_of ms)
+IsNamedOnce _ = ⊤
 
 module _ (table : List Definition) (whole : Desc) where
   -- a payload under its name
@@ -129,11 +134,6 @@ module _ (table : List Definition) (whole : Desc) where
   neither : (y : Json-F Json Member) → ((name : List ℕ) → is_named y name ≡ false) → ((name : List ℕ) (d : Desc) → is_ok (struct_row table whole (required_of name d ∷ []) true y) ≡ false) → (vs : List Variant)
       → false ≡ (list_any (is_named y) (names_bare table vs) || list_any (payload_told y) vs)
   neither y no_name none vs = sym (ap (λ (b : Bool). b || list_any (payload_told y) vs) (none_of (is_named y) no_name (names_bare table vs)) ∙ no_payload y none vs)
-
-  -- the members of an object have distinct names
-  abbrev pub IsNamedOnce : Json-F Json Member → Type 0
-  IsNamedOnce (Json-F.Object ms) = AreDistinct (map name_of ms)
-  IsNamedOnce _ = ⊤
 
   -- a name of the enumeration, or the struct of one payload
   pub external_is : (vs : List Variant) → AreDistinct (map variant_name vs) → (y : Json-F Json Member) → IsNamedOnce y → is_ok (external (told table whole) vs y) ≡ (list_any (is_named y) (names_bare table vs) || list_any (payload_told y) vs)

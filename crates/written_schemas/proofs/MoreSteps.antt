@@ -14,7 +14,7 @@ use Rattle.typed_values.specs.declared.desc.TaggedVariant.{TaggedVariant}
 use Rattle.typed_values.specs.declared.desc.Variant.{Variant}
 use Rattle.typed_values.specs.declared.table.Definition.{Definition}
 use Rattle.typed_values.specs.declared.tree.Tree.{Tree, List as Items, Map as Entries, Fields as Parts}
-use Rattle.typed_values.specs.declared.fault.FaultKind.TheVariants.{WrongKind, BadLength, NotListed}
+use Rattle.typed_values.specs.declared.fault.FaultKind.TheVariants.{BadLength, NotListed}
 use Rattle.typed_values.specs.Bounds.{is_length_within}
 use Rattle.typed_values.specs.Checks.{TablePasses, DescPasses}
 use Rattle.typed_values.specs.Definitions.{definition, entry_of, variant_name, tagged_name, tagged_fields}

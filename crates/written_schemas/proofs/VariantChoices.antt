@@ -85,7 +85,7 @@ module _ (table : List Definition) (whole : Desc) (doc : Json) (q : ℕ) (j : Js
         ∙ ap (λ (n : ℕ). count name_told + n) (payloads_counted k vs need ∙ counted_once variant_name (payload_told table whole (out-Json j)) (payload_once table whole (out-Json j)) vs once)
         ∙ either_counted name_told payloads_told (name_or_payload table whole (out-Json j) (names_bare table vs) vs)
 
-    named_once : (y : Json-F Json Member) → Below table whole doc q y → IsNamedOnce table whole y
+    named_once : (y : Json-F Json Member) → Below table whole doc q y → IsNamedOnce y
     named_once Json-F.Null h = tt
     named_once (Json-F.Bool b) h = tt
     named_once (Json-F.Int i) h = tt
