@@ -4,6 +4,8 @@ use Rattle.std.proofs.lemmas.List.Sums.{sum_by-append, sum_by-cons}
 use Rattle.std.specs.List.{list_any}
 use Rattle.std.specs.Prelude.{Contains}
 use Rattle.schema_values.specs.declared.json_value.Json.{Json, out-Json, List as Items}
+use Rattle.schema_values.specs.declared.json_value.Json.TheOpen.{Json-F}
+use Rattle.schema_values.specs.declared.json_value.Member.{Member}
 use Rattle.schema_values.specs.Member.{member}
 use Rattle.schema_values.specs.Sound.{AreDistinct}
 use Rattle.openapi_values.specs.JsonAdmits.{admits_within}
