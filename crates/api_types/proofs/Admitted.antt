@@ -1,5 +1,5 @@
 -- What is written is admitted, and what is admitted is read.
-use Rattle.std.proofs.Common.{List, Result, Ok, Err, IfOk}
+use Rattle.std.proofs.Common.{◌≡◌, List, Result, Ok, Err, IfOk, sym, subst}
 use Rattle.schema_values.specs.declared.json_value.Json.{Json}
 use Rattle.schema_values.specs.Sound.{IsSound}
 use Rattle.openapi_values.specs.JsonAdmits.{JsonAdmits}
@@ -17,7 +17,9 @@ pub admitted : {E : Type 0} (doc schema : Json) (table : List Definition) (desc 
 admitted doc schema table desc agrees (Ok json) sound denotes = (agrees json sound).1 denotes
 admitted doc schema table desc agrees (Err e) sound denotes = tt
 
-pub none_refused : (doc schema : Json) (table : List Definition) (desc : Desc) → AdmitsDenoted doc schema table desc → (json : Json) → IsSound json → JsonAdmits doc schema json → (e : DecodeError)
-    → IfFault e (λ fault. (tree : Tree) → JsonDenotes table desc json tree → ⊥) → IfFault e (λ fault. ⊥)
-none_refused doc schema table desc agrees json sound admits (error.Fault fault) refused = let (tree, denotes) = (agrees json sound).0 admits in refused tree denotes
-none_refused doc schema table desc agrees json sound admits error.OutOfMemory refused = tt
+pub none_refused : (doc schema : Json) (table : List Definition) (desc made : Desc) → made ≡ desc → AdmitsDenoted doc schema table desc → (json : Json) → IsSound json → JsonAdmits doc schema json → (e : DecodeError)
+    → IfFault e (λ fault. (tree : Tree) → JsonDenotes table made json tree → ⊥) → IfFault e (λ fault. ⊥)
+none_refused doc schema table desc made is agrees json sound admits (error.Fault fault) refused =
+    let (tree, denotes) = (agrees json sound).0 admits in
+    refused tree (subst (λ d. JsonDenotes table d json tree) (sym is) denotes)
+none_refused doc schema table desc made is agrees json sound admits error.OutOfMemory refused = tt

@@ -41,7 +41,8 @@ pub fn value_json<T: ApiType>(
 }
 
 /// The value whose tree sound JSON denotes, or the fault that is told first. There is none where a document
-/// that has the schemas of the definitions admits the JSON under the type's schema.
+/// that has the schemas of the definitions admits the JSON under the type's schema, with its name as title or
+/// without.
 pub fn json_value<T: ApiType>(
     alloc: Global,
     table: &DescTable,
@@ -56,6 +57,9 @@ pub fn json_value<T: ApiType>(
         (λ fault. (tree : Value) → JsonDenotes table.now T.desc_of json.now tree → ⊥)) }
     ensures admitted { (doc : JsonValue) → IsWritten doc table.now T.desc_of
         → JsonAdmits doc (schema_json table.now T.desc_of) json.now
+        → IfErr result (λ error. IfFault error (λ _. ⊥)) }
+    ensures admitted_titled { (doc : JsonValue) → IsWritten doc table.now T.desc_of
+        → JsonAdmits doc (schema_json_titled table.now T.name_of T.desc_of) json.now
         → IfErr result (λ error. IfFault error (λ _. ⊥)) }
 {
     let desc = T::descriptor(alloc)?;

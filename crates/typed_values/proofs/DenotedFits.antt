@@ -21,22 +21,21 @@ use Rattle.typed_values.specs.declared.desc.Field.{Field}
 use Rattle.typed_values.specs.declared.desc.TaggedVariant.{TaggedVariant}
 use Rattle.typed_values.specs.declared.desc.Presence.{Presence}
 use Rattle.typed_values.specs.declared.desc.Presence.TheVariants.{Required, Nullable, Skipped, Default}
-use Rattle.typed_values.specs.declared.fault.FaultKind.TheVariants.{WrongKind, NotListed}
 use Rattle.typed_values.specs.declared.fault.Place.TheVariants.{Name, Item}
 use Rattle.typed_values.specs.declared.table.Definition.{Definition}
 use Rattle.typed_values.specs.declared.tree.Tree.{Tree, Unit as Nought, None as Nothing, Fields as Parts, out-Tree}
 use Rattle.typed_values.specs.declared.tree.Tree.TheOpen.{Tree-F}
 use Rattle.typed_values.specs.declared.tree.Tree.TheVariants as tree
 use Rattle.typed_values.specs.Checks.{IsOption, IsFieldOf, of_struct, of_variant, IsBadField, no_option, default_misfits, TablePasses, DescPasses}
-use Rattle.typed_values.specs.Definitions.{definition, tagged_fields, variant_name}
-use Rattle.typed_values.specs.Denotes.{Told, below, just, as_tree, if_absent, if_present, by_presence, value_named, unless_denied, denied_name, at_definition, refused, where_found, named_from, with_payload, are_all_named, room, told, JsonDenotes}
+use Rattle.typed_values.specs.Definitions.{definition, tagged_fields}
+use Rattle.typed_values.specs.Denotes.{Told, below, just, as_tree, if_absent, if_present, by_presence, value_named, unless_denied, denied_name, at_definition, room, told, JsonDenotes}
 use Rattle.typed_values.specs.Fits.{nought_fits, option_fits, field_desc, parts_fit, if_there, struct_of, fits_by, fits_under, Fits}
 use Rattle.typed_values.specs.Parts.{the_whole, IsPart, of_whole}
 use Rattle.typed_values.specs.Rows.{told_item, value_denotes, told_field, told_fields, told_struct, row, AreFieldsOf}
 use Rattle.typed_values.specs.Sound.{RestsBy, Rests}
 use Rattle.typed_values.specs.Levels.{DescLevel}
 use Rattle.typed_values.proofs.Arms.{definition_is_part}
-use Rattle.typed_values.proofs.DenotedRows.{Gives, shown, holds_gives, below_gives, undenied, trees_of, whole_gives, nought_gives, truth_gives, character_gives, number_gives, words_give, name_gives, just_gives, optional_gives, items_give, entries_give, fields_give, choice_gives, bare_gives, payload_gives, tagged_gives}
+use Rattle.typed_values.proofs.DenotedRows.{Gives, shown, below_gives, undenied, trees_of, whole_gives, nought_gives, truth_gives, character_gives, number_gives, words_give, name_gives, just_gives, optional_gives, items_give, entries_give, fields_give, choice_gives, bare_gives, payload_gives, tagged_gives}
 use Rattle.typed_values.proofs.FitRows.{skipped_desc}
 use Rattle.typed_values.proofs.FitSteps.{fits_row, nought_row, skipped_row, struct_row}
 use Rattle.typed_values.proofs.Found.{contains_first, contains_later, contains_cases}
@@ -193,12 +192,10 @@ module _ (table : List Definition) (whole : Desc) (passes : TablePasses table) (
       struct_gives fs deny ms (fields_of_struct part fs deny (rolled d _ e ∙ desc.rolls-Struct fs deny)) (λ f c. never_bad d part f (of_struct fs deny e c)) inside.0 t q
   row_gives j _ sound inside n next d part (Desc-F.Struct fs deny) e h t q = absurd (cc q)
   row_gives j (Json-F.Text s) sound inside n next d part (Desc-F.External vs) e h t q = bare_gives (fits_under table whole) vs nought_is_null s t q
-  row_gives j (Json-F.Object (m ∷ ms)) sound inside n next d part (Desc-F.External vs) e h t q =
+  row_gives j (Json-F.Object (m ∷ [])) sound inside n next d part (Desc-F.External vs) e h t q =
       let parts = payloads_of_external part vs (rolled d _ e ∙ desc.rolls-External vs) in
-      let found = where_found (refused NotListed) (with_payload (told table whole m.value)) (named_from variant_name 0 vs m.name) in
       payload_gives (fits_under table whole) vs (told table whole m.value)
-      (λ v c i is. inside.0 m (contains_first m ms) i (subst (λ (o : Option Desc). IfSome o (IsPart table whole)) is (parts v c))) m.name t
-      (holds_gives (are_all_named m.name ms) WrongKind found t q).1
+      (λ v c i is. inside.0 m (contains_first m []) i (subst (λ (o : Option Desc). IfSome o (IsPart table whole)) is (parts v c))) m.name t q
   row_gives j _ sound inside n next d part (Desc-F.External vs) e h t q = absurd (cc q)
   row_gives j (Json-F.Object ms) sound inside n next d part (Desc-F.Tagged tag vs) e h t q =
       tagged_gives (fits_under table whole) tag vs (λ fs. told_struct table whole fs false ms) (variant_gives d part tag vs e ms inside.0) (option_map (λ k. k) (value_named ms tag)) t q

@@ -28,6 +28,9 @@ member_greater m = omega (arith, size_member m)
 pub item_smaller : (js : List Json) (i : ℕ) (j : Json) → i < length js → j ≡ get_or js i j → size-Json j < suc (most size-Json js)
 item_smaller js i j h is = let deep = at_most size-Json js i j h in rw is (omega arith)
 
+pub member_at_most : (ms : List Member) (i : ℕ) (m : Member) → i < length ms → m ≡ get_or ms i m → size-Member m ≤ most size-Member ms
+member_at_most ms i m h is = let deep = at_most size-Member ms i m h in rw is (omega (arith, deep))
+
 value_at : (m : Member) (b : Bool) (o : Option Json) (n : ℕ) (j : Json) → ((i : Json) → o ≡ Some i → size-Json i < n) → cond b (Some m.value) o ≡ Some j → (size-Json j ≡ size-Json m.value) ⊎ (size-Json j < n)
 value_at m true o n j h e = inl (ap size-Json (cc e))
 value_at m false o n j h e = inr (h j e)

@@ -1,7 +1,6 @@
 -- The rows with no steps.
 use Rattle.std.proofs.Common.{rules, ◌+◌, ◌≡◌, ℕ, ℤ, List, [], ◌∷◌, length, map, Option, Some, None, Bool, true, false, option_map, bytes_eq, refl, sym, ◌∙◌, ap, cond}
 use Rattle.std.proofs.lemmas.List.{length-map}
-use Rattle.std.proofs.lemmas.List.Folds.{list_all-map}
 use Rattle.std.specs.declared.result.Result.{Result}
 use Rattle.schema_values.specs.declared.json_value.Json.{Json, out-Json}
 use Rattle.schema_values.specs.declared.json_value.Json.TheOpen.{Json-F}
@@ -15,13 +14,13 @@ use Rattle.typed_values.specs.declared.desc.Named.{Named}
 use Rattle.typed_values.specs.declared.desc.TaggedVariant.{TaggedVariant}
 use Rattle.typed_values.specs.declared.desc.Variant.{Variant}
 use Rattle.typed_values.specs.declared.tree.Tree.{Tree, List as Items, Map as Entries, Fields as Parts}
-use Rattle.typed_values.specs.declared.fault.FaultKind.TheVariants.{BadLength, WrongKind, NotListed}
+use Rattle.typed_values.specs.declared.fault.FaultKind.TheVariants.{BadLength}
 use Rattle.typed_values.specs.declared.fault.Place.TheVariants.{Item, Name}
 use Rattle.typed_values.specs.declared.table.Definition.{Definition}
 use Rattle.typed_values.specs.Bounds.{is_length_within}
 use Rattle.typed_values.specs.Faults.{Trouble}
-use Rattle.typed_values.specs.Definitions.{tagged_fields, variant_name}
-use Rattle.typed_values.specs.Denotes.{Told, below, Meaning, NamedMeaning, Level, value_named, nought, truth, character, number, words, one_of_names, optional, items, entries, fields, all_told, field_told, by_presence, value_told, and_then, as_tree, as_pair, if_holds, unless_denied, denied_name, member_name, refused, where_found, named_from, with_payload, external, at_tag, by_tag, chosen, tagged, told_by, told_within, room, told}
+use Rattle.typed_values.specs.Definitions.{tagged_fields}
+use Rattle.typed_values.specs.Denotes.{Told, below, Meaning, NamedMeaning, Level, value_named, nought, truth, character, number, words, one_of_names, optional, items, entries, fields, all_told, field_told, by_presence, value_told, and_then, as_tree, as_pair, if_holds, unless_denied, denied_name, member_name, external, at_tag, by_tag, chosen, tagged, told_by, told_within, room, told}
 use Rattle.typed_values.specs.Order.{sorted_by}
 use Rattle.typed_values.specs.Sound.{Rests}
 use Rattle.typed_values.specs.Rows.{told_item, told_entry, value_denotes, told_field, told_fields, list_row, map_row, struct_row, row}
@@ -143,9 +142,8 @@ module _ (table : List Definition) (whole : Desc) where
   same_external vs (Json-F.Text s) = refl
   same_external vs (Json-F.List js) = refl
   same_external vs (Json-F.Object []) = refl
-  same_external vs (Json-F.Object (m ∷ ms)) =
-      ap (λ (b : Bool). if_holds b WrongKind (where_found (refused NotListed) (with_payload (told table whole m.value)) (named_from variant_name 0 vs m.name)))
-      (list_all-map (λ n. bytes_eq (member_name n) m.name) member_of ms)
+  same_external vs (Json-F.Object (m ∷ [])) = refl
+  same_external vs (Json-F.Object (m ∷ n ∷ ms)) = refl
 
   same_tag : (o : Option Json) → option_map value_beside (option_map (beside_with meant) o) ≡ option_map (λ j. j) o
   same_tag None = refl

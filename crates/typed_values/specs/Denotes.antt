@@ -1,5 +1,4 @@
 -- Which tree a JSON value denotes under a descriptor, and which fault is told first where it denotes none.
-use Rattle.std.specs.List.{list_all}
 use Rattle.std.specs.Option.{option_map}
 use Rattle.std.specs.Prelude.{◌≡◌, ◌==◌, ℕ, zero, suc, ◌+◌, ℤ, Bool, true, false, not, List, [], ◌∷◌, length, map, filter, Option, Some, None, if◌then◌else◌, bytes_eq, sum}
 use Rattle.std.specs.declared.result.Result.{Result}
@@ -259,15 +258,10 @@ with_payload told i v = by_payload v.payload where
   by_payload None = refused NotListed
   by_payload (Some d) = chosen i (below (Name v.name) (told d))
 
--- all members have a name
-abbrev pub are_all_named : {X : Type 0} → List ℕ → List (Member-F X (Unit {0})) → Bool
-are_all_named name ms = list_all (λ m. bytes_eq (member_name m) name) ms
-
--- The name of a variant without payload, or an object of one name, which is that of a variant with payload.
+-- The name of a variant without payload, or an object of one member, which has the name of a variant with payload.
 abbrev pub external : {X : Type 0} → (X → Desc → Told) → List Variant → Json-F X (Member-F X (Unit {0})) → Told
 external told vs (Json-F.Text text) = where_found (refused NotListed) without_payload (named_from variant_name 0 vs text)
-external told vs (Json-F.Object (m ∷ ms)) =
-    if_holds (are_all_named m.name ms) WrongKind (where_found (refused NotListed) (with_payload (told m.value)) (named_from variant_name 0 vs m.name))
+external told vs (Json-F.Object (m ∷ [])) = where_found (refused NotListed) (with_payload (told m.value)) (named_from variant_name 0 vs m.name)
 external told vs _ = refused WrongKind
 
 -- the variant that a tag names, or a fault below the tag's name

@@ -1,9 +1,8 @@
 // Decoding under external and tagged enumerations.
-ghost use Rattle.std.specs.Prelude.{◌≡◌, ◌≤◌, false, length};
+ghost use Rattle.std.specs.Prelude.{◌≤◌, false, length};
 ghost use Rattle.schema_values.specs.declared.json_value.Json.{out-Json};
 ghost use Rattle.typed_values.specs.Answer.{Tells};
 ghost use Rattle.typed_values.specs.Definitions.{tagged_fields, variant_name};
-ghost use Rattle.typed_values.specs.Denotes as meant;
 ghost use Rattle.typed_values.specs.Denotes.{told, external, tagged, at_tag, chosen, where_found, refused};
 ghost use Rattle.typed_values.specs.Denotes.{named_from, with_payload, without_payload};
 ghost use Rattle.typed_values.specs.Rows.{struct_row, told_struct, ArePayloadsOf, AreVariantsOf};
@@ -32,15 +31,9 @@ fn decode_bare(alloc: Global, variants: &[Variant], name: &Text) -> Result<Tree,
     }
 }
 
-fn are_all_named(name: &Text, members: &[Member]) -> bool
-    ensures { result ≡ meant.are_all_named name.now members.now }
-{
-    members.iter().all(|member| member.name.equals(name))
-}
-
 impl Decoder<'_> {
-    /// Decodes the name of a variant without payload, or an object of one name, that of a variant with
-    /// payload.
+    /// Decodes the name of a variant without payload, or an object of one member, which has the name of a
+    /// variant with payload.
     #[cycle(decode)]
     pub(crate) fn decode_external(
         &self,
@@ -55,10 +48,8 @@ impl Decoder<'_> {
     {
         match json {
             Json::Text(name) => decode_bare(alloc, variants, name),
-            Json::Object(members) => match members.as_slice().split_first() {
-                Some((member, others)) if are_all_named(&member.name, others) => {
-                    self.decode_payload(alloc, variants, member)
-                }
+            Json::Object(members) => match members.as_slice() {
+                [member] => self.decode_payload(alloc, variants, member),
                 _ => Err(Stop::refused(alloc, FaultKind::WrongKind)),
             },
             _ => Err(Stop::refused(alloc, FaultKind::WrongKind)),

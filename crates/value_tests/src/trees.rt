@@ -4,7 +4,7 @@ use schema_values::{Json, List, Member, Schema, Text};
 use std::alloc::{AllocError, Global};
 use std::test::Fail;
 use typed_values::{
-    DecodeError, Desc, DescTable, Presence, SchemaPlace, Tree, check_desc, check_table,
+    DecodeError, Desc, DescTable, Presence, SchemaPlace, Tree, Variant, check_desc, check_table,
     decode_json, encode_json, fits, schema_of, schema_of_definition,
 };
 
@@ -36,6 +36,28 @@ fn nodes_again(alloc: Global, body: &str) -> Result<Text, AllocError> {
         Ok(json) => again(alloc, &table, &desc, &json),
         Err(_) => Text::from_str(alloc, "not JSON"),
     }
+}
+
+// A value that is read has each name once, so the other is made by hand.
+#[test]
+fn a_payload_that_stands_twice_is_refused(rt: HostRuntime) -> Result<(), Fail> {
+    let alloc = rt.alloc();
+    let mut variants = List::new(alloc);
+    variants.push(Variant {
+        name: Text::from_str(alloc, "box")?,
+        description: None,
+        payload: Some(Desc::Bool),
+    })?;
+    let mut members = List::new(alloc);
+    for _ in 0..2 {
+        let name = Text::from_str(alloc, "box")?;
+        let value = Json::Bool(true);
+        members.push(Member { name, value })?;
+    }
+    let desc = Desc::External { variants };
+    let found = again(alloc, &DescTable::new(alloc), &desc, &Json::Object(members))?;
+    assert_eq!(rt; found.as_str(), "invalid type");
+    Ok(())
 }
 
 #[test]

@@ -4,24 +4,26 @@ use Rattle.std.proofs.Math.Bool.{and-true, and-false, and_comm, or-false}
 use Rattle.std.proofs.lemmas.Bool.{and_parts}
 use Rattle.std.proofs.lemmas.Slice.Eq.{bytes_eq-Decides}
 use Rattle.std.specs.List.{list_all, list_any, AllByRecursion}
-use Rattle.std.specs.Prelude.{◌≢◌}
+use Rattle.std.specs.Prelude.{◌≢◌, ⊤}
 use Rattle.schema_values.specs.declared.json_value.Json.{Json}
 use Rattle.schema_values.specs.declared.json_value.Json.TheOpen.{Json-F}
 use Rattle.schema_values.specs.declared.json_value.Member.{Member}
+use Rattle.schema_values.specs.Member.{name_of}
 use Rattle.schema_values.specs.Sound.{AreDistinct}
 use Rattle.typed_values.specs.declared.desc.Desc.{Desc}
 use Rattle.typed_values.specs.declared.desc.Variant.{Variant}
-use Rattle.typed_values.specs.declared.fault.FaultKind.TheVariants.{WrongKind, NotListed}
+use Rattle.typed_values.specs.declared.fault.FaultKind.TheVariants.{NotListed}
 use Rattle.typed_values.specs.declared.table.Definition.{Definition}
 use Rattle.typed_values.specs.Definitions.{listed_name, variant_name}
-use Rattle.typed_values.specs.Denotes.{told, refused, without_payload, with_payload, are_all_named, external, is_declared, member_name}
+use Rattle.typed_values.specs.Denotes.{told, refused, without_payload, with_payload, external, is_declared, member_name}
 use Rattle.typed_values.specs.DescBeside.{variant_with}
 use Rattle.typed_values.specs.Rows.{told_field, told_fields, struct_row}
 use Rattle.typed_values.specs.SchemaTable.{bare_names, drawn}
 use Rattle.typed_values.proofs.Denoted.{ok_below, ok_all, ok_struct}
+use Rattle.typed_values.proofs.Found.{other_name}
 use Rattle.written_schemas.proofs.Counted.{none_of}
 use Rattle.written_schemas.proofs.Enumerations.{is_named, turned}
-use Rattle.written_schemas.proofs.FoundByName.{any_same, any_and, ok_found, ok_if, ok_chosen}
+use Rattle.written_schemas.proofs.FoundByName.{any_same, ok_found, ok_chosen}
 use Rattle.written_schemas.proofs.Structs.{all_same}
 use Rattle.written_schemas.proofs.VariantForms.{required_of}
 
@@ -65,6 +67,11 @@ ok_without i v = by_payload v.payload refl
     by_payload None e = rw e refl
     by_payload (Some d) e = rw e refl
 
+-- the members of an object have distinct names
+abbrev pub IsNamedOnce : Json-F Json Member → Type 0
+IsNamedOnce (Json-F.Object ms) = AreDistinct (map name_of ms)
+IsNamedOnce _ = ⊤
+
 module _ (table : List Definition) (whole : Desc) where
   -- a payload under its name
   abbrev pub payload_in : Json-F Json Member → List ℕ → Option Desc → Bool
@@ -93,6 +100,10 @@ module _ (table : List Definition) (whole : Desc) where
       by_name : (b : Bool) → cond b true false ≡ b
       by_name true = refl
       by_name false = refl
+
+  -- whether all members have a name
+  abbrev are_all_named : List ℕ → List Member → Bool
+  are_all_named name ms = list_all (λ m. bytes_eq (member_name m) name) ms
 
   payload_row : (m : Member) (ms : List Member) (name : List ℕ) (o : Option Desc) → payload_in (Json-F.Object (m ∷ ms)) name o ≡ (are_all_named m.name ms && (bytes_eq name m.name && payload_at m.value o))
   payload_row m ms name None = sym (ap (λ (b : Bool). are_all_named m.name ms && b) (and-false (bytes_eq name m.name)) ∙ and-false (are_all_named m.name ms))
@@ -125,24 +136,26 @@ module _ (table : List Definition) (whole : Desc) where
   neither y no_name none vs = sym (ap (λ (b : Bool). b || list_any (payload_told y) vs) (none_of (is_named y) no_name (names_bare table vs)) ∙ no_payload y none vs)
 
   -- a name of the enumeration, or the struct of one payload
-  pub external_is : (vs : List Variant) → AreDistinct (map variant_name vs) → (y : Json-F Json Member) → is_ok (external (told table whole) vs y) ≡ (list_any (is_named y) (names_bare table vs) || list_any (payload_told y) vs)
-  external_is vs once Json-F.Null = neither Json-F.Null (λ name. refl) (λ name d. refl) vs
-  external_is vs once (Json-F.Bool b) = neither (Json-F.Bool b) (λ name. refl) (λ name d. refl) vs
-  external_is vs once (Json-F.Int i) = neither (Json-F.Int i) (λ name. refl) (λ name d. refl) vs
-  external_is vs once (Json-F.List js) = neither (Json-F.List js) (λ name. refl) (λ name d. refl) vs
-  external_is vs once (Json-F.Object []) = neither (Json-F.Object []) (λ name. refl) (λ name d. refl) vs
-  external_is vs once (Json-F.Text w) =
+  pub external_is : (vs : List Variant) → AreDistinct (map variant_name vs) → (y : Json-F Json Member) → IsNamedOnce y → is_ok (external (told table whole) vs y) ≡ (list_any (is_named y) (names_bare table vs) || list_any (payload_told y) vs)
+  external_is vs once Json-F.Null apart = neither Json-F.Null (λ name. refl) (λ name d. refl) vs
+  external_is vs once (Json-F.Bool b) apart = neither (Json-F.Bool b) (λ name. refl) (λ name d. refl) vs
+  external_is vs once (Json-F.Int i) apart = neither (Json-F.Int i) (λ name. refl) (λ name d. refl) vs
+  external_is vs once (Json-F.List js) apart = neither (Json-F.List js) (λ name. refl) (λ name d. refl) vs
+  external_is vs once (Json-F.Object []) apart = neither (Json-F.Object []) (λ name. refl) (λ name d. refl) vs
+  external_is vs once (Json-F.Text w) apart =
       ok_found variant_name without_payload (refused NotListed) (λ v. is_none v.payload) refl ok_without w 0 vs once
       ∙ sym (bare_is table w vs)
       ∙ sym (or-false (list_any (bytes_eq w) (names_bare table vs)))
       ∙ ap (λ (b : Bool). list_any (bytes_eq w) (names_bare table vs) || b) (sym (no_payload (Json-F.Text w) (λ name d. refl) vs))
-  external_is vs once (Json-F.Object (m ∷ ms)) =
-      let y = Json-F.Object (m ∷ ms) in
-      ok_if (are_all_named m.name ms) WrongKind _
-      ∙ ap (λ (b : Bool). are_all_named m.name ms && b) (ok_found variant_name (with_payload (told table whole m.value)) (refused NotListed) (λ v. payload_at m.value v.payload) refl (ok_with m.value) m.name 0 vs once)
-      ∙ sym (any_and (are_all_named m.name ms) (λ v. bytes_eq v.name m.name && payload_at m.value v.payload) vs)
-      ∙ any_same _ (payload_told y) (λ v. sym (payload_row m ms v.name v.payload)) vs
+  external_is vs once (Json-F.Object (m ∷ [])) apart =
+      let y = Json-F.Object (m ∷ []) in
+      ok_found variant_name (with_payload (told table whole m.value)) (refused NotListed) (λ v. payload_at m.value v.payload) refl (ok_with m.value) m.name 0 vs once
+      ∙ any_same _ (payload_told y) (λ v. sym (payload_row m [] v.name v.payload)) vs
       ∙ ap (λ (b : Bool). b || list_any (payload_told y) vs) (sym (none_of (is_named y) (λ name. refl) (names_bare table vs)))
+  external_is vs once (Json-F.Object (m ∷ n ∷ ms)) apart =
+      neither (Json-F.Object (m ∷ n ∷ ms)) (λ name. refl)
+      (λ name d. payload_row m (n ∷ ms) name (Some d)
+      ∙ ap (λ (b : Bool). (b && are_all_named m.name ms) && (bytes_eq name m.name && payload_at m.value (Some d))) (other_name n.name m.name (λ e. apart.0.0 (sym e)))) vs
 
   -- a text is no payload
   pub name_or_payload : (y : Json-F Json Member) (names : List (List ℕ)) (vs : List Variant) → list_any (is_named y) names ≡ true → list_any (payload_told y) vs ≡ false

@@ -6,19 +6,13 @@ use Rattle.std.specs.List.{list_any, AllByRecursion}
 use Rattle.std.specs.Prelude.{◌≢◌}
 use Rattle.std.specs.declared.result.Result.TheVariants.{Ok, Err}
 use Rattle.schema_values.specs.Sound.{AreDistinct}
-use Rattle.typed_values.specs.declared.fault.FaultKind.{FaultKind}
-use Rattle.typed_values.specs.Denotes.{Told, chosen, if_holds, named_from, where_found}
+use Rattle.typed_values.specs.Denotes.{Told, chosen, named_from, where_found}
 use Rattle.typed_values.proofs.Fields.{AreDistinct-cons}
 use Rattle.typed_values.proofs.Found.{other_name}
-use Rattle.written_schemas.proofs.Counted.{none_of}
 
 pub any_same : {X : Type 0} (p q : X → Bool) → ((x : X) → p x ≡ q x) → (xs : List X) → list_any p xs ≡ list_any q xs
 any_same p q h [] = refl
 any_same p q h (x ∷ xs) = ap (λ (b : Bool). b || list_any p xs) (h x) ∙ ap (λ (b : Bool). q x || b) (any_same p q h xs)
-
-pub any_and : {X : Type 0} (b : Bool) (p : X → Bool) (xs : List X) → list_any (λ x. b && p x) xs ≡ (b && list_any p xs)
-any_and true p xs = refl
-any_and false p xs = none_of (λ x. false) (λ x. refl) xs
 
 module _ {X : Type 0} (name : X → List ℕ) (told : ℕ → X → Told) (unlisted : Told) (denotes : X → Bool) (none : is_ok unlisted ≡ false) (same : (i : ℕ) (x : X) → is_ok (told i x) ≡ denotes x) (w : List ℕ) where
   abbrev is_told : X → Bool
@@ -40,10 +34,6 @@ module _ {X : Type 0} (name : X → List ℕ) (told : ℕ → X → Told) (unlis
           → is_ok (where_found unlisted told (cond b (Some (i, x)) (named_from name (i + 1) xs w))) ≡ (b && denotes x || list_any is_told xs)
       by_name true e never later = same i x ∙ sym (or-false (denotes x)) ∙ ap (λ (b : Bool). denotes x || b) (sym (never ((bytes_eq-Decides (name x) w).0 e)))
       by_name false e never later = later
-
-pub ok_if : (b : Bool) (kind : FaultKind) (o : Told) → is_ok (if_holds b kind o) ≡ (b && is_ok o)
-ok_if true kind o = refl
-ok_if false kind o = refl
 
 pub ok_chosen : (i : ℕ) (o : Told) → is_ok (chosen i o) ≡ is_ok o
 ok_chosen i (Ok tree) = refl

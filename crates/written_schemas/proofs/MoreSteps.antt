@@ -14,11 +14,11 @@ use Rattle.typed_values.specs.declared.desc.TaggedVariant.{TaggedVariant}
 use Rattle.typed_values.specs.declared.desc.Variant.{Variant}
 use Rattle.typed_values.specs.declared.table.Definition.{Definition}
 use Rattle.typed_values.specs.declared.tree.Tree.{Tree, List as Items, Map as Entries, Fields as Parts}
-use Rattle.typed_values.specs.declared.fault.FaultKind.TheVariants.{WrongKind, BadLength, NotListed}
+use Rattle.typed_values.specs.declared.fault.FaultKind.TheVariants.{BadLength, NotListed}
 use Rattle.typed_values.specs.Bounds.{is_length_within}
 use Rattle.typed_values.specs.Checks.{TablePasses, DescPasses}
 use Rattle.typed_values.specs.Definitions.{definition, entry_of, variant_name, tagged_name, tagged_fields}
-use Rattle.typed_values.specs.Denotes.{Told, told, told_within, room, nodes, refused, below, chosen, named_from, where_found, with_payload, are_all_named, external, at_tag, by_tag, tagged, and_then, all_told, as_tree, as_pair, if_holds, member_name, optional, or_else, first_told, value_named, by_presence, unless_denied, denied_name, at_definition}
+use Rattle.typed_values.specs.Denotes.{Told, told, told_within, room, nodes, refused, below, chosen, named_from, where_found, with_payload, external, at_tag, by_tag, tagged, and_then, all_told, as_tree, as_pair, if_holds, member_name, optional, or_else, first_told, value_named, by_presence, unless_denied, denied_name, at_definition}
 use Rattle.typed_values.specs.Faults.{Trouble}
 use Rattle.typed_values.specs.Order.{sorted_by}
 use Rattle.typed_values.specs.Parts.{the_whole}
@@ -175,10 +175,10 @@ module _ (table : List Definition) (whole more : Desc) (sound : IsSound table wh
   same_external vs need (Json-F.Text w) h = refl
   same_external vs need (Json-F.List js) h = refl
   same_external vs need (Json-F.Object []) h = refl
-  same_external vs need (Json-F.Object (m ∷ ms)) h =
-      ap (λ (o : Told). if_holds (are_all_named m.name ms) WrongKind o)
-      (found_alike variant_name (refused NotListed) (with_payload (told table more m.value)) (with_payload (told table whole m.value)) m.name 0 vs
-      (λ i v c. payload_alike (told table more m.value) (told table whole m.value) i v v.payload refl (λ x e. h.0 x (need v x c e))))
+  same_external vs need (Json-F.Object (m ∷ [])) h =
+      found_alike variant_name (refused NotListed) (with_payload (told table more m.value)) (with_payload (told table whole m.value)) m.name 0 vs
+      (λ i v c. payload_alike (told table more m.value) (told table whole m.value) i v v.payload refl (λ x e. h.0 x (need v x c e)))
+  same_external vs need (Json-F.Object (m ∷ n ∷ ms)) h = refl
 
   same_tagged : (tag : List ℕ) (vs : List TaggedVariant) → ((v : TaggedVariant) (f : Field) → Contains vs v → Contains (tagged_fields v) f → IsNeeded table whole f.desc) → (y : Json-F Json Member) → OfParts Same y
       → tagged (λ j. j) (λ fs. struct_row table more fs false y) tag vs y ≡ tagged (λ j. j) (λ fs. struct_row table whole fs false y) tag vs y

@@ -4,6 +4,8 @@ use Rattle.std.proofs.lemmas.List.Sums.{sum_by-append, sum_by-cons}
 use Rattle.std.specs.List.{list_any}
 use Rattle.std.specs.Prelude.{Contains}
 use Rattle.schema_values.specs.declared.json_value.Json.{Json, out-Json, List as Items}
+use Rattle.schema_values.specs.declared.json_value.Json.TheOpen.{Json-F}
+use Rattle.schema_values.specs.declared.json_value.Member.{Member}
 use Rattle.schema_values.specs.Member.{member}
 use Rattle.schema_values.specs.Sound.{AreDistinct}
 use Rattle.openapi_values.specs.JsonAdmits.{admits_within}
@@ -27,7 +29,7 @@ use Rattle.written_schemas.proofs.Counted.{count, either_counted, counted_once, 
 use Rattle.written_schemas.proofs.Enumerations.{is_named}
 use Rattle.written_schemas.proofs.Forms.{fields_drawn}
 use Rattle.written_schemas.proofs.Structs.{struct_admits}
-use Rattle.written_schemas.proofs.ExternalVariants.{payload_in, payload_told, names_bare, bare_distinct, external_is, name_or_payload, payload_once}
+use Rattle.written_schemas.proofs.ExternalVariants.{payload_in, payload_told, names_bare, bare_distinct, IsNamedOnce, external_is, name_or_payload, payload_once}
 use Rattle.written_schemas.proofs.TaggedVariants.{told_alone, tagged_is, tag_once}
 use Rattle.written_schemas.proofs.VariantForms.{required_of, alone, behind_tag, drawn_alone, tagged_is_struct}
 
@@ -85,13 +87,21 @@ module _ (table : List Definition) (whole : Desc) (doc : Json) (q : ℕ) (j : Js
         ∙ ap (λ (n : ℕ). count name_told + n) (payloads_counted k vs need ∙ counted_once variant_name (payload_told table whole (out-Json j)) (payload_once table whole (out-Json j)) vs once)
         ∙ either_counted name_told payloads_told (name_or_payload table whole (out-Json j) (names_bare table vs) vs)
 
+    named_once : (y : Json-F Json Member) → Below table whole doc q y → IsNamedOnce y
+    named_once Json-F.Null h = tt
+    named_once (Json-F.Bool b) h = tt
+    named_once (Json-F.Int i) h = tt
+    named_once (Json-F.Text w) h = tt
+    named_once (Json-F.List js) h = tt
+    named_once (Json-F.Object ms) h = h.1
+
     pub external_agrees : drawn table d ≡ plain (member (codes "oneOf") (Items (external_choices (map (variant_with (drawn table)) vs))) ∷ []) → told table whole j d ≡ external (told table whole) vs (out-Json j)
         → (m : ℕ) → 2 ≤ m → AgreesAt table whole doc q j m d
     external_agrees e same zero le = absurd (omega (arith, le))
     external_agrees e same (suc zero) le = absurd (omega (arith, le))
     external_agrees e same (suc (suc k)) le =
         one_agrees table whole doc q j d (external_choices (map (variant_with (drawn table)) vs)) (suc k) (name_told || payloads_told) e (external_counted k)
-        (sym (external_is table whole vs once (out-Json j)) ∙ ap (λ (o : Told). is_ok o) (sym same))
+        (sym (external_is table whole vs once (out-Json j) (named_once (out-Json j) smaller)) ∙ ap (λ (o : Told). is_ok o) (sym same))
 
   -- ---- tagged enumerations
 

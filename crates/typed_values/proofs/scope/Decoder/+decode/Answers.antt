@@ -1,4 +1,4 @@
-use Rattle.std.proofs.Common.{ℕ, suc, true, ◌≡◌, ◌+◌, List, map, refl, sym, ◌∙◌, ap, arith, length, drop, Bor, ◌<◌, ◌∷◌, Option, Some, None, subst}
+use Rattle.std.proofs.Common.{ℕ, suc, true, ◌≡◌, ◌+◌, List, map, refl, sym, ◌∙◌, ap, arith, length, drop, Bor, ◌<◌, ◌≤◌, Option, Some, None, subst}
 use Rattle.std.proofs.lemmas.List.{length-map}
 use Rattle.std.proofs.lemmas.Result.{err_from_is_err_and}
 use Rattle.std.specs.Prelude.{IfSome}
@@ -25,7 +25,7 @@ use Rattle.typed_values.proofs.Arms.{row_any, row_never, row_nought, row_bool, r
 use Rattle.typed_values.proofs.Inside.{part_of_option, part_of_list, part_of_map, parts_of_untagged, fields_of_struct, payloads_of_external, variants_of_tagged, few_names, few_variants, few_tagged, few_alternatives}
 use Rattle.typed_values.proofs.Listed.{place_below, found_inside}
 use Rattle.typed_values.proofs.Loops.{after, all_step, all_err, all_end, items_within}
-use Rattle.typed_values.proofs.JsonSizes.{size_list, item_smaller, member_greater, entry_at_most, value_smaller, members-lt-alone}
+use Rattle.typed_values.proofs.JsonSizes.{size_list, item_smaller, member_greater, member_at_most, entry_at_most, value_smaller, members-lt-alone}
 use Rattle.typed_values.proofs.Measure.{option-lt, ref-lt, choice-lt-at, at-lt-choice, alone-lt-at, at-lt-alone, alone-le-alone, size_alone}
 use Rattle.typed_values.proofs.Places.{taken_behind}
 use Rattle.typed_values.proofs.scope.Decoder.+decode.Goals as goal
@@ -266,11 +266,10 @@ decode_untagged-decode_at-requires t c =
 
 pub decode_external-decode_payload-requires : goal.decode_external-decode_payload-requires
 decode_external-decode_payload-requires t c =
-    let m = c.in-Some.member.now in
+    let m = c.member-item.result in
     let inner = members-lt-alone c.args.self.now.table.now c.args.self.now.whole.now c.args.json.now c.in-Object.members c.in-Object.is in
-    let same : c.in-Object.members ≡ m ∷ c.in-Some.others.now = sym c.as_slice.ensures ∙ c.in-Some.ensures.cases.0 in
-    let most_is : most size-Member c.in-Object.members ≡ most size-Member (m ∷ c.in-Some.others.now) = ap (most size-Member) same in
-    let less = alone-le-alone c.args.self.now.table.now c.args.self.now.whole.now (size-Member m) (most size-Member c.in-Object.members) (omega (arith, most_is)) in
+    let here = subst (λ ms. size-Member m ≤ most size-Member ms) c.as_slice.ensures (member_at_most c.as_slice.result.now 0 m c.in-len1.len_at_least c.member-item.is) in
+    let less = alone-le-alone c.args.self.now.table.now c.args.self.now.whole.now (size-Member m) (most size-Member c.in-Object.members) here in
     (omega (arith, c.decreases, inner, less), (c.requires.parts, c.requires.few))
 
 pub decode_payload-decode_at-requires : goal.decode_payload-decode_at-requires
