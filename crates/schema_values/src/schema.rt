@@ -124,16 +124,16 @@ pub struct Subschemas {
     pub not: Option<Schema>,
 }
 
-/// The bounds of a number. Of each side at most one form stands.
+/// The bounds of a number. `j2oas_schema` refuses a bound that stands in both its forms.
 #[derive(Drop)]
 pub struct NumberBounds {
     /// The least number.
     pub minimum: Option<i128>,
-    /// A number below all.
+    /// Each value is above it.
     pub exclusive_minimum: Option<i128>,
     /// The greatest number.
     pub maximum: Option<i128>,
-    /// A number above all.
+    /// Each value is below it.
     pub exclusive_maximum: Option<i128>,
 }
 
