@@ -2,15 +2,16 @@
 
 ghost use Rattle.std.specs.Prelude.{◌≡◌, IfOk};
 ghost use Rattle.std.specs.Option.{option_copied};
-ghost use Rattle.schema_util.specs.Descriptions.{extensions_of, is_empty as empty, is_not_of_all, lone_member, only, says_nothing, taken_apart, undescribed};
+ghost use Rattle.schema_util.specs.Descriptions.{extensions_of, is_empty as empty, is_not_of_all};
+ghost use Rattle.schema_util.specs.Descriptions.{lone_member, only, says_nothing, taken_apart, undescribed};
 ghost use Rattle.schema_util.specs.Forms.{form_of, kind_of, schema_form};
 
 use crate::form::{Form, Kind};
 use schema_values::{Boxed, List, Member, Schema, SchemaObject, Subschemas, Text};
 use std::alloc::{AllocError, Global};
 
-/// The description of a schema, and the schema without it: the one member of an `all_of` that is the only part, or
-/// else the schema without title, description, default and the truth values of annotations.
+/// The description of a schema, and the schema without it: the one member of an `all_of` that is the only
+/// part, or else the schema without title, description, default and the truth values of annotations.
 pub fn schema_extract_description(
     alloc: Global,
     schema: &Schema,
@@ -76,8 +77,8 @@ pub fn schema_extensions(schema: &Schema) -> Option<&List<Member>>
     }
 }
 
-/// Whether a schema says that there is no value: it is false, or its only part is the `not` of a schema that says
-/// nothing. Takes no memory.
+/// Whether a schema says that there is no value: it is false, or its only part is the `not` of a schema
+/// that says nothing. Takes no memory.
 pub fn is_empty(schema: &Schema) -> bool
     ensures { result ≡ empty (schema_form schema.now) }
 {

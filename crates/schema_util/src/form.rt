@@ -5,8 +5,8 @@ ghost use Rattle.schema_util.specs.Forms.{form_of, is_limited, kind_of, kind_see
 
 use schema_values::{InstanceTypes, List, ObjectParts, Schema, SchemaObject, Subschemas, Text};
 
-/// The parts of a schema object. Annotations (title, description, default, the truth values and extensions) are no
-/// parts.
+/// The parts of a schema object. Annotations (title, description, default, the truth values and extensions)
+/// are no parts.
 #[derive(Clone, Copy)]
 pub(crate) enum Form<'a> {
     /// No part.

@@ -15,12 +15,14 @@ pub fn comes_to_once()
 
 /// One thing is told of a schema: its first fault, or that there is none.
 pub fn told_once()
-    ensures { (sought : Sought) (names : Names) (met : List (List ℕ)) (schema : Schema) (fault other : Option Fault)
+    ensures { (sought : Sought) (names : Names) (met : List (List ℕ)) (schema : Schema)
+        (fault other : Option Fault)
         → IsTold sought names met schema fault → IsTold sought names met schema other → fault ≡ other }
 {}
 
 /// A schema gives one list of members, or one reason why it gives none.
 pub fn gives_once()
-    ensures { (names : Names) (met : List (List ℕ)) (required : Bool) (schema : Schema) (end other : Result (List StructMember) Misfit)
+    ensures { (names : Names) (met : List (List ℕ)) (required : Bool) (schema : Schema)
+        (end other : Result (List StructMember) Misfit)
         → Gives names met required schema end → Gives names met required schema other → end ≡ other }
 {}

@@ -4,7 +4,8 @@ ghost use Rattle.std.specs.Prelude.{◌≡◌, ℕ, [], List, Ok, Err, IfOk, IfE
 ghost use Rattle.std.specs.HashMap.{get_by_text};
 ghost use Rattle.std.specs.Option.{option_copied};
 ghost use Rattle.schema_util.specs.Met.{all_met};
-ghost use Rattle.schema_util.specs.References.{ComesTo, came_to, leads_to, name_in, reference_of, step as leads, told};
+ghost use Rattle.schema_util.specs.References.{ComesTo, came_to, leads_to, name_in, reference_of};
+ghost use Rattle.schema_util.specs.References.{step as leads, told};
 
 use crate::form::Form;
 use crate::met::{Met, is_met};
@@ -21,14 +22,16 @@ pub enum ResolveError<'a> {
 
 /// The first schema on the way along references that is no reference itself. Takes no memory.
 ///
-/// A reference has the form `#/components/schemas/NAME` and stands alone beside annotations. Each name is compared
-/// with those that were met before it.
+/// A reference has the form `#/components/schemas/NAME` and stands alone beside annotations. Each name is
+/// compared with those that were met before it.
 pub fn resolve<'a>(
     schema: &'a Schema,
     definitions: &'a Definitions,
 ) -> Result<&'a Schema, ResolveError<'a>>
-    ensures resolved { IfOk result (λ found. ComesTo (get_by_text definitions.now) [] schema.now (Ok found.now)) }
-    ensures refused { IfErr result (λ error. ComesTo (get_by_text definitions.now) [] schema.now (Err (told error))) }
+    ensures resolved { IfOk result (λ found. ComesTo (get_by_text definitions.now) [] schema.now
+        (Ok found.now)) }
+    ensures refused { IfErr result (λ error. ComesTo (get_by_text definitions.now) [] schema.now (Err
+        (told error))) }
 {
     resolve_behind(schema, definitions, None)
 }
@@ -39,7 +42,8 @@ fn resolve_behind<'a>(
     definitions: &'a Definitions,
     met: Option<&Met<'_>>,
 ) -> Result<&'a Schema, ResolveError<'a>>
-    ensures { ComesTo (get_by_text definitions.now) (all_met (option_copied met.entry)) schema.now (came_to result) }
+    ensures { ComesTo (get_by_text definitions.now) (all_met (option_copied met.entry)) schema.now
+        (came_to result) }
 {
     let Some(reference) = reference_of(schema) else {
         return Ok(schema);
@@ -54,7 +58,8 @@ pub(crate) fn step<'a>(
     definitions: &'a Definitions,
     met: Option<&Met<'_>>,
 ) -> Result<(&'a str, &'a Schema), ResolveError<'a>>
-    ensures { leads_to result ≡ leads (get_by_text definitions.now) (all_met (option_copied met.entry)) reference.now }
+    ensures { leads_to result ≡ leads (get_by_text definitions.now) (all_met (option_copied met.entry))
+        reference.now }
 {
     let Some(name) = name_in(reference) else {
         return Err(ResolveError::Dangling(reference));

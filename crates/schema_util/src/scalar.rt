@@ -6,7 +6,9 @@ ghost use Rattle.std.specs.Option.{option_copied};
 ghost use Rattle.schema_values.specs.declared.schema.ArrayParts.{out-ArrayParts};
 ghost use Rattle.schema_util.specs.Forms.{kind_of};
 ghost use Rattle.schema_util.specs.Met.{all_met};
-ghost use Rattle.schema_util.specs.Scalars.{scalars, texts, is_sought, single_type, asked_of, asked, is_none, IsTold, AreTold, one_item, item_of, IsToldOfList, sought_by, found, said};
+ghost use Rattle.schema_util.specs.Scalars.{scalars, texts, is_sought, single_type, asked_of, asked};
+ghost use Rattle.schema_util.specs.Scalars.{is_none, IsTold, AreTold, one_item, item_of, IsToldOfList};
+ghost use Rattle.schema_util.specs.Scalars.{sought_by, found, said};
 
 use crate::form::{Form, Kind};
 use crate::met::Met;
@@ -15,7 +17,8 @@ use schema_values::{
     ArrayParts, Definitions, InstanceType, InstanceTypes, Items, Schema, SchemaObject, Subschemas,
 };
 
-/// Why a schema is not what is asked for: the first cause, from left to right, inner schemas where they stand.
+/// Why a schema is not what is asked for: the first cause, from left to right, inner schemas where they
+/// stand.
 #[derive(Clone, Copy, Debug, PartialEq, Eq)]
 pub enum ScalarError<'a> {
     /// A schema is not that of a scalar value.
@@ -79,7 +82,8 @@ pub fn type_is_scalar<'a>(
     definitions: &'a Definitions,
 ) -> Result<(), ScalarError<'a>>
     ensures scalar { OnOk result (IsTold scalars (get_by_text definitions.now) [] schema.now None) }
-    ensures refused { IfErr result (λ error. IsTold scalars (get_by_text definitions.now) [] schema.now (Some (said error))) }
+    ensures refused { IfErr result (λ error. IsTold scalars (get_by_text definitions.now) [] schema.now
+        (Some (said error))) }
 {
     tested(Wanted::Scalar, schema, definitions, None)
 }
@@ -90,7 +94,8 @@ pub fn type_is_string<'a>(
     definitions: &'a Definitions,
 ) -> Result<(), ScalarError<'a>>
     ensures text { OnOk result (IsTold texts (get_by_text definitions.now) [] schema.now None) }
-    ensures refused { IfErr result (λ error. IsTold texts (get_by_text definitions.now) [] schema.now (Some (said error))) }
+    ensures refused { IfErr result (λ error. IsTold texts (get_by_text definitions.now) [] schema.now
+        (Some (said error))) }
 {
     tested(Wanted::Text, schema, definitions, None)
 }
@@ -101,7 +106,8 @@ pub fn type_is_string_enum<'a>(
     definitions: &'a Definitions,
 ) -> Result<(), ScalarError<'a>>
     ensures list { OnOk result (IsToldOfList (get_by_text definitions.now) schema.now None) }
-    ensures refused { IfErr result (λ error. IsToldOfList (get_by_text definitions.now) schema.now (Some (said error))) }
+    ensures refused { IfErr result (λ error. IsToldOfList (get_by_text definitions.now) schema.now
+        (Some (said error))) }
 {
     match items_of(resolve(schema, definitions)?) {
         Some(item) => type_is_string(item, definitions),
@@ -132,8 +138,10 @@ fn tested<'a>(
     definitions: &'a Definitions,
     met: Option<&Met<'_>>,
 ) -> Result<(), ScalarError<'a>>
-    ensures fits { OnOk result (IsTold (sought_by wanted) (get_by_text definitions.now) (all_met (option_copied met.entry)) schema.now None) }
-    ensures faulty { IfErr result (λ error. IsTold (sought_by wanted) (get_by_text definitions.now) (all_met (option_copied met.entry)) schema.now (Some (said error))) }
+    ensures fits { OnOk result (IsTold (sought_by wanted) (get_by_text definitions.now)
+        (all_met (option_copied met.entry)) schema.now None) }
+    ensures faulty { IfErr result (λ error. IsTold (sought_by wanted) (get_by_text definitions.now)
+        (all_met (option_copied met.entry)) schema.now (Some (said error))) }
 {
     match look_into(wanted, schema) {
         Finding::Reference(reference) => {
@@ -153,8 +161,10 @@ fn all_tested<'a>(
     definitions: &'a Definitions,
     met: Option<&Met<'_>>,
 ) -> Result<(), ScalarError<'a>>
-    ensures fit { OnOk result (AreTold (sought_by wanted) (get_by_text definitions.now) (all_met (option_copied met.entry)) members.now None) }
-    ensures faulty { IfErr result (λ error. AreTold (sought_by wanted) (get_by_text definitions.now) (all_met (option_copied met.entry)) members.now (Some (said error))) }
+    ensures fit { OnOk result (AreTold (sought_by wanted) (get_by_text definitions.now)
+        (all_met (option_copied met.entry)) members.now None) }
+    ensures faulty { IfErr result (λ error. AreTold (sought_by wanted) (get_by_text definitions.now)
+        (all_met (option_copied met.entry)) members.now (Some (said error))) }
 {
     for member in members {
         tested(wanted, member, definitions, met)?;

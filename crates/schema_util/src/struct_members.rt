@@ -8,7 +8,9 @@ ghost use Rattle.schema_values.specs.declared.schema.ObjectParts.{out-ObjectPart
 ghost use Rattle.schema_util.specs.Forms.{kind_of};
 ghost use Rattle.schema_util.specs.Met.{all_met};
 ghost use Rattle.schema_util.specs.References.{told};
-ghost use Rattle.schema_util.specs.StructMembers.{beside, beside_of, broken, found_beside, is_named, member_of, misfit_of, own_members, Gives, GiveAll, HasGiven, HaveGiven};
+ghost use Rattle.schema_util.specs.StructMembers.{beside, beside_of, broken, found_beside, is_named};
+ghost use Rattle.schema_util.specs.StructMembers.{member_of, misfit_of, own_members, Gives, GiveAll};
+ghost use Rattle.schema_util.specs.StructMembers.{HasGiven, HaveGiven};
 
 use crate::description::schema_extract_description;
 use crate::form::{Form, Kind};
@@ -75,8 +77,9 @@ fn text_of(alloc: Global, name: &str) -> Result<Text, AllocError>
     Text::from_str(alloc, name)
 }
 
-/// The members of a struct: its properties in the order in which they stand, and then those of its subschemas,
-/// which no value must have where they stand in `any_of`. With `required` false no member is required.
+/// The members of a struct: its properties in the order in which they stand, and then those of its
+/// subschemas, which no value must have where they stand in `any_of`. With `required` false no member is
+/// required.
 ///
 /// A definition is looked into anew at each reference to it.
 pub fn schema2struct(
@@ -85,7 +88,8 @@ pub fn schema2struct(
     definitions: &Definitions,
     required: bool,
 ) -> Result<List<StructMember>, Schema2StructError>
-    ensures members { IfOk result (λ members. Gives (get_by_text definitions.now) [] required schema.now (Ok members)) }
+    ensures members { IfOk result (λ members. Gives (get_by_text definitions.now) [] required schema.now
+        (Ok members)) }
     ensures refused { IfErr result (λ error. IfSome (misfit_of error)
         (λ why. Gives (get_by_text definitions.now) [] required schema.now (Err why))) }
 {
@@ -104,9 +108,11 @@ fn add_struct(
     required: bool,
     met: Option<&Met<'_>>,
 ) -> Result<(), Schema2StructError>
-    ensures added { OnOk result (HasGiven (get_by_text definitions.now) (all_met (option_copied met.entry)) required schema.now members.old members.new) }
+    ensures added { OnOk result (HasGiven (get_by_text definitions.now) (all_met (option_copied met.entry))
+        required schema.now members.old members.new) }
     ensures refused { IfErr result (λ error. IfSome (misfit_of error)
-        (λ why. Gives (get_by_text definitions.now) (all_met (option_copied met.entry)) required schema.now (Err why))) }
+        (λ why. Gives (get_by_text definitions.now) (all_met (option_copied met.entry)) required schema.now
+        (Err why))) }
 {
     if let Some(reference) = reference_of(schema) {
         return match step(reference, definitions, met) {
@@ -145,9 +151,11 @@ fn add_each(
     required: bool,
     met: Option<&Met<'_>>,
 ) -> Result<(), Schema2StructError>
-    ensures added { OnOk result (HaveGiven (get_by_text definitions.now) (all_met (option_copied met.entry)) required schemas.now members.old members.new) }
+    ensures added { OnOk result (HaveGiven (get_by_text definitions.now) (all_met
+        (option_copied met.entry)) required schemas.now members.old members.new) }
     ensures refused { IfErr result (λ error. IfSome (misfit_of error)
-        (λ why. GiveAll (get_by_text definitions.now) (all_met (option_copied met.entry)) required schemas.now (Err why))) }
+        (λ why. GiveAll (get_by_text definitions.now) (all_met (option_copied met.entry)) required
+        schemas.now (Err why))) }
 {
     for schema in schemas {
         add_struct(alloc, members, schema, definitions, required, met)?;
@@ -176,7 +184,8 @@ fn add_own(
     required: bool,
 ) -> Result<(), AllocError>
     ensures { OnOk result (members.new ≡ members.old
-        ++ map (member_of required (out-ObjectParts parts.now).required) (out-ObjectParts parts.now).properties) }
+        ++ map (member_of required (out-ObjectParts parts.now).required)
+        (out-ObjectParts parts.now).properties) }
 {
     for property in parts.properties.as_slice() {
         let member = member(alloc, property, required, parts.required.as_slice())?;
