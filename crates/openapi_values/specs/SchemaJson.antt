@@ -145,6 +145,10 @@ const_values = option_map (λ value. value ∷ [])
 abbrev pub values_of : Option Json → Option (List Json) → Option (List Json)
 values_of const values = option_or (const_values const) values
 
+-- the values of the type of null: that of a const alone, else null
+abbrev pub null_values : Option Json → List Json
+null_values const = unwrap_or (const_values const) (NullJson ∷ [])
+
 -- some values as `enum`
 abbrev pub enum_entries : Option (List Json) → List Entry
 enum_entries values = (codes "enum", values_json values) ∷ []
@@ -177,7 +181,7 @@ text_entries format bounds values =
 
 -- the members that a type has beside its name; the type of null has null as its one value, unless a const is given
 abbrev pub kind_entries : InstanceType → Level SchemaObject-F → List Entry
-kind_entries Null schema = enum_entries (Some (unwrap_or (const_values schema.const_value) (NullJson ∷ [])))
+kind_entries Null schema = enum_entries (Some (null_values schema.const_value))
 kind_entries Boolean schema = enum_entries (values_of schema.const_value schema.enum_values)
 kind_entries Object schema = enum_entries (const_values schema.const_value) ++ unwrap_or schema.object []
 kind_entries Array schema = enum_entries (const_values schema.const_value) ++ unwrap_or schema.array []

@@ -1,14 +1,14 @@
 ghost use Rattle.std.specs.Prelude.{◌≡◌, ◌++◌, ◌∷◌, [], IfOk, OnOk, Some, codes, map, option_map};
-ghost use Rattle.std.specs.Prelude.{option_and_then, unwrap_or};
+ghost use Rattle.std.specs.Prelude.{option_and_then};
 ghost use Rattle.std.specs.Option.{option_or, option_map_or};
 ghost use Rattle.schema_values.specs.Get.{first_named};
-ghost use Rattle.schema_values.specs.declared.json_value.Json.{Text as TextOf, Null as NullJson};
+ghost use Rattle.schema_values.specs.declared.json_value.Json.{Text as TextOf};
 ghost use Rattle.schema_values.specs.declared.schema.SchemaObject.{out-SchemaObject};
 ghost use Rattle.openapi_values.specs.Objects.{members_of};
 ghost use Rattle.openapi_values.specs.SchemaJson.{annotations, extension_entries};
 ghost use Rattle.openapi_values.specs.SchemaJson.{number_entries, bound_entries, text_entries};
 ghost use Rattle.openapi_values.specs.SchemaJson.{bound_json as json_of_bound, nothing_entries};
-ghost use Rattle.openapi_values.specs.SchemaJson.{enum_entries, const_values, values_of};
+ghost use Rattle.openapi_values.specs.SchemaJson.{enum_entries, const_values, null_values, values_of};
 ghost use Rattle.openapi_values.specs.SchemaJson.{values_json as json_of_values, without_values};
 ghost use Rattle.openapi_values.specs.SchemaJson.{count_json as count_of, names_json};
 ghost use Rattle.openapi_values.specs.SchemaJson.{truth_json as json_of_truth, type_name};
@@ -298,7 +298,7 @@ pub fn add_null(
     schema: &SchemaObject,
 ) -> Result<(), AllocError>
     ensures { OnOk result (members.new ≡ members.old ++ members_of
-        (enum_entries (Some (unwrap_or (const_values (out-SchemaObject schema.now).const_value) (NullJson ∷ []))))) }
+        (enum_entries (Some (null_values (out-SchemaObject schema.now).const_value)))) }
 {
     match &schema.const_value {
         Some(value) => add_one_value(alloc, members, value.copy(alloc)?),

@@ -1,7 +1,8 @@
 ghost use Rattle.std.specs.Prelude.{◌≡◌, ◌++◌, IfOk, OnOk, [], map, option_map, unwrap_or};
 ghost use Rattle.schema_values.specs.declared.schema.ObjectParts.{out-ObjectParts};
 ghost use Rattle.schema_values.specs.declared.schema.SchemaObject.{out-SchemaObject};
-ghost use Rattle.schema_values.specs.declared.schema.InstanceType.TheVariants.{Object as ObjectType, Array as ArrayType};
+ghost use Rattle.schema_values.specs.declared.schema.InstanceType.TheVariants.{Object as ObjectType};
+ghost use Rattle.schema_values.specs.declared.schema.InstanceType.TheVariants.{Array as ArrayType};
 ghost use Rattle.openapi_values.specs.Objects.{members_of, unless_empty, pair_member};
 ghost use Rattle.openapi_values.specs.SchemaJson.{untitled, additional_json as json_of_additional};
 ghost use Rattle.openapi_values.specs.SchemaJson.{schemas_json as json_of_schemas, kind_entries};

@@ -48,7 +48,8 @@ item_json-returns-in-One t c =
 
 pub item_json-returns-in_ok-list_json-in-Tuple : goal.item_json-returns-in_ok-list_json-in-Tuple
 item_json-returns-in_ok-list_json-in-Tuple t c =
-    rw (c.in-Tuple.is, tuple-is c.in-Tuple.schemas, ← c.as_slice.ensures) (ap ListOf c.in_ok-list_json.ensures)
+    ap ListOf (c.in_ok-list_json-in-Tuple.ensures ∙ ap (λ schemas. map untitled (map schema_written schemas)) c.as_slice.ensures)
+    ∙ sym (ap items_written c.in-Tuple.is ∙ tuple-is c.in-Tuple.schemas)
 
 pub add_object_parts-returns : goal.add_object_parts-returns
 add_object_parts-returns t c =
