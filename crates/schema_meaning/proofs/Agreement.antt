@@ -1,8 +1,9 @@
 -- A schema admits what it is written as admits, with any steps that its chains leave over.
-use Rattle.std.proofs.Common.{◌≡◌, ℕ, zero, suc, ◌≤◌, Bool, true, false, ◌&&◌, List, [], ◌∷◌, Option, Some, None, ◌++◌, length, ◌==◌, option_map, option_and_then, unwrap_or, cond, refl, sym, subst, ◌∙◌, ap, ap₂, arith, inl, inr}
+use Rattle.std.proofs.Common.{◌≡◌, ℕ, zero, suc, ◌≤◌, Bool, true, false, ◌&&◌, List, [], ◌∷◌, Option, Some, None, ◌++◌, length, ◌==◌, option_map, option_and_then, unwrap_or, cond, refl, sym, subst, ◌∙◌, ap, arith, inl, inr}
+use Rattle.std.proofs.Math.Bool.{and-false}
 use Rattle.std.specs.List.{AllByRecursion}
 use Rattle.std.specs.Option.{option_map_or}
-use Rattle.std.specs.Prelude.{codes, Contains}
+use Rattle.std.specs.Prelude.{codes, Contains, IfSome}
 use Rattle.schema_values.specs.declared.json_value.Json.{Json, Bool as Truth, Text as Words, Object as ObjectOf, out-Json}
 use Rattle.schema_values.specs.declared.json_value.Json.TheOpen.{Json-F}
 use Rattle.schema_values.specs.declared.json_value.Json.TheVariants as json
@@ -19,23 +20,23 @@ use Rattle.openapi_values.specs.Levels.{Level, as_text, as_object}
 use Rattle.openapi_values.specs.Lookup.{definition}
 use Rattle.openapi_values.specs.Objects.{object_of, reference_json}
 use Rattle.openapi_values.specs.Options.{is_some_and}
-use Rattle.openapi_values.specs.SchemaJson.{Written, truth_json, nothing_entries, annotations, entries_behind, object_step, without_values, schema_json}
+use Rattle.openapi_values.specs.SchemaJson.{Written, truth_json, annotations, entries_behind, without_values, schema_json}
 use Rattle.openapi_values.specs.Smaller.{smaller_admits as written_smaller}
 use Rattle.openapi_values.proofs.Steps.{admits-zero as written-zero, admits-suc as written-suc}
-use Rattle.schema_meaning.specs.Accepted.{IsEmpty, IsAccepted}
+use Rattle.schema_meaning.specs.Accepted.{IsEmpty, SubschemasAreRead, IsAccepted}
 use Rattle.schema_meaning.specs.Asked.{parts_hold}
 use Rattle.schema_meaning.specs.Definitions.{Definitions, schema_named, name_in, name_referred}
 use Rattle.schema_meaning.specs.Forms.{SchemaLevel, level_by_form}
-use Rattle.schema_meaning.specs.Meaning.{object_admits, schema_admits, admits_within}
-use Rattle.schema_meaning.specs.Reached.{members_of, if_any, smaller_schemas, stands_alone, beside_in, below_in, beside, below, LeadsTo, subschema, referred, IsReached, same_value, smaller_value}
+use Rattle.schema_meaning.specs.Meaning.{object_admits, admits_within}
+use Rattle.schema_meaning.specs.Reached.{combined_schemas, if_any, smaller_schemas, stands_alone, beside_in, below_in, beside, below, LeadsTo, subschema, referred, IsReached, same_value, smaller_value}
 use Rattle.schema_meaning.specs.Written.{DefinesReached}
 use Rattle.schema_meaning.proofs.Among.{among_first, among_right}
 use Rattle.schema_meaning.proofs.Chains.{Rests}
 use Rattle.schema_meaning.proofs.Members.{MeanOf}
 use Rattle.schema_meaning.proofs.NotRefused.{unrefused}
-use Rattle.schema_meaning.proofs.ObjectMeanings.{and-false, PartsOf, InsideAgrees, object_admits as object_agrees}
+use Rattle.schema_meaning.proofs.ObjectMeanings.{PartsOf, object_admits as object_agrees}
 use Rattle.schema_meaning.proofs.Parts.{OfParts, by_parts}
-use Rattle.schema_meaning.proofs.Steps.{smaller_admits, admits-zero, admits-suc}
+use Rattle.schema_meaning.proofs.Steps.{smaller_admits, admits-suc}
 use Rattle.schema_meaning.proofs.WrittenLevels.{json_of, truth-is, by_parts-is, level_of}
 
 -- ---- truth values and references
@@ -93,6 +94,9 @@ empty_told definitions r (suc n) j s le (inr (o, e, f)) =
     by_level (Json-F.List xs) = refl
     by_level (Json-F.Object ms) = refl
 
+of_some : {A : Type 0} (P : A → Type 0) (o : Option A) (x : A) → o ≡ Some x → IfSome o P → P x
+of_some {A} P o x e h = subst (λ (o : Option A). IfSome o P) e h
+
 some_left : (definitions : Definitions) (n : ℕ) (s : Schema) → Rests definitions n s → 1 ≤ n
 unfolding Rests
 some_left definitions zero s h = absurd h
@@ -103,8 +107,8 @@ some_left definitions (suc n) s h = omega arith
 inside_is : {A : Type 0} (p : Parts) (none all : List A) → p.reference ≡ None → without_values p.enum_values ≡ false → cond (stands_alone p) none all ≡ all
 inside_is p none all e f = rw (e, f) refl
 
-beside-is : (s : Schema) (o : SchemaObject) → out-Schema s ≡ Schema-F.Object o → (out-SchemaObject o).reference ≡ None → without_values (out-SchemaObject o).enum_values ≡ false → beside s ≡ option_map_or members_of (out-SchemaObject o).subschemas []
-beside-is s o e f g = ap (λ (z : SchemaLevel). level_by_form (λ b. []) beside_in z) e ∙ inside_is (out-SchemaObject o) [] (option_map_or members_of (out-SchemaObject o).subschemas []) f g
+beside-is : (s : Schema) (o : SchemaObject) → out-Schema s ≡ Schema-F.Object o → (out-SchemaObject o).reference ≡ None → without_values (out-SchemaObject o).enum_values ≡ false → beside s ≡ option_map_or combined_schemas (out-SchemaObject o).subschemas []
+beside-is s o e f g = ap (λ (z : SchemaLevel). level_by_form (λ b. []) beside_in z) e ∙ inside_is (out-SchemaObject o) [] (option_map_or combined_schemas (out-SchemaObject o).subschemas []) f g
 
 below-is : (s : Schema) (o : SchemaObject) → out-Schema s ≡ Schema-F.Object o → (out-SchemaObject o).reference ≡ None → without_values (out-SchemaObject o).enum_values ≡ false → below s ≡ smaller_schemas (out-SchemaObject o).instance_type (out-SchemaObject o)
 below-is s o e f g = ap (λ (z : SchemaLevel). level_by_form (λ b. []) below_in z) e ∙ inside_is (out-SchemaObject o) [] (smaller_schemas (out-SchemaObject o).instance_type (out-SchemaObject o)) f g
@@ -164,9 +168,9 @@ module _ (definitions : Definitions) (whole : Schema) (doc : Json) (accepted : I
             reference_admits doc (written_smaller doc q) Next j (out-Json j) text
             ∙ by_name (name_in (Some text)) (ap (λ (z : SchemaLevel). level_by_form (λ b. None) (λ o. name_in (out-SchemaObject o).reference) z) e ∙ ap name_in f)
 
-        beside_reached : p.reference ≡ None → without_values p.enum_values ≡ false → (u : Subschemas) (t : Schema) → p.subschemas ≡ Some u → Contains (members_of u) t → LeadsTo definitions s t
+        beside_reached : p.reference ≡ None → without_values p.enum_values ≡ false → (u : Subschemas) (t : Schema) → p.subschemas ≡ Some u → Contains (combined_schemas u) t → LeadsTo definitions s t
         beside_reached f g u t h c =
-            subschema t (subst (λ (l : List Schema). Contains l t) (sym (beside-is s o e f g ∙ ap (λ (x : Option Subschemas). option_map_or members_of x []) h)) c)
+            subschema t (subst (λ (l : List Schema). Contains l t) (sym (beside-is s o e f g ∙ ap (λ (x : Option Subschemas). option_map_or combined_schemas x []) h)) c)
 
         below_reached : p.reference ≡ None → without_values p.enum_values ≡ false → (t : Schema) → Contains (smaller_schemas p.instance_type p) t → IsReached definitions whole t
         below_reached f g t c = smaller_value s t reached (subst (λ (l : List Schema). Contains l t) (sym (below-is s o e f g)) c)
@@ -188,7 +192,7 @@ module _ (definitions : Definitions) (whole : Schema) (doc : Json) (accepted : I
             each [] h = tt
             each (m ∷ ms) h = (mean_of (smaller_schemas p.instance_type p) (below_reached f g) m.value h.0, each ms h.1)
 
-        not_among : (u : Subschemas) (t : Schema) → u.not ≡ Some t → Contains (members_of u) t
+        not_among : (u : Subschemas) (t : Schema) → u.not ≡ Some t → Contains (combined_schemas u) t
         not_among u t h =
             among_right (unwrap_or u.all_of []) _ t
             (among_right (unwrap_or u.any_of []) _ t (among_right (unwrap_or u.one_of []) (if_any u.not) t (subst (λ (x : Option Schema). Contains (if_any x) t) (sym h) (among_first t []))))
@@ -203,7 +207,7 @@ module _ (definitions : Definitions) (whole : Schema) (doc : Json) (accepted : I
               agree = λ u h t c. next_agrees t (beside_reached f g u t h c);
               empty = λ u t h i.
                   let l = beside_reached f g u t h (not_among u t i) in
-                  empty_told definitions r n j t (some_left definitions n t (also t l)) (read.not_empty u t h i);
+                  empty_told definitions r n j t (some_left definitions n t (also t l)) (of_some IsEmpty u.not t i (of_some SubschemasAreRead p.subschemas u h read.subschemas_read).not_empty);
               parts = parts_agree f g (out-Json j) below_j;
             })
 

@@ -1,8 +1,7 @@
 -- What the written parts of an array ask of a list.
-use Rattle.std.proofs.Common.{◌≡◌, ℕ, Bool, true, false, ◌&&◌, List, [], ◌∷◌, Option, Some, None, option_map, unwrap_or, length, refl, sym, ◌∙◌, ap, ap₂}
+use Rattle.std.proofs.Common.{◌≡◌, Bool, ◌&&◌, List, [], ◌∷◌, Option, Some, option_map, length, refl, sym, ◌∙◌, ap, ap₂}
 use Rattle.std.proofs.Math.Bool.{and-true}
 use Rattle.std.specs.List.{list_all, AllByRecursion}
-use Rattle.std.specs.Prelude.{codes}
 use Rattle.schema_values.specs.declared.json_value.Json.{Json}
 use Rattle.schema_values.specs.declared.json_value.Json.TheOpen.{Json-F}
 use Rattle.schema_values.specs.declared.json_value.Member.{Member}
@@ -11,15 +10,15 @@ use Rattle.schema_values.specs.declared.schema.Items.{Items, out-Items}
 use Rattle.schema_values.specs.declared.schema.Items.TheOpen.{Items-F}
 use Rattle.schema_values.specs.declared.schema.Schema.{Schema}
 use Rattle.openapi_values.specs.Keywords.{is_annotation, bound_or, part_of}
-use Rattle.openapi_values.specs.Objects.{Entry}
 use Rattle.openapi_values.specs.Options.{is_none_or}
-use Rattle.openapi_values.specs.Rows.{is_enough, is_not_too_many}
+use Rattle.openapi_values.specs.Rows.{is_not_too_many}
 use Rattle.openapi_values.specs.SchemaJson.{items_written, array_written, count_json}
+use Rattle.openapi_values.proofs.SchemaLevels.{array-is}
 use Rattle.schema_meaning.specs.Asked.{array_holds, items_hold, places_hold}
 use Rattle.schema_meaning.specs.Forms.{ItemsLevel, items_by_form}
 use Rattle.schema_meaning.proofs.Combined.{rows}
 use Rattle.schema_meaning.proofs.TypeEntries.{least_part, most_part}
-use Rattle.schema_meaning.proofs.WrittenLevels.{json_of, one-is, array-is}
+use Rattle.schema_meaning.proofs.WrittenLevels.{json_of, one-is}
 
 module _ {X : Type 0} (smaller : X → Json → Bool) (means : X → Schema → Bool) where
   -- the schema means of each of some smaller values what it is written as

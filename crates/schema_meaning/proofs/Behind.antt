@@ -1,26 +1,25 @@
 -- Entries that stand behind annotations: those that are read whatever value they have, and subschemas.
-use Rattle.std.proofs.Common.{◌≡◌, ℕ, Bool, true, false, ◌&&◌, not, List, [], ◌∷◌, ◌++◌, map, length, ◌==◌, Option, Some, None, option_map, unwrap_or, cond, bytes_eq, refl, sym, subst, ◌∙◌, ap, ap₂, ◌⊎◌, inl, inr}
-use Rattle.std.specs.List.{list_all, AllByRecursion}
+use Rattle.std.proofs.Common.{◌≡◌, ℕ, Bool, true, false, ◌&&◌, not, List, [], ◌∷◌, ◌++◌, map, length, ◌==◌, Option, Some, None, option_map, unwrap_or, cond, bytes_eq, refl, sym, subst, ◌∙◌, ap, ap₂, inl, inr}
+use Rattle.std.specs.List.{AllByRecursion}
 use Rattle.std.specs.Option.{option_or}
-use Rattle.std.specs.Prelude.{codes}
+use Rattle.std.specs.Prelude.{codes, IfSome}
 use Rattle.std.proofs.lemmas.List.Folds.{list_all-append}
 use Rattle.schema_values.specs.declared.json_value.Json.{Json, Object, List as Items}
 use Rattle.schema_values.specs.declared.json_value.Json.TheVariants as json
-use Rattle.schema_values.specs.declared.schema.Items.TheOpen.{Schema-F}
-use Rattle.schema_values.specs.declared.schema.Schema.{Schema, out-Schema}
-use Rattle.schema_values.specs.declared.schema.SchemaObject.{SchemaObject, out-SchemaObject}
+use Rattle.schema_values.specs.declared.schema.Schema.{Schema}
 use Rattle.schema_values.specs.declared.schema.Subschemas.{Subschemas}
-use Rattle.schema_values.specs.Parts.{Parts, no_parts}
+use Rattle.schema_values.specs.Parts.{Parts}
 use Rattle.openapi_values.specs.Keywords.{keyword_of, is_annotation, bound_or, part_of}
 use Rattle.openapi_values.specs.Levels.{Level, as_list, as_object}
 use Rattle.openapi_values.specs.Objects.{Entry}
 use Rattle.openapi_values.specs.Options.{is_none_or, is_some_and}
 use Rattle.openapi_values.specs.Rows.{is_read}
-use Rattle.openapi_values.specs.SchemaJson.{Written, untitled, schemas_json, nothing_entries, object_step, schema_written, subschemas_written}
-use Rattle.schema_meaning.specs.Accepted.{IsEmpty, IsOne}
+use Rattle.openapi_values.specs.SchemaJson.{Written, untitled, schemas_json, object_step, schema_written, subschemas_written}
+use Rattle.openapi_values.proofs.SchemaLevels.{subschemas-are}
+use Rattle.schema_meaning.specs.Accepted.{IsEmpty, IsOne, SubschemasAreRead}
 use Rattle.schema_meaning.proofs.Entries.{each_entry, found, none-append}
 use Rattle.schema_meaning.proofs.Noted.{AreBehind}
-use Rattle.schema_meaning.proofs.WrittenLevels.{json_of, truth-is, by_parts-is, level_of, subschemas-are}
+use Rattle.schema_meaning.proofs.WrittenLevels.{json_of, truth-is, by_parts-is, level_of}
 
 pub both_behind : (es fs : List Entry) → AreBehind es → AreBehind fs → AreBehind (es ++ fs)
 both_behind es fs a b = record {
@@ -73,26 +72,20 @@ always (Some v) = refl
 all_true : (a b c d : Bool) → a ≡ true → b ≡ true → c ≡ true → d ≡ true → (a && (b && (c && (d && true)))) ≡ true
 all_true a b c d e f g h = rw (e, f, g, h) refl
 
-one_read : (o : Option (List Schema)) → ((ss : List Schema) → o ≡ Some ss → IsOne ss) → is_none_or (schemas_json (option_map (map schema_written) o)) (λ v. is_read (keyword_of (codes "allOf")) v) ≡ true
+one_read : (o : Option (List Schema)) → IfSome o IsOne → is_none_or (schemas_json (option_map (map schema_written) o)) (λ v. is_read (keyword_of (codes "allOf")) v) ≡ true
 unfolding is_annotation bound_or part_of
 one_read None h = refl
-one_read (Some ss) h = let (s, e) = h ss refl in ap (λ ss. is_read (keyword_of (codes "allOf")) (Items (map untitled (map schema_written ss)))) e ∙ ap (λ (x : Level Json). is_some_and (as_list x) (λ xs. length xs == 1)) (json.outs-List (json_of s ∷ []))
+one_read (Some ss) h = let (s, e) = h in ap (λ ss. is_read (keyword_of (codes "allOf")) (Items (map untitled (map schema_written ss)))) e ∙ ap (λ (x : Level Json). is_some_and (as_list x) (λ xs. length xs == 1)) (json.outs-List (json_of s ∷ []))
 
-empty_read : (o : Option Schema) → ((s : Schema) → o ≡ Some s → IsEmpty s) → is_none_or (option_map untitled (option_map schema_written o)) (λ v. is_read (keyword_of (codes "not")) v) ≡ true
+empty_read : (o : Option Schema) → IfSome o IsEmpty → is_none_or (option_map untitled (option_map schema_written o)) (λ v. is_read (keyword_of (codes "not")) v) ≡ true
 unfolding is_annotation bound_or part_of
 empty_read None h = refl
-empty_read (Some s) h = ap (λ v. is_read (keyword_of (codes "not")) v) (empty-is s (h s refl)) ∙ ap (λ (x : Level Json). is_some_and (as_object x) (λ ms. length ms == 0)) (json.outs-Object [])
+empty_read (Some s) h = ap (λ v. is_read (keyword_of (codes "not")) v) (empty-is s h) ∙ ap (λ (x : Level Json). is_some_and (as_object x) (λ ms. length ms == 0)) (json.outs-Object [])
 
--- what is asked of subschemas that are written
-pub record AreWritten (subschemas : Subschemas) : Type 0 where
-  pub one_all : (schemas : List Schema) → subschemas.all_of ≡ Some schemas → IsOne schemas
-  pub not_empty : (schema : Schema) → subschemas.not ≡ Some schema → IsEmpty schema
-
-pub subschemas_behind : (o : Option Subschemas) → ((s : Subschemas) → o ≡ Some s → AreWritten s) → AreBehind (subschema_entries o)
+pub subschemas_behind : (o : Option Subschemas) → IfSome o SubschemasAreRead → AreBehind (subschema_entries o)
 unfolding is_annotation bound_or part_of
 subschemas_behind None h = record { read = refl; no_reference = refl; no_null = refl }
-subschemas_behind (Some s) h =
-    let a = h s refl in
+subschemas_behind (Some s) a =
     subst AreBehind (sym (subschemas-are s)) (record {
       read = all_true _ _ _ _ (one_read s.all_of a.one_all) (always (schemas_json (option_map (map schema_written) s.any_of))) (always (schemas_json (option_map (map schema_written) s.one_of))) (empty_read s.not a.not_empty);
       no_reference = all_true _ _ _ _ (always (schemas_json (option_map (map schema_written) s.all_of))) (always (schemas_json (option_map (map schema_written) s.any_of))) (always (schemas_json (option_map (map schema_written) s.one_of))) (always (option_map untitled (option_map schema_written s.not)));

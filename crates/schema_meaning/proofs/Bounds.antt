@@ -1,5 +1,5 @@
 -- No chain is longer than the sizes of a schema and of its definitions: no definition is met twice on the way.
-use Rattle.std.proofs.Common.{◌≡◌, ℕ, zero, suc, ◌+◌, ◌≤◌, List, [], ◌∷◌, map, sum, Option, Some, None, min, refl, sym, ◌∙◌, ap, subst, arith, ◌⊎◌, inl, inr}
+use Rattle.std.proofs.Common.{◌≡◌, ℕ, zero, suc, ◌+◌, ◌≤◌, List, map, sum, Option, Some, None, min, refl, sym, ◌∙◌, ap, subst, arith, ◌⊎◌, inl, inr}
 use Rattle.std.specs.Prelude.{Contains}
 use Rattle.std.proofs.Math.Nat.{min-le_right, min-eq_left}
 use Rattle.schema_values.specs.declared.schema.Schema.{Schema}

@@ -1,5 +1,5 @@
 -- How long the chains are along which a schema leads on at one value.
-use Rattle.std.proofs.Common.{◌≡◌, ℕ, zero, suc, ◌≤◌, arith}
+use Rattle.std.proofs.Common.{ℕ, zero, suc, ◌≤◌, arith}
 use Rattle.schema_values.specs.declared.schema.Schema.{Schema}
 use Rattle.schema_meaning.specs.Definitions.{Definitions}
 use Rattle.schema_meaning.specs.Reached.{LeadsTo, ComesTo, at_once, through}

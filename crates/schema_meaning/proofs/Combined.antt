@@ -1,7 +1,7 @@
 -- What written subschemas ask of a value.
-use Rattle.std.proofs.Common.{◌≡◌, ℕ, Bool, true, false, ◌&&◌, ◌||◌, not, List, [], ◌∷◌, ◌++◌, map, Option, Some, None, option_map, unwrap_or, count_by, cond, ◌==◌, ◌+◌, refl, sym, subst, ◌∙◌, ap, ap₂, arith}
+use Rattle.std.proofs.Common.{◌≡◌, ℕ, Bool, true, false, ◌&&◌, ◌||◌, not, List, [], ◌∷◌, ◌++◌, map, Option, Some, None, option_map, unwrap_or, count_by, cond, ◌==◌, refl, sym, subst, ◌∙◌, ap, ap₂, arith}
 use Rattle.std.specs.List.{list_all, list_any}
-use Rattle.std.specs.Prelude.{codes, Contains}
+use Rattle.std.specs.Prelude.{Contains}
 use Rattle.std.proofs.Math.Bool.{and-true}
 use Rattle.std.proofs.lemmas.List.Folds.{list_all-append}
 use Rattle.std.proofs.lemmas.List.Sums.{sum_by-cons}
@@ -16,12 +16,13 @@ use Rattle.openapi_values.specs.Objects.{Entry}
 use Rattle.openapi_values.specs.Options.{is_none_or, is_some_and}
 use Rattle.openapi_values.specs.Rows.{row, every_admits, some_admits, one_admits}
 use Rattle.openapi_values.specs.SchemaJson.{untitled, schemas_json, schema_written, subschemas_written}
+use Rattle.openapi_values.proofs.SchemaLevels.{subschemas-are}
 use Rattle.schema_meaning.specs.Asked.{subschemas_hold}
-use Rattle.schema_meaning.specs.Reached.{members_of, if_any}
+use Rattle.schema_meaning.specs.Reached.{combined_schemas, if_any}
 use Rattle.schema_meaning.proofs.Among.{among_first, among_later, among_left, among_right}
 use Rattle.schema_meaning.proofs.Behind.{subschema_entries}
 use Rattle.schema_meaning.proofs.Entries.{each_entry}
-use Rattle.schema_meaning.proofs.WrittenLevels.{json_of, subschemas-are}
+use Rattle.schema_meaning.proofs.WrittenLevels.{json_of}
 
 module _ (next : Json → Bool) (means : Schema → Bool) where
   -- each of some schemas means what it is written as
@@ -75,7 +76,7 @@ module _ {X : Type 0} (smaller : X → Json → Bool) (next : Json → Bool) (js
   abbrev rows_of : List Entry → Bool
   rows_of = rows smaller next json j schema
 
-  four_agree : (s : Subschemas) → Agree next means (members_of s) → ((t : Schema) → s.not ≡ Some t → means t ≡ true) → rows_of (subschemas_written s) ≡ subschemas_hold means s
+  four_agree : (s : Subschemas) → Agree next means (combined_schemas s) → ((t : Schema) → s.not ≡ Some t → means t ≡ true) → rows_of (subschemas_written s) ≡ subschemas_hold means s
   unfolding is_annotation bound_or part_of
   four_agree s agree empty =
       let one = unwrap_or s.one_of [] ++ if_any s.not in
@@ -94,6 +95,6 @@ module _ {X : Type 0} (smaller : X → Json → Bool) (next : Json → Bool) (js
       (one_part next means s.one_of (λ ss e t c. agree t (among_right (unwrap_or s.all_of []) any t (among_right (unwrap_or s.any_of []) one t (among_left (unwrap_or s.one_of []) (if_any s.not) t (subst (λ (o : Option (List Schema)). Contains (unwrap_or o []) t) (sym e) c))))))
       (not_part next means s.not empty)))
 
-  pub subschemas_agree : (o : Option Subschemas) → ((s : Subschemas) → o ≡ Some s → Agree next means (members_of s)) → ((s : Subschemas) (t : Schema) → o ≡ Some s → s.not ≡ Some t → means t ≡ true) → rows_of (subschema_entries o) ≡ is_none_or o (subschemas_hold means)
+  pub subschemas_agree : (o : Option Subschemas) → ((s : Subschemas) → o ≡ Some s → Agree next means (combined_schemas s)) → ((s : Subschemas) (t : Schema) → o ≡ Some s → s.not ≡ Some t → means t ≡ true) → rows_of (subschema_entries o) ≡ is_none_or o (subschemas_hold means)
   subschemas_agree None agree empty = refl
   subschemas_agree (Some s) agree empty = four_agree s (agree s refl) (λ t e. empty s t refl e)

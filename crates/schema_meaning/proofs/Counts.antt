@@ -1,5 +1,5 @@
 -- How the schemas in a schema are counted, from one level.
-use Rattle.std.proofs.Common.{◌≡◌, ℕ, suc, ◌+◌, ◌≤◌, List, [], ◌∷◌, ◌++◌, map, sum, Option, Some, None, option_map, unwrap_or, cond, Bool, true, false, refl, sym, ◌∙◌, ap, arith}
+use Rattle.std.proofs.Common.{◌≡◌, ℕ, suc, ◌+◌, ◌≤◌, List, [], ◌∷◌, ◌++◌, map, sum, Option, Some, None, option_map, unwrap_or, cond, Bool, true, false, refl, ◌∙◌, ap, arith}
 use Rattle.std.specs.Option.{option_map_or}
 use Rattle.std.proofs.lemmas.List.Sums.{sum_by-cons}
 use Rattle.schema_values.specs.declared.schema.ArrayParts.{ArrayParts, fold-ArrayParts, fold_out-ArrayParts}
@@ -17,7 +17,7 @@ use Rattle.schema_values.specs.Parts.{Parts}
 use Rattle.openapi_values.proofs.PartMaps.{items-map, additional-map, array-map, object-map, subschemas-map, all_of-map}
 use Rattle.schema_meaning.specs.Count.{items_step, schema_step, array_step, object_parts_step, property_step, object_step, subschemas_step, schemas}
 use Rattle.schema_meaning.specs.Forms.{SchemaLevel, ItemsLevel, level_by_form, items_by_form}
-use Rattle.schema_meaning.specs.Reached.{if_any, members_of, item_schemas, array_schemas, object_schemas, smaller_schemas, stands_alone, beside_in, below_in, beside, below}
+use Rattle.schema_meaning.specs.Reached.{if_any, combined_schemas, item_schemas, array_schemas, object_schemas, smaller_schemas, stands_alone, beside_in, below_in, beside, below}
 use Rattle.schema_meaning.proofs.Among.{sum_append}
 
 unfoldable in_items : Items → ℕ
@@ -117,7 +117,7 @@ some_fit : (o : Option (List Schema)) → sum (map schemas (unwrap_or o [])) ≤
 some_fit None = omega arith
 some_fit (Some ss) = omega arith
 
-subschemas_fit : (o : Option Subschemas) → sum (map schemas (option_map_or members_of o [])) ≤ unwrap_or (option_map in_subschemas o) 0
+subschemas_fit : (o : Option Subschemas) → sum (map schemas (option_map_or combined_schemas o [])) ≤ unwrap_or (option_map in_subschemas o) 0
 subschemas_fit None = omega arith
 subschemas_fit (Some u) =
     let one = unwrap_or u.one_of [] ++ if_any u.not in
@@ -161,6 +161,6 @@ schemas_count s = by_form (out-Schema s) refl
           arith,
           object-under s o e,
           inside-is o,
-          unless_alone (stands_alone p) (option_map_or members_of p.subschemas []) _ (subschemas_fit p.subschemas),
+          unless_alone (stands_alone p) (option_map_or combined_schemas p.subschemas []) _ (subschemas_fit p.subschemas),
           unless_alone (stands_alone p) (smaller_schemas p.instance_type p) _ (smaller_fit p.instance_type p),
         )

@@ -32,7 +32,7 @@ members_in (Some s) = members_at (out-Json s)
 abbrev schemas_in : Json → List Member
 schemas_in doc = members_in (member_in (get_of (codes "components") doc) (codes "schemas"))
 
-got_at : (name : List ℕ) (s : Json) (x : Json-F Json Member) → out-Json s ≡ x → get_of name s ≡ first_named name (members_at x)
+pub got_at : (name : List ℕ) (s : Json) (x : Json-F Json Member) → out-Json s ≡ x → get_of name s ≡ first_named name (members_at x)
 got_at name s Json-F.Null e = rw e refl
 got_at name s (Json-F.Bool b) e = rw e refl
 got_at name s (Json-F.Int i) e = rw e refl

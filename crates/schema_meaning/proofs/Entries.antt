@@ -2,13 +2,12 @@
 use Rattle.std.proofs.Common.{◌≡◌, ℕ, Bool, true, false, ◌&&◌, ◌||◌, List, [], ◌∷◌, ◌++◌, map, filter, Option, Some, None, cond, bytes_eq, if◌then◌else◌, refl, sym, ◌∙◌, ap, true≢false}
 use Rattle.std.specs.List.{list_all, list_any, AllByRecursion}
 use Rattle.std.specs.Option.{option_or}
-use Rattle.std.specs.Prelude.{codes, is_some}
 use Rattle.std.proofs.Math.Bool.{or-true}
 use Rattle.std.proofs.lemmas.Slice.Eq.{bytes_eq-Decides}
 use Rattle.schema_values.specs.declared.json_value.Json.{Json}
 use Rattle.schema_values.specs.declared.json_value.Member.{Member}
 use Rattle.schema_values.specs.Get.{first_named}
-use Rattle.openapi_values.specs.Keywords.{is_annotation, annotation_names, after}
+use Rattle.openapi_values.specs.Keywords.{is_annotation, annotation_names}
 use Rattle.openapi_values.specs.Objects.{Entry, members_of}
 use Rattle.openapi_values.specs.Options.{is_none_or}
 use Rattle.openapi_values.specs.SchemaJson.{is_extension, extension_entries, extension_entry}

@@ -21,4 +21,5 @@ pub mod Agreement
 pub mod Counts
 pub mod WrittenSizes
 pub mod Documents
+pub mod OwnDocument
 pub mod Whole

@@ -1,12 +1,12 @@
 -- What the written parts of an object ask of its members.
 use Rattle.std.proofs.Common.{◌≡◌, ℕ, Bool, true, false, ◌&&◌, ◌||◌, List, [], ◌∷◌, map, length, Option, Some, None, option_map, ◌++◌, cond, bytes_eq, refl, sym, ◌∙◌, ap, ap₂, true≢false, arith}
-use Rattle.std.proofs.Math.Bool.{and-true, or-false}
+use Rattle.std.proofs.Math.Bool.{and-false, and-true, or-false}
 use Rattle.std.proofs.lemmas.List.Folds.{list_all-map}
 use Rattle.std.proofs.lemmas.Slice.Eq.{bytes_eq-Decides}
 use Rattle.std.specs.List.{list_all, AllByRecursion}
 use Rattle.std.specs.Option.{option_map_or}
 use Rattle.std.specs.Prelude.{codes, find, is_some, Contains}
-use Rattle.schema_values.specs.declared.json_value.Json.{Json, Bool as Truth, Text, List as ListOf, Object, out-Json}
+use Rattle.schema_values.specs.declared.json_value.Json.{Json, Bool as Truth, Text, out-Json}
 use Rattle.schema_values.specs.declared.json_value.Json.TheOpen.{Json-F}
 use Rattle.schema_values.specs.declared.json_value.Json.TheVariants as json
 use Rattle.schema_values.specs.declared.json_value.Member.{Member}
@@ -18,10 +18,11 @@ use Rattle.schema_values.specs.declared.schema.SchemaObject.{SchemaObject, out-S
 use Rattle.schema_values.specs.Get.{first_named}
 use Rattle.openapi_values.specs.Keywords.{is_annotation, bound_or, part_of}
 use Rattle.openapi_values.specs.Levels.{Level, Named, as_text, as_list, as_object, is_true, has_member}
-use Rattle.openapi_values.specs.Objects.{Entry, pair_member, object_of, reference_json, unless_empty}
+use Rattle.openapi_values.specs.Objects.{pair_member, object_of, reference_json, unless_empty}
 use Rattle.openapi_values.specs.Options.{is_none_or, is_some_and}
-use Rattle.openapi_values.specs.Rows.{is_property, names_stand, property_admitted, properties_admitted, other_admitted, is_enough, is_not_too_many}
-use Rattle.openapi_values.specs.SchemaJson.{Written, untitled, additional_json, names_json, count_json, annotations, entries_behind, object_step, schema_written, property_written, object_parts_written}
+use Rattle.openapi_values.specs.Rows.{is_property, names_stand, property_admitted, properties_admitted, other_admitted, is_not_too_many}
+use Rattle.openapi_values.specs.SchemaJson.{Written, untitled, additional_json, names_json, count_json, annotations, entries_behind, schema_written, property_written, object_parts_written}
+use Rattle.openapi_values.proofs.SchemaLevels.{property-is, object_parts-are}
 use Rattle.schema_meaning.specs.Asked.{property_named, member_holds, object_holds, count_holds}
 use Rattle.schema_meaning.specs.Forms.{SchemaLevel}
 use Rattle.schema_meaning.specs.Reached.{object_schemas, if_any}
@@ -30,7 +31,7 @@ use Rattle.schema_meaning.proofs.Behind.{always}
 use Rattle.schema_meaning.proofs.Combined.{rows}
 use Rattle.schema_meaning.proofs.Steps.{all_alike}
 use Rattle.schema_meaning.proofs.TypeEntries.{least_part, most_part}
-use Rattle.schema_meaning.proofs.WrittenLevels.{json_of, truth-is, object-under, by_parts-is, level_of, property-is, object_parts-are}
+use Rattle.schema_meaning.proofs.WrittenLevels.{json_of, truth-is, object-under, by_parts-is, level_of}
 
 swapped : (a b : List ℕ) → bytes_eq a b ≡ bytes_eq b a
 swapped a b = by_tests (bytes_eq a b) (bytes_eq b a) refl refl
@@ -101,11 +102,7 @@ both_all p q (x ∷ xs) = by_tests (p x) (q x) ∙ ap (λ b. (p x && q x) && b) 
   where
     by_tests : (a b : Bool) → ((a && list_all p xs) && (b && list_all q xs)) ≡ ((a && b) && (list_all p xs && list_all q xs))
     by_tests true true = refl
-    by_tests true false = and_false (list_all p xs)
-      where
-        and_false : (c : Bool) → (c && false) ≡ false
-        and_false true = refl
-        and_false false = refl
+    by_tests true false = and-false (list_all p xs)
     by_tests false b = refl
 
 regrouped : (p r a c : Bool) → (p && (r && (a && c))) ≡ ((p && a) && (r && c))

@@ -6,22 +6,22 @@ use Rattle.std.specs.Option.{option_or, option_map_or}
 use Rattle.schema_values.specs.declared.json_value.Json.{Json, out-Json}
 use Rattle.schema_values.specs.declared.json_value.Json.TheOpen.{Json-F}
 use Rattle.schema_values.specs.declared.json_value.Member.{Member}
-use Rattle.schema_values.specs.declared.schema.ArrayParts.{ArrayParts, fold_out-ArrayParts}
-use Rattle.schema_values.specs.declared.schema.InstanceType.{InstanceType}
-use Rattle.schema_values.specs.declared.schema.InstanceType.TheVariants.{Null, Boolean, Object, Array, Number, String, Integer}
+use Rattle.schema_values.specs.declared.schema.ArrayParts.{ArrayParts}
+use Rattle.schema_values.specs.declared.schema.InstanceType.TheVariants.{Null, Object, Array}
 use Rattle.schema_values.specs.declared.schema.InstanceTypes.{InstanceTypes}
-use Rattle.schema_values.specs.declared.schema.InstanceTypes.TheVariants.{Single, Several}
-use Rattle.schema_values.specs.declared.schema.Items.{Items, out-Items, fold_out-Items}
+use Rattle.schema_values.specs.declared.schema.InstanceTypes.TheVariants.{Single}
+use Rattle.schema_values.specs.declared.schema.Items.{Items, out-Items}
 use Rattle.schema_values.specs.declared.schema.Items.TheOpen.{Items-F, Schema-F}
 use Rattle.schema_values.specs.declared.schema.NumberBounds.{NumberBounds}
-use Rattle.schema_values.specs.declared.schema.Schema.{Schema, out-Schema, fold_out-Schema}
-use Rattle.schema_values.specs.declared.schema.SchemaObject.{SchemaObject, SchemaObject-F, out-SchemaObject, fold_out-SchemaObject}
+use Rattle.schema_values.specs.declared.schema.Schema.{Schema, out-Schema}
+use Rattle.schema_values.specs.declared.schema.SchemaObject.{SchemaObject, SchemaObject-F, out-SchemaObject}
 use Rattle.schema_values.specs.Parts.{Parts}
-use Rattle.openapi_values.specs.Refusal.{Refusal, Inner, Within, Level, first_of, items_step, schema_step, array_step, property_step, object_parts_step, subschemas_step, object_step, is_level_of, is_value_of, values_beside, values_refusal, type_array, items_missing, is_bound_twice, bounds_refusal, items_of, own_refusal, inner_refusal, refusal_of, items_within, array_within, object_parts_refusal, object_refusal, subschemas_inner}
+use Rattle.openapi_values.specs.Refusal.{Within, Level, object_step, is_level_of, is_value_of, values_refusal, type_array, items_missing, bounds_refusal, items_of, own_refusal, inner_refusal, refusal_of, items_within, array_within, object_parts_refusal, subschemas_inner}
 use Rattle.openapi_values.specs.declared.j2oas.J2oasError.TheVariants.{TupleArray, BadEnumValue, BadBounds}
-use Rattle.openapi_values.proofs.PartMaps.{items-map, array-map, object-map, subschemas-map}
+use Rattle.openapi_values.proofs.RefusalLevels as levels
 use Rattle.openapi_values.specs.SchemaJson.{without_values}
 use Rattle.schema_meaning.specs.Forms.{ItemsLevel}
+use Rattle.schema_meaning.proofs.WrittenLevels.{is_object, are_tuple}
 
 -- parts in which each part with schemas stands as its refusal
 abbrev level_of : Parts → Level SchemaObject-F
@@ -46,22 +46,11 @@ level_of p = record {
   extensions = p.extensions;
 }
 
-object-under : (schema : Schema) (object : SchemaObject) → out-Schema schema ≡ Schema-F.Object object → refusal_of schema ≡ object_refusal object
-unfolding refusal_of object_refusal
-object-under schema object e = fold_out-Schema Within Refusal (Option Within) Refusal Refusal Refusal Inner items_step schema_step array_step object_parts_step property_step object_step subschemas_step schema ∙ rw e refl
-
-object-is : (object : SchemaObject) → object_refusal object ≡ object_step (level_of (out-SchemaObject object))
-unfolding object_refusal array_within object_parts_refusal subschemas_inner
-object-is object = fold_out-SchemaObject Within Refusal (Option Within) Refusal Refusal Refusal Inner items_step schema_step array_step object_parts_step property_step object_step subschemas_step object
-    ∙ rw (array-map array_within (out-SchemaObject object).array, object-map object_parts_refusal (out-SchemaObject object).object, subschemas-map subschemas_inner (out-SchemaObject object).subschemas) refl
-
-array-is : (array : ArrayParts) → array_within array ≡ option_map items_within array.items
-unfolding array_within items_within
-array-is array = fold_out-ArrayParts Within Refusal (Option Within) Refusal Refusal Refusal Inner items_step schema_step array_step object_parts_step property_step object_step subschemas_step array ∙ items-map items_within array.items
+by_parts-is : (schema : Schema) (object : SchemaObject) → out-Schema schema ≡ Schema-F.Object object → refusal_of schema ≡ object_step (level_of (out-SchemaObject object))
+by_parts-is schema object e = ap refusal_of (is_object schema object e) ∙ levels.object-is object ∙ levels.parts-are object
 
 by_place-is : (items : Items) (schemas : List Schema) → out-Items items ≡ Items-F.Tuple schemas → (items_within items).by_place ≡ true
-unfolding items_within
-by_place-is items schemas e = ap (λ (w : Within). w.by_place) (fold_out-Items Within Refusal (Option Within) Refusal Refusal Refusal Inner items_step schema_step array_step object_parts_step property_step object_step subschemas_step items) ∙ rw e refl
+by_place-is items schemas e = ap (λ (i : Items). (items_within i).by_place) (are_tuple items schemas e) ∙ ap (λ (w : Within). w.by_place) (levels.tuple-is schemas)
 
 first_none : {A : Type 0} (o p : Option A) → option_or o p ≡ None → (o ≡ None) × (p ≡ None)
 first_none None p h = (refl, h)
@@ -72,7 +61,7 @@ pub record Unrefused (p : Parts) : Type 0 where
   pub one_type : type_array p.instance_type ≡ None
   pub has_items : items_missing p.instance_type (items_of (level_of p)) ≡ None
   pub values_right : values_refusal p.instance_type (unwrap_or p.enum_values []) ≡ None
-  pub bounds_right : bounds_refusal p.instance_type p.number ≡ None
+  pub bounds_right : bounds_refusal p.number ≡ None
 
 own_none : (p : Parts) → p.reference ≡ None → object_step (level_of p) ≡ None → own_refusal (level_of p) ≡ None
 own_none p none h = (first_none (own_refusal (level_of p)) (inner_refusal (level_of p)) (by_reference p.reference none h)).0
@@ -83,7 +72,7 @@ own_none p none h = (first_none (own_refusal (level_of p)) (inner_refusal (level
 
 pub unrefused : (schema : Schema) (object : SchemaObject) → out-Schema schema ≡ Schema-F.Object object → (out-SchemaObject object).reference ≡ None → refusal_of schema ≡ None → Unrefused (out-SchemaObject object)
 unrefused schema object e none h =
-    let own = own_none (out-SchemaObject object) none (sym (object-is object) ∙ sym (object-under schema object e) ∙ h) in
+    let own = own_none (out-SchemaObject object) none (sym (by_parts-is schema object e) ∙ h) in
     let (types, rest) = first_none _ _ own in
     let (items, rest) = first_none _ _ rest in
     let (among, rest) = first_none _ _ rest in
@@ -114,7 +103,7 @@ has_one p e h = by_array p.array refl (ap (λ (t : Option InstanceTypes). items_
 
     by_array : (o : Option ArrayParts) → p.array ≡ o → items_missing (Some (Single Array)) (option_and_then (λ items. items) (option_map array_within o)) ≡ None → HasOne p
     by_array None f h = absurd (cc h)
-    by_array (Some a) f h = by_option a a.items f refl (ap (λ (o : Option Within). items_missing (Some (Single Array)) o) (sym (array-is a)) ∙ h)
+    by_array (Some a) f h = by_option a a.items f refl (ap (λ (o : Option Within). items_missing (Some (Single Array)) o) (sym (levels.array-is a)) ∙ h)
 
 -- ---- what its values and its bounds are
 
@@ -161,8 +150,8 @@ no_values types o without_type e h = no_more_values o e (λ v vs f. let w : valu
 no_values types o of_array e h = no_more_values o e (λ v vs f. let w : values_refusal (Some (Single Array)) (v ∷ vs) ≡ None = ap (λ (o : Option (List Json)). values_refusal (Some (Single Array)) (unwrap_or o [])) (sym f) ∙ h in cc w)
 no_values types o of_object e h = no_more_values o e (λ v vs f. let w : values_refusal (Some (Single Object)) (v ∷ vs) ≡ None = ap (λ (o : Option (List Json)). values_refusal (Some (Single Object)) (unwrap_or o [])) (sym f) ∙ h in cc w)
 
--- an integer's bound stands in one form
-pub one_form : (bounds : NumberBounds) → bounds_refusal (Some (Single Integer)) (Some bounds) ≡ None → ((is_some bounds.minimum && is_some bounds.exclusive_minimum) ≡ false) × ((is_some bounds.maximum && is_some bounds.exclusive_maximum) ≡ false)
+-- a bound stands in one form
+pub one_form : (bounds : NumberBounds) → bounds_refusal (Some bounds) ≡ None → ((is_some bounds.minimum && is_some bounds.exclusive_minimum) ≡ false) × ((is_some bounds.maximum && is_some bounds.exclusive_maximum) ≡ false)
 one_form b h = by_test (is_some b.minimum && is_some b.exclusive_minimum) (is_some b.maximum && is_some b.exclusive_maximum) h
   where
     by_test : (low high : Bool) → cond (low || high) (Some BadBounds) None ≡ None → (low ≡ false) × (high ≡ false)

@@ -1,10 +1,10 @@
 -- What a written object admits, by the entries behind its annotations.
-use Rattle.std.proofs.Common.{◌≡◌, ℕ, Bool, true, false, ◌&&◌, ◌||◌, not, List, [], ◌∷◌, ◌++◌, Option, Some, None, option_map, cond, bytes_eq, if◌then◌else◌, refl, sym, ◌∙◌, ap, true≢false}
-use Rattle.std.specs.List.{list_all, AllByRecursion}
+use Rattle.std.proofs.Common.{◌≡◌, ℕ, Bool, true, false, ◌&&◌, ◌||◌, not, List, [], ◌∷◌, ◌++◌, Option, None, option_map, cond, bytes_eq, if◌then◌else◌, refl, sym, ◌∙◌, ap, true≢false}
+use Rattle.std.specs.List.{list_all}
 use Rattle.std.specs.Option.{option_map_or, option_or}
 use Rattle.std.specs.Prelude.{codes}
 use Rattle.std.proofs.lemmas.Slice.Eq.{bytes_eq-Decides}
-use Rattle.schema_values.specs.declared.json_value.Json.{Json, Object, Text, out-Json}
+use Rattle.schema_values.specs.declared.json_value.Json.{Json, Text, out-Json}
 use Rattle.schema_values.specs.declared.json_value.Json.TheVariants.{outs-Bool, outs-Object}
 use Rattle.schema_values.specs.declared.json_value.Member.{Member}
 use Rattle.schema_values.specs.Get.{first_named}
@@ -18,7 +18,7 @@ use Rattle.openapi_values.specs.Levels.{Level, is_null, is_true, as_text, as_lis
 use Rattle.openapi_values.specs.Lookup.{definition, reference_in, is_set, is_null_alone, is_null_form}
 use Rattle.openapi_values.specs.Objects.{Entry, members_of, object_of}
 use Rattle.openapi_values.specs.Options.{is_some_and, is_none_or}
-use Rattle.openapi_values.specs.Rows.{row, is_read, in_subset, members_hold}
+use Rattle.openapi_values.specs.Rows.{row, is_read, members_hold}
 use Rattle.openapi_values.specs.SchemaJson.{annotations, extension_entries}
 use Rattle.schema_meaning.proofs.Entries.{each_entry, over_members, found, first-found, AreRemarks, extensions_remark, passed, found_behind}
 

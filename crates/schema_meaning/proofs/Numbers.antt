@@ -1,11 +1,11 @@
 -- What the written bounds and format of an integer ask of a number.
-use Rattle.std.proofs.Common.{◌≡◌, ℕ, ℤ, Bool, true, false, ◌&&◌, ◌||◌, not, List, [], ◌∷◌, ◌++◌, Option, Some, None, option_map, int_le, refl, sym, ◌∙◌, ap, ap₂}
+use Rattle.std.proofs.Common.{◌≡◌, ℕ, ℤ, Bool, true, false, ◌&&◌, ◌||◌, not, List, [], Option, Some, None, option_map, int_le, refl, sym, ◌∙◌, ap, ap₂}
 use Rattle.std.proofs.Math.Bool.{and-true}
 use Rattle.std.proofs.lemmas.List.Folds.{list_all-append}
 use Rattle.std.specs.List.{list_any}
 use Rattle.std.specs.Option.{option_map_or}
 use Rattle.std.specs.Prelude.{codes, int_lt, is_some}
-use Rattle.schema_values.specs.declared.json_value.Json.{Json, Text, Int, out-Json}
+use Rattle.schema_values.specs.declared.json_value.Json.{Json, Text, out-Json}
 use Rattle.schema_values.specs.declared.json_value.Json.TheOpen.{Json-F}
 use Rattle.schema_values.specs.declared.json_value.Json.TheVariants as json
 use Rattle.schema_values.specs.declared.json_value.Member.{Member}

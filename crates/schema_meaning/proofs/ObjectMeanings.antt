@@ -1,10 +1,10 @@
 -- A written schema object admits what the parts of the schema ask, at a value whose smaller values agree.
-use Rattle.std.proofs.Common.{◌≡◌, ℕ, ℤ, Bool, true, false, ◌&&◌, ◌||◌, List, [], ◌∷◌, ◌++◌, length, ◌==◌, Option, Some, None, option_map, unwrap_or, cond, bytes_eq, if◌then◌else◌, refl, sym, subst, ◌∙◌, ap, ap₂}
-use Rattle.std.proofs.Math.Bool.{and-true}
+use Rattle.std.proofs.Common.{◌≡◌, ℕ, Bool, true, false, ◌&&◌, ◌||◌, List, [], ◌∷◌, ◌++◌, length, ◌==◌, Option, Some, None, unwrap_or, bytes_eq, if◌then◌else◌, refl, sym, subst, ◌∙◌, ap, ap₂}
+use Rattle.std.proofs.Math.Bool.{and-false}
 use Rattle.std.specs.List.{list_any}
-use Rattle.std.specs.Option.{option_map_or, option_or}
+use Rattle.std.specs.Option.{option_map_or}
 use Rattle.std.specs.Prelude.{codes}
-use Rattle.schema_values.specs.declared.json_value.Json.{Json, Null as NullJson, Bool as Truth, Text as Words, List as ListOf, Object as ObjectOf, out-Json}
+use Rattle.schema_values.specs.declared.json_value.Json.{Json, Null as NullJson, Bool as Truth, Text as Words, List as ListOf, out-Json}
 use Rattle.schema_values.specs.declared.json_value.Json.TheOpen.{Json-F}
 use Rattle.schema_values.specs.declared.json_value.Json.TheVariants as json
 use Rattle.schema_values.specs.declared.json_value.Json.TheViews.{roll-Json, roll-out-Json}
@@ -18,7 +18,6 @@ use Rattle.schema_values.specs.declared.schema.NumberBounds.{NumberBounds}
 use Rattle.schema_values.specs.declared.schema.ArrayParts.{ArrayParts}
 use Rattle.schema_values.specs.declared.schema.ObjectParts.{ObjectParts}
 use Rattle.schema_values.specs.declared.schema.Schema.{Schema, out-Schema}
-use Rattle.schema_values.specs.declared.schema.SchemaObject.{SchemaObject, out-SchemaObject}
 use Rattle.schema_values.specs.declared.schema.Subschemas.{Subschemas}
 use Rattle.schema_values.specs.Parts.{Parts}
 use Rattle.schema_values.specs.Same.{same_json}
@@ -26,30 +25,26 @@ use Rattle.openapi_values.specs.JsonAdmits.{schema_admits}
 use Rattle.openapi_values.specs.Keywords.{is_annotation, bound_or, part_of}
 use Rattle.openapi_values.specs.Levels.{Level, is_null, as_text, as_list, as_object}
 use Rattle.openapi_values.specs.Lookup.{is_null_alone}
-use Rattle.openapi_values.specs.Objects.{Entry, object_of, reference_json, members_of as members_in}
+use Rattle.openapi_values.specs.Objects.{Entry, object_of, reference_json}
 use Rattle.openapi_values.specs.Options.{is_none_or, is_some_and}
-use Rattle.openapi_values.specs.Refusal.{type_array, values_refusal, bounds_refusal}
-use Rattle.openapi_values.specs.SchemaJson.{annotations, const_values, values_of, values_json, nothing_entries, own_entries, without_values, entries_behind, object_step, type_entries, type_name, schema_json}
-use Rattle.schema_meaning.specs.Accepted.{AreRead, AsksOfNoForm, IsEmpty}
+use Rattle.openapi_values.specs.Refusal.{type_array, values_refusal}
+use Rattle.openapi_values.specs.SchemaJson.{annotations, const_values, values_of, values_json, nothing_entries, without_values, entries_behind, object_step, type_entries, type_name}
+use Rattle.schema_meaning.specs.Accepted.{AreRead, AsksOfNoForm}
 use Rattle.schema_meaning.specs.Asked.{is_of, is_of_types, format_holds, number_holds, length_holds, array_holds, object_holds, form_holds, subschemas_hold, each_holds, parts_hold}
-use Rattle.schema_meaning.specs.Reached.{members_of, smaller_schemas}
+use Rattle.schema_meaning.specs.Reached.{combined_schemas, smaller_schemas}
 use Rattle.schema_meaning.proofs.Behind.{both_behind, plain_behind, subschema_entries, subschemas_behind, no_subschema}
 use Rattle.schema_meaning.proofs.Combined.{Agree, rows, rows-append, subschemas_agree}
 use Rattle.schema_meaning.proofs.Entries.{found}
-use Rattle.schema_meaning.proofs.Noted.{AreBehind, null_form, all_entries, noted_admits}
-use Rattle.schema_meaning.proofs.NotRefused.{AreNull, Unrefused, has_one, nulls_beside, no_values, without_type, of_array, of_object}
+use Rattle.schema_meaning.proofs.Noted.{AreBehind, null_form, noted_admits}
+use Rattle.schema_meaning.proofs.NotRefused.{Unrefused, has_one, nulls_beside, no_values, without_type, of_array, of_object}
 use Rattle.schema_meaning.proofs.TypeEntries.{type_plain}
-use Rattle.schema_meaning.proofs.TypeMeanings.{or_none, entries_of, members_for, rows_at, listed, PartsMean, TypeMeans, boolean_means, string_means, integer_means, array_means, object_means, values_are}
-use Rattle.schema_meaning.proofs.WrittenLevels.{level_of, by_parts-is}
+use Rattle.schema_meaning.proofs.TypeMeanings.{or_none, entries_of, members_for, listed, PartsMean, TypeMeans, boolean_means, string_means, integer_means, array_means, object_means, values_are}
+use Rattle.schema_meaning.proofs.WrittenLevels.{level_of}
 
 regrouped : (t v f s : Bool) → ((t && (v && f)) && s) ≡ (t && (v && (f && s)))
 regrouped true true f s = refl
 regrouped true false f s = refl
 regrouped false v f s = refl
-
-pub and-false : (b : Bool) → (b && false) ≡ false
-and-false true = refl
-and-false false = refl
 
 null_is : (v : Json) → out-Json v ≡ Json-F.Null → v ≡ NullJson
 null_is v e = sym (roll-out-Json v) ∙ ap roll-Json e ∙ json.rolls-Null
@@ -112,7 +107,7 @@ module _ (given : Option (List ℕ)) (p : Parts) (read : AreRead p) (right : Unr
   abbrev Outcome : Option InstanceTypes → Level Json → Type 0
   Outcome t x = null_or x (if null_form (Entries t) then is_null x else rows_in t x (Entries t)) ≡ null_or x (asked t x)
 
-  module _ (agree : (s : Subschemas) → p.subschemas ≡ Some s → Agree next means_next (members_of s)) (empty : (s : Subschemas) (t : Schema) → p.subschemas ≡ Some s → s.not ≡ Some t → means_next t ≡ true) where
+  module _ (agree : (s : Subschemas) → p.subschemas ≡ Some s → Agree next means_next (combined_schemas s)) (empty : (s : Subschemas) (t : Schema) → p.subschemas ≡ Some s → s.not ≡ Some t → means_next t ≡ true) where
     subschemas_part : (t : Option InstanceTypes) (x : Level Json) → rows_in t x (subschema_entries p.subschemas) ≡ Subschemas_hold
     subschemas_part t x = subschemas_agree smaller next value x (members_for given p read value smaller next means no_truth told t) means_next p.subschemas agree empty
 
@@ -248,14 +243,14 @@ module _ (given : Option (List ℕ)) (p : Parts) (read : AreRead p) (right : Unr
   behind : (t : Option InstanceTypes) → AreBehind (Entries t)
   behind t =
       both_behind (type_entries t (level_of p)) (subschema_entries p.subschemas) (plain_behind (type_entries t (level_of p)) (type_plain t p))
-      (subschemas_behind p.subschemas (λ s e. record { one_all = λ ss f. read.one_all s ss e f; not_empty = λ u f. read.not_empty s u e f }))
+      (subschemas_behind p.subschemas read.subschemas_read)
 
   nothing_asked : (x : Level Json) → p.enum_values ≡ Some [] → asked p.instance_type x ≡ false
   nothing_asked x e = ap (λ (o : Option (List Json)). is_none_or p.instance_type (is_of_types x) && (is_none_or o (list_any (same_json value)) && (form_holds means x p && Subschemas_hold))) e ∙ and-false (is_none_or p.instance_type (is_of_types x))
 
   -- what stands inside the object agrees
   pub record InsideAgrees (x : Level Json) : Type 0 where
-    pub agree : (s : Subschemas) → p.subschemas ≡ Some s → Agree next means_next (members_of s)
+    pub agree : (s : Subschemas) → p.subschemas ≡ Some s → Agree next means_next (combined_schemas s)
     pub empty : (s : Subschemas) (t : Schema) → p.subschemas ≡ Some s → s.not ≡ Some t → means_next t ≡ true
     pub parts : PartsOf (smaller_schemas p.instance_type p) x
 

@@ -9,13 +9,11 @@ use Rattle.schema_values.specs.declared.json_value.Json.{Json, out-Json}
 use Rattle.schema_values.specs.declared.json_value.Json.TheOpen.{Json-F}
 use Rattle.schema_values.specs.declared.json_value.Member.{Member}
 use Rattle.schema_values.specs.declared.schema.ArrayParts.{ArrayParts}
-use Rattle.schema_values.specs.declared.schema.InstanceType.{InstanceType}
-use Rattle.schema_values.specs.declared.schema.InstanceTypes.{InstanceTypes}
 use Rattle.schema_values.specs.declared.schema.Items.{Items, out-Items}
 use Rattle.schema_values.specs.declared.schema.Items.TheOpen.{Items-F, Schema-F}
 use Rattle.schema_values.specs.declared.schema.ObjectParts.{ObjectParts, out-ObjectParts}
 use Rattle.schema_values.specs.declared.schema.Schema.{Schema, out-Schema}
-use Rattle.schema_values.specs.declared.schema.SchemaObject.{SchemaObject, out-SchemaObject}
+use Rattle.schema_values.specs.declared.schema.SchemaObject.{out-SchemaObject}
 use Rattle.schema_values.specs.Beside.{Beside, beside_with, member_with, level_with}
 use Rattle.schema_values.specs.Parts.{Parts}
 use Rattle.schema_values.specs.Same.{same_json}

@@ -1,5 +1,5 @@
 -- What the written bounds of a text ask of it.
-use Rattle.std.proofs.Common.{◌≡◌, ℕ, Bool, true, false, ◌&&◌, List, Option, Some, None, option_map, option_and_then, length, nat_le, refl, ◌∙◌, ap, ap₂}
+use Rattle.std.proofs.Common.{◌≡◌, ℕ, Bool, true, ◌&&◌, List, Option, Some, None, option_map, option_and_then, length, refl, ◌∙◌, ap₂}
 use Rattle.std.proofs.Math.Bool.{and-true}
 use Rattle.std.specs.List.{list_any}
 use Rattle.schema_values.specs.declared.json_value.Json.{Json, Text}

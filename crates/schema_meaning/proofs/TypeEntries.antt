@@ -1,13 +1,11 @@
 -- The entries of a type are read whatever values they have.
-use Rattle.std.proofs.Common.{◌≡◌, ℕ, ℤ, Bool, true, false, ◌&&◌, List, [], ◌∷◌, ◌++◌, Option, Some, None, option_map, unwrap_or, nat_le, int_le, pos, refl, sym, subst, ◌∙◌, ap}
+use Rattle.std.proofs.Common.{◌≡◌, ℕ, Bool, List, [], ◌∷◌, Option, Some, None, option_map, unwrap_or, nat_le, int_le, pos, refl, sym, subst, ap}
 use Rattle.std.specs.List.{list_any}
 use Rattle.std.specs.Option.{option_map_or}
-use Rattle.std.specs.Prelude.{codes}
-use Rattle.schema_values.specs.declared.json_value.Json.{Json, Null as NullJson, Text, Int}
+use Rattle.schema_values.specs.declared.json_value.Json.{Json, Null as NullJson, Text}
 use Rattle.schema_values.specs.declared.json_value.Json.TheVariants as json
 use Rattle.schema_values.specs.declared.json_value.Member.{Member}
 use Rattle.schema_values.specs.declared.schema.ArrayParts.{ArrayParts}
-use Rattle.schema_values.specs.declared.schema.InstanceType.{InstanceType}
 use Rattle.schema_values.specs.declared.schema.InstanceType.TheVariants.{Null, Boolean, Object, Array, Number, String, Integer}
 use Rattle.schema_values.specs.declared.schema.InstanceTypes.{InstanceTypes}
 use Rattle.schema_values.specs.declared.schema.InstanceTypes.TheVariants.{Single, Several}
@@ -18,13 +16,12 @@ use Rattle.schema_values.specs.Same.{same_json}
 use Rattle.openapi_values.specs.declared.keywords.Keyword.TheVariants.{OfType}
 use Rattle.openapi_values.specs.Keywords.{is_annotation, bound_or, part_of}
 use Rattle.openapi_values.specs.Levels.{Level, as_text, as_list, as_number, has_type}
-use Rattle.openapi_values.specs.Objects.{Entry}
 use Rattle.openapi_values.specs.Options.{is_none_or, is_some_and}
 use Rattle.openapi_values.specs.Rows.{row, is_listed, is_enough, is_not_too_many}
 use Rattle.openapi_values.specs.SchemaJson.{const_values, values_of, values_json, enum_entries, number_entries, bound_entries, count_json, type_entries, array_written, object_parts_written}
-use Rattle.schema_meaning.specs.Asked.{count_holds}
+use Rattle.openapi_values.proofs.SchemaLevels.{array-is, object_parts-are}
 use Rattle.schema_meaning.proofs.Behind.{ArePlain, both_plain}
-use Rattle.schema_meaning.proofs.WrittenLevels.{level_of, array-is, object_parts-are}
+use Rattle.schema_meaning.proofs.WrittenLevels.{level_of}
 
 enum_plain : (o : Option (List Json)) → ArePlain (enum_entries o)
 unfolding is_annotation bound_or part_of

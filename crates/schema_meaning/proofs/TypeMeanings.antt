@@ -1,7 +1,5 @@
 -- A written type, with what stands beside it, asks what the type and the other parts of the schema ask.
 use Rattle.std.proofs.Common.{◌≡◌, ℕ, ℤ, Bool, true, false, ◌&&◌, List, [], ◌∷◌, ◌++◌, Option, Some, None, option_map, unwrap_or, bytes_eq, refl, sym, subst, ◌∙◌, ap, ap₂}
-use Rattle.std.proofs.Math.Bool.{and-true}
-use Rattle.std.proofs.lemmas.List.Folds.{list_all-append}
 use Rattle.std.specs.List.{list_any, AllByRecursion}
 use Rattle.std.specs.Option.{option_map_or, option_or}
 use Rattle.std.specs.Prelude.{codes, is_some, ⊤, Contains}
@@ -11,11 +9,11 @@ use Rattle.schema_values.specs.declared.json_value.Json.TheVariants as json
 use Rattle.schema_values.specs.declared.json_value.Member.{Member}
 use Rattle.schema_values.specs.declared.schema.ArrayParts.{ArrayParts}
 use Rattle.schema_values.specs.declared.schema.InstanceType.{InstanceType}
-use Rattle.schema_values.specs.declared.schema.InstanceType.TheVariants.{Null, Boolean, Object, Array, Number, String, Integer}
+use Rattle.schema_values.specs.declared.schema.InstanceType.TheVariants.{Boolean, Object, Array, String, Integer}
 use Rattle.schema_values.specs.declared.schema.InstanceTypes.{InstanceTypes}
-use Rattle.schema_values.specs.declared.schema.InstanceTypes.TheVariants.{Single, Several}
+use Rattle.schema_values.specs.declared.schema.InstanceTypes.TheVariants.{Single}
 use Rattle.schema_values.specs.declared.schema.Items.{Items}
-use Rattle.schema_values.specs.declared.schema.Items.TheOpen.{Items-F, Schema-F}
+use Rattle.schema_values.specs.declared.schema.Items.TheOpen.{Schema-F}
 use Rattle.schema_values.specs.declared.schema.NumberBounds.{NumberBounds}
 use Rattle.schema_values.specs.declared.schema.ObjectParts.{ObjectParts, out-ObjectParts}
 use Rattle.schema_values.specs.declared.schema.Schema.{Schema, out-Schema}
@@ -25,13 +23,14 @@ use Rattle.schema_values.specs.Same.{same_json}
 use Rattle.openapi_values.specs.IfTrue.{if_true}
 use Rattle.openapi_values.specs.Keywords.{is_annotation, bound_or, part_of}
 use Rattle.openapi_values.specs.Levels.{Level, is_true, as_text, has_type}
-use Rattle.openapi_values.specs.Lookup.{is_set, is_integer}
+use Rattle.openapi_values.specs.Lookup.{is_integer}
 use Rattle.openapi_values.specs.Objects.{Entry, members_of, unless_empty}
 use Rattle.openapi_values.specs.Options.{is_none_or, is_some_and}
-use Rattle.openapi_values.specs.Refusal.{bounds_refusal, items_missing, items_of}
+use Rattle.openapi_values.specs.Refusal.{bounds_refusal}
 use Rattle.openapi_values.specs.Rows.{is_listed}
 use Rattle.openapi_values.specs.SchemaJson.{const_values, values_of, values_json, enum_entries, number_entries, text_entries, kind_entries, type_entries, type_name, array_written, object_parts_written}
-use Rattle.schema_meaning.specs.Asked.{is_of, format_holds, number_holds, length_holds, array_holds, object_holds, form_holds}
+use Rattle.openapi_values.proofs.SchemaLevels.{object_parts-are}
+use Rattle.schema_meaning.specs.Asked.{is_of, format_holds, number_holds, array_holds, object_holds, form_holds}
 use Rattle.schema_meaning.specs.Accepted.{AreRead}
 use Rattle.schema_meaning.specs.Forms.{ItemsLevel, items_by_form}
 use Rattle.schema_meaning.specs.Reached.{array_schemas, object_schemas, item_schemas, smaller_schemas}
@@ -42,11 +41,11 @@ use Rattle.schema_meaning.proofs.Combined.{rows}
 use Rattle.schema_meaning.proofs.Entries.{found}
 use Rattle.schema_meaning.proofs.Members.{written_properties, MeanOf, object_part}
 use Rattle.schema_meaning.proofs.Noted.{all_entries, found_in}
-use Rattle.schema_meaning.proofs.NotRefused.{Unrefused, HasOne, has_one, one_form}
+use Rattle.schema_meaning.proofs.NotRefused.{HasOne, one_form}
 use Rattle.schema_meaning.proofs.Numbers.{AreMarked, number_part}
 use Rattle.schema_meaning.proofs.Texts.{text_part}
 use Rattle.schema_meaning.proofs.TypeEntries.{type_row, enum_part}
-use Rattle.schema_meaning.proofs.WrittenLevels.{level_of, object_parts-are}
+use Rattle.schema_meaning.proofs.WrittenLevels.{level_of}
 
 pub or_none : {A : Type 0} (o p : Option A) → p ≡ None → option_or o p ≡ o
 or_none None p e = e
@@ -118,7 +117,7 @@ module _ (given : Option (List ℕ)) (p : Parts) (read : AreRead p) (value : Jso
   abbrev integer_entries : Option NumberBounds → List Entry
   integer_entries o = type_entries (Some (Single Integer)) (record (level_of p) { number = o }) ++ subschema_entries p.subschemas
 
-  is_marked : (b : NumberBounds) → p.number ≡ Some b → bounds_refusal (Some (Single Integer)) (Some b) ≡ None → (n : ℤ) → AreMarked smaller next value n (members_for (Some (Single Integer))) b
+  is_marked : (b : NumberBounds) → p.number ≡ Some b → bounds_refusal (Some b) ≡ None → (n : ℤ) → AreMarked smaller next value n (members_for (Some (Single Integer))) b
   unfolding is_annotation
   is_marked b e right n =
       let once = one_form b right in
@@ -142,7 +141,7 @@ module _ (given : Option (List ℕ)) (p : Parts) (read : AreRead p) (value : Jso
       ap (λ (o : Option Json). is_some_and o (λ s. is_some_and (as_text (out-Json s)) (λ name. bytes_eq name (codes "integer")))) (found_in given p (entries_of (Some (Single Integer))) (codes "type") refl refl)
       ∙ ap (λ (x : Level Json). is_some_and (as_text x) (λ name. bytes_eq name (codes "integer"))) (json.outs-Text (codes "integer"))
 
-  pub integer_means : p.instance_type ≡ Some (Single Integer) → bounds_refusal p.instance_type p.number ≡ None → TypeMeans Integer
+  pub integer_means : p.instance_type ≡ Some (Single Integer) → bounds_refusal p.number ≡ None → TypeMeans Integer
   integer_means e right x h = by_type Integer x ∙ by_level x
     where
       by_level : (x : Level Json) → (has_type (codes "integer") x && rows_at Integer x (kind_entries Integer (level_of p))) ≡ (is_of x Integer && (listed && form_holds means x p))
@@ -151,7 +150,7 @@ module _ (given : Option (List ℕ)) (p : Parts) (read : AreRead p) (value : Jso
       by_level (Json-F.Int n) =
           ap (λ (o : Option (List Json)). rows_at Integer (Json-F.Int n) (number_entries p.format p.number o)) values_are
           ∙ number_part smaller next value n (members_for (Some (Single Integer))) p.format p.number p.enum_values integer_is
-          (λ b f. is_marked b f (sym (ap₂ bounds_refusal e f) ∙ right) n)
+          (λ b f. is_marked b f (sym (ap bounds_refusal f) ∙ right) n)
           ∙ ap (λ (t : Option InstanceTypes). listed && (format_holds t p.format n && is_none_or p.number (number_holds n))) (sym e)
       by_level (Json-F.Text t) = refl
       by_level (Json-F.List xs) = refl

@@ -1,5 +1,5 @@
 -- The agreement in a whole document, whose room is enough.
-use Rattle.std.proofs.Common.{◌≡◌, ◌↔◌, ℕ, suc, ◌+◌, ◌≤◌, Bool, true, false, List, [], ◌∷◌, map, sum, Option, Some, None, option_map, bytes_eq, cond, IsTrue, refl, sym, ◌∙◌, ap, subst, arith}
+use Rattle.std.proofs.Common.{◌≡◌, ◌↔◌, ℕ, ◌≤◌, Bool, true, false, List, [], ◌∷◌, map, sum, Option, Some, None, option_map, bytes_eq, cond, IsTrue, refl, sym, ◌∙◌, ap, subst, arith}
 use Rattle.std.specs.Prelude.{find}
 use Rattle.schema_values.specs.declared.json_value.Json.{Json}
 use Rattle.schema_values.specs.declared.schema.Schema.{Schema}
@@ -12,12 +12,14 @@ use Rattle.schema_meaning.specs.Count.{schemas, room}
 use Rattle.schema_meaning.specs.Definitions.{Definitions, schema_named}
 use Rattle.schema_meaning.specs.Meaning.{admits_within, SchemaAdmits}
 use Rattle.schema_meaning.specs.Reached.{IsReached, itself}
+use Rattle.schema_meaning.specs.Steps.{StepsSuffice, MeaningStepsSuffice}
 use Rattle.schema_meaning.specs.Written.{DefinesReached}
 use Rattle.schema_meaning.proofs.Agreement.{agree}
 use Rattle.schema_meaning.proofs.Bounds.{Sized, each_rests}
 use Rattle.schema_meaning.proofs.Chains.{Rests, rests_more}
 use Rattle.schema_meaning.proofs.Counts.{schemas_count}
 use Rattle.schema_meaning.proofs.Documents.{sizes_in, size_of_definition, sizes_fit}
+use Rattle.schema_meaning.proofs.OwnDocument.{document_of, defines_all}
 use Rattle.schema_meaning.proofs.Sizes.{Sizes, summed}
 use Rattle.schema_meaning.proofs.WrittenLevels.{json_of}
 use Rattle.schema_meaning.proofs.WrittenSizes.{written_size, written_counts, titled_fits}
@@ -42,12 +44,8 @@ counts_summed (d ∷ ds) =
     omega (arith, counts_summed ds, sum_by-cons (λ n. n) (schemas d.1) (map (λ (e : List ℕ × ℕ). e.1) (sizes_of ds)), sum_by-cons (λ n. n) (schemas d.1) (map (λ (d : List ℕ × Schema). schemas d.1) ds))
 
 module _ (doc : Json) (definitions : Definitions) (whole : Schema) (title : Option (List ℕ)) (accepted : IsAccepted definitions whole) (defines : DefinesReached doc definitions whole) where
-  -- the steps at each value, as written and as meant
-  abbrev q : ℕ
-  q = written_room doc (schema_json title whole)
-
-  abbrev r : ℕ
-  r = room definitions whole
+  abbrev written : Json
+  written = schema_json title whole
 
   written_sized : Sized definitions whole written_size (sizes_in doc)
   written_sized = record {
@@ -61,16 +59,32 @@ module _ (doc : Json) (definitions : Definitions) (whole : Schema) (title : Opti
     named = λ s name y reached e f. count_found name definitions ∙ ap (option_map schemas) f;
   }
 
-  rests_written : (s : Schema) → IsReached definitions whole s → Rests definitions q s
-  rests_written s reached =
-      rests_more definitions _ q s (omega (arith, sizes_fit doc, titled_fits title whole)) (each_rests definitions whole written_size (sizes_in doc) written_sized (λ t i. (accepted t i).no_way_back) s reached)
+  -- any steps that are no fewer than the two rooms
+  module _ (q r : ℕ) (enough : written_room doc written ≤ q) (also : room definitions whole ≤ r) where
+    rests_written : (s : Schema) → IsReached definitions whole s → Rests definitions q s
+    rests_written s reached =
+        rests_more definitions _ q s (omega (arith, enough, sizes_fit doc, titled_fits title whole)) (each_rests definitions whole written_size (sizes_in doc) written_sized (λ t i. (accepted t i).no_way_back) s reached)
 
-  rests : (s : Schema) → IsReached definitions whole s → Rests definitions r s
-  rests s reached =
-      rests_more definitions _ r s (omega (arith, counts_summed definitions)) (each_rests definitions whole schemas (sizes_of definitions) sized (λ t i. (accepted t i).no_way_back) s reached)
+    rests : (s : Schema) → IsReached definitions whole s → Rests definitions r s
+    rests s reached =
+        rests_more definitions _ r s (omega (arith, also, counts_summed definitions)) (each_rests definitions whole schemas (sizes_of definitions) sized (λ t i. (accepted t i).no_way_back) s reached)
 
-  same : (json : Json) → written_within doc q json q (schema_json title whole) ≡ admits_within definitions r json r whole
-  same json = agree definitions whole doc accepted defines q r rests_written rests (omega arith) json whole itself q (rests_written whole itself) title r (rests whole itself)
+    pub same : (json : Json) → written_within doc q json q written ≡ admits_within definitions r json r whole
+    same json = agree definitions whole doc accepted defines q r rests_written rests (omega (arith, also)) json whole itself q (rests_written whole itself) title r (rests whole itself)
 
-  pub written_agrees : (json : Json) → JsonAdmits doc (schema_json title whole) json ↔ SchemaAdmits definitions whole json
-  written_agrees json = (λ h. subst IsTrue (same json) h, λ h. subst IsTrue (sym (same json)) h)
+  pub written_agrees : (json : Json) → JsonAdmits doc written json ↔ SchemaAdmits definitions whole json
+  written_agrees json =
+      let is = same (written_room doc written) (room definitions whole) (omega arith) (omega arith) json in
+      (λ h. subst IsTrue is h, λ h. subst IsTrue (sym is) h)
+
+  -- from the room on the steps are never spent
+  pub written_steps : StepsSuffice doc written
+  written_steps json steps enough =
+      same steps (room definitions whole) enough (omega arith) json ∙ sym (same (written_room doc written) (room definitions whole) (omega arith) (omega arith) json)
+
+pub meant_steps : (definitions : Definitions) (whole : Schema) → IsAccepted definitions whole → MeaningStepsSuffice definitions whole
+meant_steps definitions whole accepted json steps enough =
+    let doc = document_of definitions in
+    let q = written_room doc (schema_json None whole) in
+    let defines = defines_all definitions whole in
+    sym (same doc definitions whole None accepted defines q steps (omega arith) enough json) ∙ same doc definitions whole None accepted defines q (room definitions whole) (omega arith) (omega arith) json

@@ -1,8 +1,8 @@
 -- How many JSON values a written schema has, beside those of the schemas inside it.
-use Rattle.std.proofs.Common.{◌≡◌, ℕ, suc, ◌+◌, ◌≤◌, List, [], ◌∷◌, ◌++◌, map, sum, is_some, ◌||◌, Option, Some, None, option_map, unwrap_or, cond, codes, if◌then◌else◌, Bool, true, false, refl, sym, ◌∙◌, ap, subst, arith}
+use Rattle.std.proofs.Common.{◌≡◌, ℕ, suc, ◌+◌, ◌≤◌, List, [], ◌∷◌, ◌++◌, map, sum, is_some, ◌||◌, Option, Some, None, option_map, unwrap_or, cond, codes, Bool, true, false, refl, ◌∙◌, ap, arith}
 use Rattle.std.specs.Option.{option_map_or, option_or}
 use Rattle.std.proofs.lemmas.List.Sums.{sum_by-cons}
-use Rattle.schema_values.specs.declared.json_value.Json.{Json, Bool as Truth, Text as Words, List as ListOf, Object as ObjectOf, out-Json}
+use Rattle.schema_values.specs.declared.json_value.Json.{Json, Text as Words, List as ListOf, Object as ObjectOf, out-Json}
 use Rattle.schema_values.specs.declared.json_value.Json.TheOpen.{Json-F}
 use Rattle.schema_values.specs.declared.json_value.Json.TheVariants as json
 use Rattle.schema_values.specs.declared.json_value.Member.{Member}
@@ -17,21 +17,21 @@ use Rattle.schema_values.specs.declared.schema.Property.{Property}
 use Rattle.schema_values.specs.declared.schema.Schema.{Schema, out-Schema}
 use Rattle.schema_values.specs.declared.schema.SchemaObject.{SchemaObject, out-SchemaObject}
 use Rattle.schema_values.specs.declared.schema.Subschemas.{Subschemas}
-use Rattle.schema_values.specs.Member.{member}
 use Rattle.schema_values.specs.Parts.{Parts}
 use Rattle.schema_values.specs.Get.{first_named}
 use Rattle.openapi_values.specs.IfTrue.{if_true}
-use Rattle.openapi_values.specs.Objects.{Entry, members_of as members_in, object_of, reference_json, pair_member, unless_empty}
+use Rattle.openapi_values.specs.Objects.{Entry, members_of as members_in, object_of, reference_json, unless_empty}
 use Rattle.openapi_values.specs.Room.{values}
-use Rattle.openapi_values.specs.SchemaJson.{Written, untitled, count_json, names_json, extension_entries, truth_json, additional_json, schemas_json, nothing_entries, annotations, const_values, enum_entries, type_entries, entries_behind, own_entries, object_step, without_values, schema_written, items_written, property_written, array_written, object_parts_written, subschemas_written, schema_json}
+use Rattle.openapi_values.specs.SchemaJson.{Written, untitled, count_json, names_json, extension_entries, truth_json, additional_json, schemas_json, nothing_entries, annotations, const_values, enum_entries, type_entries, entries_behind, object_step, without_values, schema_written, items_written, property_written, array_written, object_parts_written, schema_json}
 use Rattle.openapi_values.specs.ValuesOfMembers.{member_values}
 use Rattle.openapi_values.proofs.RoomLemmas.{values_is, values_row}
+use Rattle.openapi_values.proofs.SchemaLevels.{array-is, property-is, subschemas-are, object_parts-are}
 use Rattle.schema_meaning.specs.Forms.{SchemaLevel, ItemsLevel, level_by_form, items_by_form}
-use Rattle.schema_meaning.specs.Reached.{if_any, members_of, item_schemas, array_schemas, object_schemas, smaller_schemas, stands_alone, beside_in, below_in, beside, below}
+use Rattle.schema_meaning.specs.Reached.{if_any, combined_schemas, item_schemas, array_schemas, object_schemas, smaller_schemas, stands_alone, beside_in, below_in, beside, below}
 use Rattle.schema_meaning.proofs.Among.{sum_append}
 use Rattle.schema_meaning.proofs.Behind.{subschema_entries}
 use Rattle.schema_meaning.proofs.Members.{written_properties}
-use Rattle.schema_meaning.proofs.WrittenLevels.{json_of, truth-is, object-under, by_parts-is, level_of, one-is, tuple-is, array-is, property-is, subschemas-are, object_parts-are}
+use Rattle.schema_meaning.proofs.WrittenLevels.{json_of, truth-is, object-under, by_parts-is, level_of, one-is, tuple-is}
 
 -- the values of a schema as it is written
 abbrev pub written_size : Schema → ℕ
@@ -102,7 +102,7 @@ unfolding value_there
 one_fits None = omega arith
 one_fits (Some s) = omega (arith, sum_by-cons (λ n. n) (written_size s) [])
 
-subschemas_fit : (o : Option Subschemas) → sum (map written_size (option_map_or members_of o [])) ≤ total (subschema_entries o)
+subschemas_fit : (o : Option Subschemas) → sum (map written_size (option_map_or combined_schemas o [])) ≤ total (subschema_entries o)
 subschemas_fit None = omega arith
 subschemas_fit (Some u) =
     let one = unwrap_or u.one_of [] ++ if_any u.not in
@@ -229,7 +229,7 @@ pub written_counts : (s : Schema) → suc (sum (map written_size (beside s)) + s
 written_counts s = by_form (out-Schema s) refl
   where
     by_alone : (o : SchemaObject) (b : Bool) → out-Schema s ≡ Schema-F.Object o → stands_alone (out-SchemaObject o) ≡ b
-        → suc (sum (map written_size (cond b [] (option_map_or members_of (out-SchemaObject o).subschemas []))) + sum (map written_size (cond b [] (smaller_schemas (out-SchemaObject o).instance_type (out-SchemaObject o))))) ≤ written_size s
+        → suc (sum (map written_size (cond b [] (option_map_or combined_schemas (out-SchemaObject o).subschemas []))) + sum (map written_size (cond b [] (smaller_schemas (out-SchemaObject o).instance_type (out-SchemaObject o))))) ≤ written_size s
     by_alone o true e f = omega (arith, values_positive (json_of s))
     by_alone o false e f =
         let p = out-SchemaObject o in
@@ -266,16 +266,16 @@ titled_notes given p es =
     let c = λ (title : Option (List ℕ)). (codes "writeOnly", if_true p.write_only) ∷ b title in
     let d = λ (title : Option (List ℕ)). (codes "readOnly", if_true p.read_only) ∷ c title in
     let parts : (title : Option (List ℕ)) → total ((codes "nullable", if_true p.nullable) ∷ d title) ≡
-          value_there (if_true p.nullable) + (value_there (if_true p.read_only) + (value_there (if_true p.write_only) + (value_there (if_true p.deprecated) + (value_there (first_named (codes "example") p.extensions) + (value_there (option_map Words title) + total rest)))))
-        = λ (title : Option (List ℕ)). omega (
-          arith,
-          total_cons (codes "nullable") (if_true p.nullable) (d title),
-          total_cons (codes "readOnly") (if_true p.read_only) (c title),
-          total_cons (codes "writeOnly") (if_true p.write_only) (b title),
-          total_cons (codes "deprecated") (if_true p.deprecated) (a title),
-          total_cons (codes "example") (first_named (codes "example") p.extensions) (titled title),
-          total_cons (codes "title") (option_map Words title) rest,
-        ) in
+    value_there (if_true p.nullable) + (value_there (if_true p.read_only) + (value_there (if_true p.write_only) + (value_there (if_true p.deprecated) + (value_there (first_named (codes "example") p.extensions) + (value_there (option_map Words title) + total rest)))))
+    = λ (title : Option (List ℕ)). omega (
+      arith,
+      total_cons (codes "nullable") (if_true p.nullable) (d title),
+      total_cons (codes "readOnly") (if_true p.read_only) (c title),
+      total_cons (codes "writeOnly") (if_true p.write_only) (b title),
+      total_cons (codes "deprecated") (if_true p.deprecated) (a title),
+      total_cons (codes "example") (first_named (codes "example") p.extensions) (titled title),
+      total_cons (codes "title") (option_map Words title) rest,
+    ) in
     omega (arith, parts p.title, parts (option_or given p.title), title_there given p.title)
 
 pub titled_fits : (given : Option (List ℕ)) (s : Schema) → written_size s ≤ values (schema_json given s)

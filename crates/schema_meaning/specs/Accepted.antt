@@ -1,6 +1,6 @@
 -- The schemas whose meaning is kept where they are written (OpenAPI 3.0.3, Schema Object).
-use Rattle.std.specs.Prelude.{◌≡◌, ◌⊎◌, true, ⊤, List, [], ◌∷◌, Option, Some, None, IfSome}
-use Rattle.schema_values.specs.declared.json_value.Json.{Json, Null as NullJson}
+use Rattle.std.specs.Prelude.{◌≡◌, ◌⊎◌, true, List, [], ◌∷◌, Some, None, IfSome}
+use Rattle.schema_values.specs.declared.json_value.Json.{Null as NullJson}
 use Rattle.schema_values.specs.declared.schema.InstanceType.TheVariants.{Null, String}
 use Rattle.schema_values.specs.declared.schema.InstanceTypes.TheVariants.{Single}
 use Rattle.schema_values.specs.declared.schema.Items.TheOpen.{Schema-F}
@@ -22,6 +22,11 @@ IsEmpty schema =
 abbrev pub IsOne : List Schema → Type 0
 IsOne schemas = (schema : Schema) × (schemas ≡ schema ∷ [])
 
+-- `all_of` has one schema, and `not` the empty one
+pub record SubschemasAreRead (subschemas : Subschemas) : Type 0 where
+  pub one_all : IfSome subschemas.all_of IsOne
+  pub not_empty : IfSome subschemas.not IsEmpty
+
 -- no part stands that asks something of numbers, texts, lists or objects
 pub record AsksOfNoForm (parts : Parts) : Type 0 where
   pub no_number : parts.number ≡ None
@@ -32,9 +37,7 @@ pub record AsksOfNoForm (parts : Parts) : Type 0 where
 -- the parts of a schema object that is no reference are those that are read where the schema is written
 pub record AreRead (parts : Parts) : Type 0 where
   pub no_const : parts.const_value ≡ None
-  -- `all_of` has one schema, and `not` the empty one
-  pub one_all : (subschemas : Subschemas) (schemas : List Schema) → parts.subschemas ≡ Some subschemas → subschemas.all_of ≡ Some schemas → IsOne schemas
-  pub not_empty : (subschemas : Subschemas) (schema : Schema) → parts.subschemas ≡ Some subschemas → subschemas.not ≡ Some schema → IsEmpty schema
+  pub subschemas_read : IfSome parts.subschemas SubschemasAreRead
   -- what is asked of one form of values stands beside a type
   pub typed : parts.instance_type ≡ None → AsksOfNoForm parts
   -- beside the type of null no subschemas stand

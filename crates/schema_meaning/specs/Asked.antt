@@ -1,5 +1,5 @@
 -- What each part of a schema asks of a value (OpenAPI 3.0.3, Schema Object).
-use Rattle.std.specs.Prelude.{ℕ, ℤ, Bool, true, false, ◌&&◌, ◌||◌, not, ◌==◌, nat_le, int_le, int_lt, List, [], ◌∷◌, Option, Some, None, option_map, find, bytes_eq, length, count_by}
+use Rattle.std.specs.Prelude.{ℕ, ℤ, Bool, true, false, ◌&&◌, ◌||◌, not, ◌==◌, nat_le, int_le, int_lt, List, [], ◌∷◌, Option, Some, option_map, find, bytes_eq, length, count_by}
 use Rattle.std.specs.List.{list_all, list_any}
 use Rattle.std.specs.Option.{option_map_or}
 use Rattle.schema_values.specs.declared.json_value.Json.{Json}
@@ -19,7 +19,7 @@ use Rattle.schema_values.specs.declared.schema.Subschemas.{Subschemas}
 use Rattle.schema_values.specs.Parts.{Parts}
 use Rattle.schema_values.specs.Same.{same_json}
 use Rattle.openapi_values.specs.Levels.{Named, Level, is_null, has_member}
-use Rattle.openapi_values.specs.Options.{is_some_and, is_none_or}
+use Rattle.openapi_values.specs.Options.{is_none_or}
 use Rattle.openapi_values.specs.Rows.{in_format}
 use Rattle.schema_meaning.specs.Forms.{by_items}
 

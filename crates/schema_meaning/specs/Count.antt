@@ -1,5 +1,5 @@
 -- The steps at each value: as many as there are schemas to go through, and one more.
-use Rattle.std.specs.Prelude.{ℕ, suc, ◌+◌, sum, map, List, [], unwrap_or}
+use Rattle.std.specs.Prelude.{ℕ, suc, ◌+◌, sum, map, [], unwrap_or}
 use Rattle.schema_values.specs.declared.schema.ArrayParts.{ArrayParts-F}
 use Rattle.schema_values.specs.declared.schema.Items.{Items-F}
 use Rattle.schema_values.specs.declared.schema.Items.TheOpen as open_types

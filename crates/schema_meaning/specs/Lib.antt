@@ -6,3 +6,4 @@ pub mod Reached
 pub mod Accepted
 pub mod Count
 pub mod Written
+pub mod Steps

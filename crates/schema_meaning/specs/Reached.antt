@@ -21,8 +21,8 @@ if_any None = []
 if_any (Some schema) = schema ∷ []
 
 -- the schemas of the same value
-abbrev pub members_of : Subschemas → List Schema
-members_of subschemas = unwrap_or subschemas.all_of [] ++ (unwrap_or subschemas.any_of [] ++ (unwrap_or subschemas.one_of [] ++ if_any subschemas.not))
+abbrev pub combined_schemas : Subschemas → List Schema
+combined_schemas subschemas = unwrap_or subschemas.all_of [] ++ (unwrap_or subschemas.any_of [] ++ (unwrap_or subschemas.one_of [] ++ if_any subschemas.not))
 
 -- the schemas of items
 abbrev pub item_schemas : Items → List Schema
@@ -48,7 +48,7 @@ stands_alone parts = is_some parts.reference || without_values parts.enum_values
 
 -- the schemas in a schema object that are of the same value
 abbrev pub beside_in : SchemaObject → List Schema
-beside_in object = if stands_alone (out-SchemaObject object) then [] else option_map_or members_of (out-SchemaObject object).subschemas []
+beside_in object = if stands_alone (out-SchemaObject object) then [] else option_map_or combined_schemas (out-SchemaObject object).subschemas []
 
 -- the schemas in a schema object that are of smaller values
 abbrev pub below_in : SchemaObject → List Schema

@@ -3,4 +3,4 @@
 
 mod laws;
 
-pub use laws::schemas_agree;
+pub use laws::{schemas_agree, steps_suffice};
