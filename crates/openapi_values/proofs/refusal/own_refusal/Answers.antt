@@ -1,4 +1,4 @@
-use Rattle.std.proofs.Common.{◌≡◌, List, [], ◌∷◌, ◌++◌, None, Some, option_map, unwrap_or, rules, refl, sym, ap, ◌∙◌}
+use Rattle.std.proofs.Common.{◌≡◌, List, [], ◌∷◌, ◌++◌, None, Some, unwrap_or, rules, refl, sym, ap, ◌∙◌}
 use Rattle.std.specs.Option.{option_or}
 use Rattle.schema_values.specs.declared.schema.SchemaObject.{out-SchemaObject}
 use Rattle.openapi_values.specs.Refusal.{Refusal, first_of, object_level, items_of, items_missing, const_among, const_alone, values_refusal, bounds_refusal, kinds_refusal}
