@@ -9,6 +9,7 @@ pub mod Steps
 pub mod Admitter
 pub mod JsonAdmits
 pub mod Smaller
+pub mod TextAdmitter
 pub mod IfTrue
 pub mod Objects
 pub mod Operation

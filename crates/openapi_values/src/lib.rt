@@ -6,6 +6,7 @@ mod document;
 mod find;
 mod info;
 mod j2oas;
+mod json_text;
 mod keywords;
 mod laws;
 mod media;
