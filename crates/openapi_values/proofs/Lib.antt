@@ -1,4 +1,7 @@
 pub mod After
+pub mod CutAlike
+pub mod DigitLemmas
+pub mod FarNumbers
 pub mod Measure
 pub mod ObjectLemmas
 pub mod PartMaps
@@ -8,6 +11,8 @@ pub mod SameText
 pub mod SchemaLevels
 pub mod Stands
 pub mod Steps
+pub mod SoundLevels
 pub mod StepsLeft
 pub mod TextSteps
+pub mod TextWithin
 pub mod Words

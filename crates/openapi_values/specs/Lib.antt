@@ -15,6 +15,7 @@ pub mod Objects
 pub mod Operation
 pub mod Document
 pub mod TextAdmits
+pub mod CutNumbers
 pub mod MediaTypes
 pub mod RequestParameters
 pub mod Admits
