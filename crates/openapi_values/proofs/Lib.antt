@@ -4,8 +4,10 @@ pub mod ObjectLemmas
 pub mod PartMaps
 pub mod RefusalLevels
 pub mod RoomLemmas
+pub mod SameText
 pub mod SchemaLevels
 pub mod Stands
 pub mod Steps
 pub mod StepsLeft
+pub mod TextSteps
 pub mod Words

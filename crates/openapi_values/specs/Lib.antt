@@ -13,7 +13,11 @@ pub mod IfTrue
 pub mod Objects
 pub mod Operation
 pub mod Document
+pub mod TextAdmits
+pub mod MediaTypes
+pub mod RequestParameters
 pub mod Admits
+pub mod BodyAlone
 pub mod Find
 pub mod SchemaJson
 pub mod Refusal

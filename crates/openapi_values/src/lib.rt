@@ -31,5 +31,5 @@ pub use media::{MediaType, RequestBody, ResponseObject};
 pub use operation::{Operation, PathItem};
 pub use parameter::{HeaderObject, Parameter};
 pub use part::Part;
-pub use request::WireRequest;
+pub use request::{HeaderLine, VariableSet, VariableValue, WireRequest};
 pub use tags::{ExternalDocs, TagObject};

@@ -239,13 +239,13 @@ fn lies_under(strictly: bool, low: &i128, high: &i128) -> bool
     }
 }
 
-fn has_enough(count: usize, least: &Json) -> bool
+pub fn has_enough(count: usize, least: &Json) -> bool
     ensures { result ≡ is_enough count least.now }
 {
     not_below(false, least, &(count as i128))
 }
 
-fn has_not_too_many(count: usize, greatest: &Json) -> bool
+pub fn has_not_too_many(count: usize, greatest: &Json) -> bool
     ensures { result ≡ is_not_too_many count greatest.now }
 {
     not_above(false, greatest, &(count as i128))
