@@ -1,5 +1,5 @@
 -- What is found in a written document.
-use Rattle.std.proofs.Common.{◌≡◌, ◌↔◌, ℕ, Bool, true, false, ◌&&◌, not, cond, List, [], ◌∷◌, map, Option, Some, None, IfSome, IsSome, IsTrue, option_map, option_and_then, unwrap_or, bytes_eq, codes, refl, sym, ◌∙◌, ap, subst, inl, inr}
+use Rattle.std.proofs.Common.{◌≡◌, ◌↔◌, ℕ, Bool, true, false, ◌&&◌, not, cond, List, [], ◌∷◌, map, Option, Some, None, IfSome, is_some, IsTrue, option_map, option_and_then, unwrap_or, bytes_eq, codes, refl, sym, ◌∙◌, ap, subst, inl, inr}
 use Rattle.std.specs.List.{list_all}
 use Rattle.std.proofs.lemmas.Bool.{and_parts}
 use Rattle.std.proofs.lemmas.Slice.Eq.{bytes_eq-Decides}
@@ -201,7 +201,7 @@ module _ (document : OpenApi) (path method : List ℕ) (operation : Operation) (
   to_body b = (b.has_type, b.json, b.reads, b.admitted)
 
   body_admitted : BodyHolds doc request (request_body_json body) → IsBody
-  body_admitted (inl bytes) = absurd (subst (λ (o : Option Json). IsSome o) bytes_are_none bytes)
+  body_admitted (inl bytes) = let none : false ≡ true = ap is_some (sym bytes_are_none) ∙ bytes in absurd (cc none)
   body_admitted (inr b) = let same : b.schema ≡ media.schema = cc (b.under_json, schema_is) in to_body (subst (IsJsonOf doc request) same b.is_json)
 
   pub bodies-admitted : Admits doc path method request ↔ IsAdmitted
