@@ -1,4 +1,5 @@
 pub mod After
+pub mod BlankLemmas
 pub mod Measure
 pub mod ObjectLemmas
 pub mod PartMaps

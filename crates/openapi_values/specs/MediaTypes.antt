@@ -1,7 +1,7 @@
 -- The media type of a request (RFC 9110, sections 5.1, 8.3 and 8.3.1).
-use Rattle.std.specs.Prelude.{ℕ, ◌==◌, nat_le, Bool, ◌||◌, ◌&&◌, IsTrue, List, [], ◌∷◌, map, Option, Some, None, option_map, if◌then◌else◌, find, bytes_eq, codes}
+use Rattle.std.specs.Prelude.{ℕ, ◌==◌, nat_le, Bool, ◌||◌, ◌&&◌, IsTrue, List, [], ◌∷◌, map, take, Option, Some, None, option_map, if◌then◌else◌, find, bytes_eq, codes}
 use Rattle.std.specs.Char.{to_ascii_lowercase}
-use Rattle.std.specs.List.{list_all}
+use Rattle.std.specs.List.{list_all, position_or_len}
 use Rattle.std.specs.Option.{option_map_or}
 use Rattle.std.specs.Str.{encode_utf8_all}
 use Rattle.openapi_values.specs.declared.request.HeaderLine.{HeaderLine}
@@ -30,8 +30,7 @@ is_shown byte = nat_le 0x20 byte && nat_le byte 0x7E || byte == 0x09
 
 -- what stands before the first `;`, behind which the parameters are
 abbrev pub before_parameters : List ℕ → List ℕ
-before_parameters [] = []
-before_parameters (byte ∷ rest) = if byte == 0x3B then [] else byte ∷ before_parameters rest
+before_parameters value = take (position_or_len (λ byte. byte == 0x3B) value) value
 
 -- the same without blanks at its end
 abbrev pub without_end : List ℕ → List ℕ

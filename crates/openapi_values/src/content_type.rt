@@ -70,12 +70,10 @@ fn is_shown(byte: u8) -> bool
 fn before_parameters(value: &[u8]) -> &[u8]
     ensures { result.now ≡ before_parameters value.now }
 {
-    for index in 0..value.len() {
-        if value[index] == b';' {
-            return &value[..index];
-        }
+    match value.iter().position(|&byte| byte == b';') {
+        Some(index) => &value[..index],
+        None => value,
     }
-    value
 }
 
 fn without_end(value: &[u8]) -> &[u8]
