@@ -1,6 +1,7 @@
 -- Numbers that stand alike to all those of 64 bits are admitted alike by a sound schema of a sound document.
-use Rattle.std.proofs.Common.{◌≡◌, ℕ, zero, suc, ℤ, pos, negsuc, ◌^◌, ◌-◌, Bool, true, false, ◌&&◌, ◌||◌, not, cond, int_le, int_lt, if◌then◌else◌, List, [], ◌∷◌, Option, Some, None, bytes_eq, codes, count_by, ◌==◌, refl, sym, ◌∙◌, ap, arith}
+use Rattle.std.proofs.Common.{◌≡◌, ℕ, zero, suc, ◌+◌, ℤ, pos, negsuc, ◌^◌, ◌-◌, Bool, true, false, ◌&&◌, ◌||◌, not, cond, int_le, int_lt, if◌then◌else◌, List, [], ◌∷◌, Option, Some, None, bytes_eq, codes, count_by, ◌==◌, refl, sym, ◌∙◌, ap, arith}
 use Rattle.std.specs.List.{AllByRecursion, list_all, list_any}
+use Rattle.std.proofs.lemmas.List.Sums.{sum_by-cons}
 use Rattle.std.specs.Option.{option_map_or}
 use Rattle.std.specs.Ordering.{int_eq}
 use Rattle.schema_values.specs.declared.json_value.Json.{Json, Null, Bool as Truth, Int, Text, List', Object', out-Json}
@@ -46,7 +47,11 @@ module _ {X : Type 0} (P : X → Type 0) (p q : X → Bool) (agree : (x : X) →
 
   counts_agree : (xs : List X) → AllByRecursion P xs → count_by p xs ≡ count_by q xs
   counts_agree [] h = refl
-  counts_agree (x ∷ xs) h = ap (λ t. cond t (suc (count_by p xs)) (count_by p xs)) (agree x h.0) ∙ ap (λ k. cond (q x) (suc k) k) (counts_agree xs h.1)
+  counts_agree (x ∷ xs) h =
+      sum_by-cons (λ y. cond (p y) 1 0) x xs
+      ∙ ap (λ t. cond t 1 0 + count_by p xs) (agree x h.0)
+      ∙ ap (λ k. cond (q x) 1 0 + k) (counts_agree xs h.1)
+      ∙ sym (sum_by-cons (λ y. cond (q y) 1 0) x xs)
 
 module _ (n m : ℤ) (alike : StandAlike n m) where
   same_between : (low high : ℤ) → IsWhole low → IsWhole high → is_between low high n ≡ is_between low high m

@@ -1,5 +1,8 @@
 pub mod After
 pub mod BlankLemmas
+pub mod CutAlike
+pub mod DigitLemmas
+pub mod FarNumbers
 pub mod Measure
 pub mod ObjectLemmas
 pub mod PartMaps
@@ -9,6 +12,8 @@ pub mod SameText
 pub mod SchemaLevels
 pub mod Stands
 pub mod Steps
+pub mod SoundLevels
 pub mod StepsLeft
 pub mod TextSteps
+pub mod TextWithin
 pub mod Words

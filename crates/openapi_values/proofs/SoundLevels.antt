@@ -5,7 +5,7 @@ use Rattle.schema_values.specs.declared.json_value.Json.{Json, Int, List as List
 use Rattle.schema_values.specs.declared.json_value.Json.TheOpen.{Json-F}
 use Rattle.schema_values.specs.declared.json_value.Json.TheVariants.{rolls-Int, rolls-List, rolls-Object}
 use Rattle.schema_values.specs.declared.json_value.Member.{Member}
-use Rattle.schema_values.specs.Get.{first_named, layer_get, get_of}
+use Rattle.schema_values.specs.Get.{first_named, get_of}
 use Rattle.schema_values.specs.Sound.{IsSound, IsWhole}
 use Rattle.schema_values.specs.SoundMembers.{HasSoundValue}
 use Rattle.schema_values.proofs.SoundLemmas.{IsSound-List, IsSound-Object}
@@ -49,19 +49,21 @@ values_sound s h ms f = members_at s h (out-Json s) refl ms f
 -- the value of a name among sound ones
 pub named_sound : (name : List ℕ) (ms : List Member) (json : Json) → AllByRecursion HasSoundValue ms → first_named name ms ≡ Some json → IsSound json
 named_sound name [] json h f = absurd (cc f)
-named_sound name (m ∷ ms) json h f = go (bytes_eq name m.name) f
+named_sound name (m ∷ ms) json h f = go (λ e. named_sound name ms json h.1 e) (bytes_eq name m.name) f
   where
-    go : (b : Bool) → cond b (Some m.value) (first_named name ms) ≡ Some json → IsSound json
-    go true e = let same : m.value ≡ json = cc e in subst IsSound same h.0
-    go false e = named_sound name ms json h.1 e
+    go : (first_named name ms ≡ Some json → IsSound json) → (b : Bool) → cond b (Some m.value) (first_named name ms) ≡ Some json → IsSound json
+    go later true e = let same : m.value ≡ json = cc e in subst IsSound same h.0
+    go later false e = later e
 
-found_at : (name : List ℕ) (json found : Json) → IsSound json → (x : Level Json) → out-Json json ≡ x → layer_get name x ≡ Some found → IsSound found
-found_at name json found h (Json-F.Object ms) e f = named_sound name ms found (members_at json h (Json-F.Object ms) e ms refl) f
-found_at name json found h Json-F.Null e f = absurd (cc f)
-found_at name json found h (Json-F.Bool b) e f = absurd (cc f)
-found_at name json found h (Json-F.Int n) e f = absurd (cc f)
-found_at name json found h (Json-F.Text t) e f = absurd (cc f)
-found_at name json found h (Json-F.List xs) e f = absurd (cc f)
+found_at : (name : List ℕ) (json found : Json) → IsSound json → (x : Level Json) → out-Json json ≡ x → get_of name json ≡ Some found → IsSound found
+found_at name json found h (Json-F.Object ms) e f =
+    let same : get_of name json ≡ first_named name ms = rw e refl in
+    named_sound name ms found (members_at json h (Json-F.Object ms) e ms refl) (sym same ∙ f)
+found_at name json found h Json-F.Null e f = let none : get_of name json ≡ None = rw e refl in absurd (cc (sym none ∙ f))
+found_at name json found h (Json-F.Bool b) e f = let none : get_of name json ≡ None = rw e refl in absurd (cc (sym none ∙ f))
+found_at name json found h (Json-F.Int n) e f = let none : get_of name json ≡ None = rw e refl in absurd (cc (sym none ∙ f))
+found_at name json found h (Json-F.Text t) e f = let none : get_of name json ≡ None = rw e refl in absurd (cc (sym none ∙ f))
+found_at name json found h (Json-F.List xs) e f = let none : get_of name json ≡ None = rw e refl in absurd (cc (sym none ∙ f))
 
 pub found_sound : (name : List ℕ) (json found : Json) → IsSound json → get_of name json ≡ Some found → IsSound found
 found_sound name json found h f = found_at name json found h (out-Json json) refl f

@@ -179,11 +179,8 @@ module _ (document : OpenApi) (path method : List ℕ) (operation : Operation) (
   abbrev HoldEach : List Json → Type 0
   HoldEach parameters = IsTrue (list_all (parameter_holds doc request) parameters)
 
-  abbrev IsBody : Type 0
-  IsBody = HasJsonType request.headers × (json : Json) × Reads request.body json × JsonAdmits doc media.schema json
-
   abbrev IsAdmitted : Type 0
-  IsAdmitted = (operation.pagination ≡ None) × HoldEach (map parameter_json operation.parameters) × IsBody
+  IsAdmitted = (operation.pagination ≡ None) × HoldEach (map parameter_json operation.parameters) × HasJsonType request.headers × (json : Json) × Reads request.body json × JsonAdmits doc media.schema json
 
   operation_is : operation_at doc path method ≡ Some (operation_json operation)
   operation_is = operation-stands document path method ∙ ap (option_map operation_json) listed
@@ -197,20 +194,22 @@ module _ (document : OpenApi) (path method : List ℕ) (operation : Operation) (
   bytes_are_none : media_in (codes "application/octet-stream") (request_body_json body) ≡ None
   bytes_are_none = media-stands (codes "application/octet-stream") body ∙ ap (option_map media_type_json) no_bytes
 
-  to_body : IsJsonOf doc request media.schema → IsBody
-  to_body b = (b.has_type, b.json, b.reads, b.admitted)
-
-  body_admitted : BodyHolds doc request (request_body_json body) → IsBody
+  body_admitted : BodyHolds doc request (request_body_json body) → IsJsonOf doc request media.schema
   body_admitted (inl bytes) = let none : false ≡ true = ap is_some (sym bytes_are_none) ∙ bytes in absurd (cc none)
-  body_admitted (inr b) = let same : b.schema ≡ media.schema = cc (b.under_json, schema_is) in to_body (subst (IsJsonOf doc request) same b.is_json)
+  body_admitted (inr b) = let same : b.schema ≡ media.schema = cc (b.under_json, schema_is) in subst (IsJsonOf doc request) same b.is_json
 
   pub bodies-admitted : Admits doc path method request ↔ IsAdmitted
   bodies-admitted = (
-    λ a. let same : a.operation ≡ operation_json operation = cc (a.stands, operation_is) in (
-      none_mapped pagination_json operation.pagination (sym (pages-stand operation) ∙ ap (get_of (codes "x-dropshot-pagination")) (sym same) ∙ a.holds.not_paged),
-      subst HoldEach (ap parameters_of same ∙ parameters-stand operation) a.holds.parameters,
-      body_admitted (subst (λ (o : Option Json). IfSome o (BodyHolds doc request)) (ap (get_of (codes "requestBody")) same ∙ body_is) a.holds.body),
-    ),
+    λ a.
+        let same : a.operation ≡ operation_json operation = cc (a.stands, operation_is) in
+        let b = body_admitted (subst (λ (o : Option Json). IfSome o (BodyHolds doc request)) (ap (get_of (codes "requestBody")) same ∙ body_is) a.holds.body) in (
+          none_mapped pagination_json operation.pagination (sym (pages-stand operation) ∙ ap (get_of (codes "x-dropshot-pagination")) (sym same) ∙ a.holds.not_paged),
+          subst HoldEach (ap parameters_of same ∙ parameters-stand operation) a.holds.parameters,
+          b.has_type,
+          b.json,
+          b.reads,
+          b.admitted,
+        ),
     λ h. record {
       operation = operation_json operation;
       stands = operation_is;

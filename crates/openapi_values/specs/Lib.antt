@@ -9,11 +9,13 @@ pub mod Steps
 pub mod Admitter
 pub mod JsonAdmits
 pub mod Smaller
+pub mod TextAdmitter
 pub mod IfTrue
 pub mod Objects
 pub mod Operation
 pub mod Document
 pub mod TextAdmits
+pub mod CutNumbers
 pub mod MediaTypes
 pub mod RequestParameters
 pub mod Admits

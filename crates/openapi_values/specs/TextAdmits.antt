@@ -61,12 +61,14 @@ abbrev pub only_admits : (Json → Bool) → List Json → Bool
 only_admits next (schema ∷ []) = next schema
 only_admits next _ = false
 
--- by its `allOf` of one, else by its `oneOf`, of which exactly one admits, else by its type; nothing else counts
+-- by its `oneOf`, of which exactly one admits, else by its type
+abbrev pub one_or_typed : Json → (Json → Bool) → List ℕ → Json → List Member → Bool
+one_or_typed doc next text s schema = option_map_or (one_admits next) (first_named (codes "oneOf") schema) (typed_admits (json_admitted doc s) schema text)
+
+-- by its `allOf` of one, else by these; nothing else counts
 abbrev pub form_admits : Json → (Json → Bool) → List ℕ → Json → List Member → Bool
 form_admits doc next text s schema =
-    option_map_or (λ all. is_some_and (as_list (out-Json all)) (only_admits next)) (first_named (codes "allOf") schema)
-    (option_map_or (one_admits next) (first_named (codes "oneOf") schema)
-    (typed_admits (json_admitted doc s) schema text))
+    option_map_or (λ all. is_some_and (as_list (out-Json all)) (only_admits next)) (first_named (codes "allOf") schema) (one_or_typed doc next text s schema)
 
 -- a reference admits what its definition does
 abbrev pub reference_or_form : Json → (Json → Bool) → List ℕ → Json → List Member → Bool

@@ -18,7 +18,7 @@ use crate::find::get_word;
 use crate::keywords::is_word;
 use crate::query::{first_value, query_pairs};
 use crate::request::{VariableValue, WireRequest};
-use crate::text_admits::text_admits;
+use crate::texts::text_admits;
 use schema_values::{Json, ReadError, Text};
 use std::alloc::{AllocError, Global};
 
@@ -31,7 +31,7 @@ pub fn check_admits(
     method: &str,
     request: &WireRequest,
 ) -> Result<bool, AllocError>
-    requires { IsSound doc.now }
+    requires doc { IsSound doc.now }
     ensures { IfOk result (λ admitted. IsTrue admitted
         ↔ Admits doc.now (chars path.now) (chars method.now) request.now) }
 {
@@ -72,8 +72,8 @@ fn operation_holds(
     operation: &Json,
     request: &WireRequest,
 ) -> Result<bool, AllocError>
-    requires { IsSound doc.now }
-    requires { IsSound operation.now }
+    requires doc { IsSound doc.now }
+    requires operation { IsSound operation.now }
     ensures { IfOk result (λ holds. IsTrue holds ↔ OperationHolds doc.now request.now operation.now) }
 {
     if get_word(operation, "x-dropshot-pagination").is_some() {
@@ -96,9 +96,9 @@ fn parameters_hold(
     pairs: &[(Text, Text)],
     operation: &Json,
 ) -> bool
-    requires { IsSound doc.now }
-    requires { IsSound operation.now }
-    requires { pairs.now ≡ query_pairs request.now.query }
+    requires doc { IsSound doc.now }
+    requires operation { IsSound operation.now }
+    requires pairs { pairs.now ≡ query_pairs request.now.query }
     ensures { result ≡ list_all (parameter_holds doc.now request.now) (parameters_of operation.now) }
 {
     match get_word(operation, "parameters") {
@@ -108,9 +108,9 @@ fn parameters_hold(
 }
 
 fn all_hold(doc: &Json, request: &WireRequest, pairs: &[(Text, Text)], parameters: &[Json]) -> bool
-    requires { IsSound doc.now }
-    requires { AllByRecursion IsSound parameters.now }
-    requires { pairs.now ≡ query_pairs request.now.query }
+    requires doc { IsSound doc.now }
+    requires parameters { AllByRecursion IsSound parameters.now }
+    requires pairs { pairs.now ≡ query_pairs request.now.query }
     ensures { result ≡ list_all (parameter_holds doc.now request.now) parameters.now }
 {
     for parameter in parameters {
@@ -127,9 +127,9 @@ fn parameter_holds(
     pairs: &[(Text, Text)],
     parameter: &Json,
 ) -> bool
-    requires { IsSound doc.now }
-    requires { IsSound parameter.now }
-    requires { pairs.now ≡ query_pairs request.now.query }
+    requires doc { IsSound doc.now }
+    requires parameter { IsSound parameter.now }
+    requires pairs { pairs.now ≡ query_pairs request.now.query }
     ensures { result ≡ parameter_holds doc.now request.now parameter.now }
 {
     let Some(place) = text_of(parameter, "in") else {
@@ -170,8 +170,8 @@ fn is_true_at(json: &Json, name: &str) -> bool
 }
 
 fn variable_holds(doc: &Json, schema: &Json, value: Option<&VariableValue>) -> bool
-    requires { IsSound doc.now }
-    requires { IsSound schema.now }
+    requires doc { IsSound doc.now }
+    requires schema { IsSound schema.now }
     ensures { result ≡ is_some_and (option_map (λ value. value.now) value)
         (variable_holds (text_admitted doc.now schema.now)) }
 {
@@ -188,8 +188,8 @@ fn values_hold(
     name: &Text,
     pairs: &[(Text, Text)],
 ) -> bool
-    requires { IsSound doc.now }
-    requires { IsSound schema.now }
+    requires doc { IsSound doc.now }
+    requires schema { IsSound schema.now }
     ensures { result ≡ values_hold (text_admitted doc.now schema.now) required
         (values_of name.now pairs.now) }
 {

@@ -11,7 +11,8 @@ ghost use Rattle.openapi_values.specs.Levels.{as_text};
 ghost use Rattle.openapi_values.specs.Options.{is_some_and};
 ghost use Rattle.openapi_values.specs.Rows.{row, members_hold, every_admits, some_admits, one_admits, is_listed};
 ghost use Rattle.openapi_values.specs.Steps.{left};
-ghost use Rattle.openapi_values.specs.TextAdmitter.{value_of, level_of, admits_of, smaller_of};
+ghost use Rattle.openapi_values.specs.TextAdmitter.{value_of, level_of, steps_of, admits_of};
+ghost use Rattle.openapi_values.specs.TextAdmitter.{smaller_of};
 ghost use Rattle.std.specs.Prelude.{bytes_eq};
 
 use crate::find::{definition_named, reference_of};
@@ -54,6 +55,13 @@ impl TextAdmitter<'_> {
                 self.schema_admits(&inside(&first.value, &after), schema)
             }
         }
+    }
+
+    // Whether a schema admits the text, with all steps.
+    fn admits_anew(&self, schema: &Json) -> bool
+        ensures { result ≡ admits_of self.now (steps_of self.now) schema.now }
+    {
+        self.schema_admits(self.after_first, schema)
     }
 
     // One step of a schema, with so many steps left after it.
@@ -260,5 +268,5 @@ pub(crate) fn json_text_admits(doc: &Json, schema: &Json, text: &str) -> bool
         after_first: &of_both,
         text,
     };
-    admitter.schema_admits(&of_both, schema)
+    admitter.admits_anew(schema)
 }

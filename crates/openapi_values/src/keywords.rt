@@ -59,6 +59,15 @@ pub fn str_after<'a>(text: &'a str, prefix: &str) -> Option<&'a str>
     text.strip_prefix(prefix)
 }
 
+/// Whether a string is an ASCII word.
+#[tactic(auto, using(crate::proofs::DigitLemmas::word_in_bytes))]
+pub fn is_str_word(text: &str, word: &str) -> bool
+    requires { IsTrue (all_ascii word.now) }
+    ensures { result ≡ bytes_eq word.now (chars text.now) }
+{
+    text == word
+}
+
 #[tactic(auto, unfolding(crate::specs::Keywords::is_annotation))]
 fn names_annotation(name: &Text) -> bool
     ensures { result ≡ is_annotation name.now }

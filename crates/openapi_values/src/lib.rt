@@ -2,26 +2,33 @@
 #![tactic(auto)]
 
 mod admits;
+mod check;
+mod content_type;
 mod document;
 mod find;
 mod info;
 mod j2oas;
+mod json_text;
 mod keywords;
 mod laws;
 mod media;
+mod numbers;
 mod objects;
 mod operation;
 mod parameter;
 mod part;
+mod query;
 mod refusal;
 mod request;
 mod room;
 mod rows;
 mod schema_parts;
 mod tags;
+mod texts;
 mod written;
 
 pub use admits::json_admits;
+pub use check::check_admits;
 pub use document::{Components, OpenApi};
 pub use info::{Contact, Info, License};
 pub use j2oas::{J2oasError, j2oas_schema};
@@ -33,3 +40,4 @@ pub use parameter::{HeaderObject, Parameter};
 pub use part::Part;
 pub use request::{HeaderLine, VariableSet, VariableValue, WireRequest};
 pub use tags::{ExternalDocs, TagObject};
+pub use texts::text_admits;

@@ -49,6 +49,7 @@ fn size_of_digits(digits: &str) -> Option<u128>
     size_of_bytes(digits.as_bytes())
 }
 
+#[tactic(auto, using(crate::proofs::DigitLemmas::digit_taken))]
 fn size_of_bytes(digits: &[u8]) -> Option<u128>
     ensures size { result ≡ option_map cut (digits_number digits.now) }
     ensures bound { IfSome result (λ size. size ≤ 2 ^ 64) }

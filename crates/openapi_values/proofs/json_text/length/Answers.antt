@@ -4,4 +4,4 @@ use Rattle.std.proofs.lemmas.Iterator.Consumers.{count_from_yields_List}
 use Rattle.openapi_values.proofs.json_text.length.Goals as goal
 
 pub returns : goal.returns
-returns c = count_from_yields_List c.chars.result c.count.result c.count.ensures.ran (YieldsList-from_chars c.args.text.now c.args.text.utf8 c.chars.ensures.rest)
+returns c = count_from_yields_List c.chars.result c.count.result c.count.ensures.ran (YieldsList-from_chars c.args.text.now c.utf8.text c.chars.ensures.rest)

@@ -7,4 +7,4 @@ pub returns : goal.returns
 returns c =
     let prefix = c.args.prefix.now in
     let ascii = IsAscii-from_test prefix c.requires in
-    after_cases prefix c.args.text.now ascii (IsUtf8-from_ascii prefix ascii) c.args.text.utf8 c.strip_prefix.result c.strip_prefix.ensures.cases
+    after_cases prefix c.args.text.now ascii (IsUtf8-from_ascii prefix ascii) c.utf8.text c.strip_prefix.result c.strip_prefix.ensures.cases

@@ -10,13 +10,15 @@ ghost use Rattle.openapi_values.specs.Options.{is_some_and};
 ghost use Rattle.openapi_values.specs.Rows.{one_admits};
 ghost use Rattle.openapi_values.specs.Steps.{left};
 ghost use Rattle.openapi_values.specs.TextAdmits.{is_unsigned, number_of, json_admitted, typed_admits};
-ghost use Rattle.openapi_values.specs.TextAdmits.{only_admits, form_admits, reference_or_form, text_step};
+ghost use Rattle.openapi_values.specs.TextAdmits.{only_admits, one_or_typed, form_admits};
+ghost use Rattle.openapi_values.specs.TextAdmits.{reference_or_form, text_step};
+ghost use Rattle.openapi_values.specs.Lookup.{definition};
 ghost use Rattle.openapi_values.specs.TextAdmits.{text_within, TextAdmits};
 
 use crate::admits::json_admits;
 use crate::find::{definition_named, find_word, has_type_named, reference_of};
 use crate::json_text::json_text_admits;
-use crate::keywords::text_after;
+use crate::keywords::{is_str_word, text_after};
 use crate::numbers::{cut_number, has_minus};
 use crate::room::{Steps, inside, of_items, of_members};
 use schema_values::{Json, Member};
@@ -33,8 +35,8 @@ impl TextReader<'_> {
     // Whether a schema admits the text, with so many steps left.
     #[cycle(admits)]
     fn admits(&self, steps: &Steps, schema: &Json) -> bool
-        requires { IsSound self.now.doc.now }
-        requires { IsSound schema.now }
+        requires doc { IsSound self.now.doc.now }
+        requires schema { IsSound schema.now }
         ensures { result ≡ text_within self.now.doc.now (chars self.now.text.now) (left steps.now)
             schema.now }
     {
@@ -62,8 +64,8 @@ impl TextReader<'_> {
     // One step of a schema, with so many steps left after it.
     #[cycle(admits)]
     fn step(&self, next: &Steps, schema: &Json) -> bool
-        requires { IsSound self.now.doc.now }
-        requires { IsSound schema.now }
+        requires doc { IsSound self.now.doc.now }
+        requires schema { IsSound schema.now }
         ensures { result ≡ text_step self.now.doc.now
             (text_within self.now.doc.now (chars self.now.text.now) (left next.now))
             (chars self.now.text.now) schema.now }
@@ -76,44 +78,65 @@ impl TextReader<'_> {
 
     #[cycle(admits)]
     fn reference_or_form(&self, next: &Steps, schema: &Json, members: &[Member]) -> bool
-        requires { IsSound self.now.doc.now }
-        requires { IsSound schema.now }
-        requires { AllByRecursion HasSoundValue members.now }
+        requires doc { IsSound self.now.doc.now }
+        requires schema { IsSound schema.now }
+        requires members { AllByRecursion HasSoundValue members.now }
         ensures { result ≡ reference_or_form self.now.doc.now
             (text_within self.now.doc.now (chars self.now.text.now) (left next.now))
             (chars self.now.text.now) schema.now members.now }
     {
         match reference_of(members) {
-            Some(name) => match definition_named(self.doc, name) {
-                Some(definition) => self.admits(next, definition),
-                None => false,
-            },
+            Some(name) => self.definition_admits(next, name),
             None => self.form_admits(next, schema, members),
         }
     }
 
     #[cycle(admits)]
-    fn form_admits(&self, next: &Steps, schema: &Json, members: &[Member]) -> bool
+    fn definition_admits(&self, next: &Steps, name: &str) -> bool
         requires { IsSound self.now.doc.now }
-        requires { IsSound schema.now }
-        requires { AllByRecursion HasSoundValue members.now }
+        ensures { result ≡ is_some_and (definition self.now.doc.now (chars name.now))
+            (text_within self.now.doc.now (chars self.now.text.now) (left next.now)) }
+    {
+        match definition_named(self.doc, name) {
+            Some(definition) => self.admits(next, definition),
+            None => false,
+        }
+    }
+
+    #[cycle(admits)]
+    fn form_admits(&self, next: &Steps, schema: &Json, members: &[Member]) -> bool
+        requires doc { IsSound self.now.doc.now }
+        requires schema { IsSound schema.now }
+        requires members { AllByRecursion HasSoundValue members.now }
         ensures { result ≡ form_admits self.now.doc.now
             (text_within self.now.doc.now (chars self.now.text.now) (left next.now))
             (chars self.now.text.now) schema.now members.now }
     {
         match find_word(members, "allOf") {
             Some(schemas) => self.all_admits(next, schemas),
-            None => match find_word(members, "oneOf") {
-                Some(schemas) => self.one_admits(next, schemas),
-                None => typed_admits(self.doc, schema, members, self.text),
-            },
+            None => self.one_or_typed(next, schema, members),
+        }
+    }
+
+    #[cycle(admits)]
+    fn one_or_typed(&self, next: &Steps, schema: &Json, members: &[Member]) -> bool
+        requires doc { IsSound self.now.doc.now }
+        requires schema { IsSound schema.now }
+        requires members { AllByRecursion HasSoundValue members.now }
+        ensures { result ≡ one_or_typed self.now.doc.now
+            (text_within self.now.doc.now (chars self.now.text.now) (left next.now))
+            (chars self.now.text.now) schema.now members.now }
+    {
+        match find_word(members, "oneOf") {
+            Some(schemas) => self.one_admits(next, schemas),
+            None => typed_admits(self.doc, schema, members, self.text),
         }
     }
 
     #[cycle(admits)]
     fn all_admits(&self, next: &Steps, schemas: &Json) -> bool
-        requires { IsSound self.now.doc.now }
-        requires { IsSound schemas.now }
+        requires doc { IsSound self.now.doc.now }
+        requires schemas { IsSound schemas.now }
         ensures { result ≡ is_some_and (as_list (out-Json schemas.now)) (only_admits
             (text_within self.now.doc.now (chars self.now.text.now) (left next.now))) }
     {
@@ -125,8 +148,8 @@ impl TextReader<'_> {
 
     #[cycle(admits)]
     fn only_admits(&self, next: &Steps, schemas: &[Json]) -> bool
-        requires { IsSound self.now.doc.now }
-        requires { AllByRecursion IsSound schemas.now }
+        requires doc { IsSound self.now.doc.now }
+        requires schemas { AllByRecursion IsSound schemas.now }
         ensures { result ≡ only_admits
             (text_within self.now.doc.now (chars self.now.text.now) (left next.now)) schemas.now }
     {
@@ -138,8 +161,8 @@ impl TextReader<'_> {
 
     #[cycle(admits)]
     fn one_admits(&self, next: &Steps, schemas: &Json) -> bool
-        requires { IsSound self.now.doc.now }
-        requires { IsSound schemas.now }
+        requires doc { IsSound self.now.doc.now }
+        requires schemas { IsSound schemas.now }
         ensures { result ≡ one_admits
             (text_within self.now.doc.now (chars self.now.text.now) (left next.now)) schemas.now }
     {
@@ -151,8 +174,8 @@ impl TextReader<'_> {
 
     #[cycle(admits)]
     fn count_admitting(&self, next: &Steps, schemas: &[Json]) -> usize
-        requires { IsSound self.now.doc.now }
-        requires { AllByRecursion IsSound schemas.now }
+        requires doc { IsSound self.now.doc.now }
+        requires schemas { AllByRecursion IsSound schemas.now }
         ensures { result ≡ count_by
             (text_within self.now.doc.now (chars self.now.text.now) (left next.now)) schemas.now }
     {
@@ -168,12 +191,12 @@ impl TextReader<'_> {
 
 // Whether a schema admits a text as a value of its type.
 fn typed_admits(doc: &Json, schema: &Json, members: &[Member], text: &str) -> bool
-    requires { IsSound doc.now }
-    requires { IsSound schema.now }
+    requires doc { IsSound doc.now }
+    requires schema { IsSound schema.now }
     ensures { result ≡ typed_admits (json_admitted doc.now schema.now) members.now (chars text.now) }
 {
     if has_type_named(members, "boolean") {
-        text == "true" || text == "false"
+        is_str_word(text, "true") || is_str_word(text, "false")
     } else if has_type_named(members, "integer") {
         !(is_unsigned(members) && has_minus(text)) && number_admitted(doc, schema, text)
     } else {
@@ -191,8 +214,8 @@ fn is_unsigned(schema: &[Member]) -> bool
 }
 
 fn number_admitted(doc: &Json, schema: &Json, text: &str) -> bool
-    requires { IsSound doc.now }
-    requires { IsSound schema.now }
+    requires doc { IsSound doc.now }
+    requires schema { IsSound schema.now }
     ensures { result ≡ is_some_and (number_of (chars text.now))
         (λ n. json_admitted doc.now schema.now (Number n)) }
 {
@@ -205,8 +228,8 @@ fn number_admitted(doc: &Json, schema: &Json, text: &str) -> bool
 /// Whether a schema of a document admits a text, as a parameter has it. It takes no memory, and ends on every
 /// document.
 pub fn text_admits(doc: &Json, schema: &Json, text: &str) -> bool
-    requires { IsSound doc.now }
-    requires { IsSound schema.now }
+    requires doc { IsSound doc.now }
+    requires schema { IsSound schema.now }
     ensures { IsTrue result ↔ TextAdmits doc.now schema.now (chars text.now) }
 {
     let of_schema = of_items(slice::from_ref(schema), &Steps::End);

@@ -1,19 +1,25 @@
 use Rattle.std.proofs.Common.{◌≡◌, ◌+◌, ◌*◌, take, count_by, chars}
 use Rattle.openapi_values.specs.Steps.{left}
 use Rattle.openapi_values.specs.TextAdmits.{text_within}
-use Rattle.openapi_values.proofs.text_admits.TextReader.+admits.Given as goal
+use Rattle.openapi_values.proofs.texts.TextReader.+admits.Given as goal
 
 abbrev pub decreases-admits : goal.decreases-admits
 decreases-admits l = 8 * left l.steps.now
 
 abbrev pub decreases-step : goal.decreases-step
-decreases-step l = 8 * left l.next.now + 5
+decreases-step l = 8 * left l.next.now + 6
 
 abbrev pub decreases-reference_or_form : goal.decreases-reference_or_form
-decreases-reference_or_form l = 8 * left l.next.now + 4
+decreases-reference_or_form l = 8 * left l.next.now + 5
+
+abbrev pub decreases-definition_admits : goal.decreases-definition_admits
+decreases-definition_admits l = 8 * left l.next.now + 1
 
 abbrev pub decreases-form_admits : goal.decreases-form_admits
-decreases-form_admits l = 8 * left l.next.now + 3
+decreases-form_admits l = 8 * left l.next.now + 4
+
+abbrev pub decreases-one_or_typed : goal.decreases-one_or_typed
+decreases-one_or_typed l = 8 * left l.next.now + 3
 
 abbrev pub decreases-all_admits : goal.decreases-all_admits
 decreases-all_admits l = 8 * left l.next.now + 2
