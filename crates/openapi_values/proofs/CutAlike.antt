@@ -1,5 +1,5 @@
 -- A number that is cut stands alike to the numbers of 64 bits.
-use Rattle.std.proofs.Common.{◌≡◌, ◌↔◌, IsTrue, List, Option, Some, None, option_map, ℕ, zero, suc, ℤ, pos, negsuc, ◌^◌, ◌-◌, ◌≤◌, ◌<◌, min, leb, T, Bool, true, false, true≢false, int_le, int_lt, refl, sym, ◌∙◌, ap, subst, arith}
+use Rattle.std.proofs.Common.{◌≡◌, ◌↔◌, IsTrue, List, Option, Some, None, option_map, ℕ, zero, suc, ℤ, pos, negsuc, ◌^◌, ◌-◌, ◌≤◌, ◌<◌, leb, T, Bool, true, false, true≢false, int_le, int_lt, refl, sym, ◌∙◌, ap, subst, arith}
 use Rattle.std.specs.Ordering.{int_eq}
 use Rattle.std.proofs.Math.Nat.{lt_of_not-le}
 use Rattle.std.proofs.lemmas.Bool.{leb-true, ltb-true, le-leb, lt-ltb}

@@ -1,5 +1,5 @@
 -- The digits of numbers: cut as they are read, and as bytes or characters.
-use Rattle.std.proofs.Common.{◌≡◌, ℕ, ◌+◌, ◌*◌, ◌-◌, ◌^◌, ◌<◌, min, Bool, true, false, ◌&&◌, cond, nat_lt, List, [], ◌∷◌, Option, Some, None, option_map, IsUtf8, IsTrue, bytes_eq, chars, refl, sym, ◌∙◌, ap, arith, rules}
+use Rattle.std.proofs.Common.{◌≡◌, ℕ, ◌+◌, ◌*◌, ◌-◌, ◌≤◌, Bool, true, false, cond, nat_lt, List, [], ◌∷◌, Option, Some, None, option_map, IsUtf8, IsTrue, bytes_eq, chars, refl, sym, ◌∙◌, ap, arith, rules}
 use Rattle.std.specs.Char.{is_ascii_digit}
 use Rattle.std.proofs.lemmas.Bool.Decides.{same_from_decides}
 use Rattle.std.proofs.lemmas.Slice.Eq.{bytes_eq-Decides}
@@ -26,10 +26,9 @@ cut_first n (c ∷ ds) = by_digit (λ m. cut_first m ds) (is_ascii_digit c)
     by_digit later true = sym (later (cut n * 10 + (c - 0x30))) ∙ ap (λ m. option_map cut (digits_after m ds)) (cut_step n (c - 0x30)) ∙ later (n * 10 + (c - 0x30))
     by_digit later false = refl
 
--- one digit more, cut at the limit
-pub digit_taken : (size c : ℕ) (ds : List ℕ) (r : Option ℕ) → is_ascii_digit c ≡ true → option_map cut (digits_after size (c ∷ ds)) ≡ r → option_map cut (digits_after (min (size * 10 + (c - 48)) 18446744073709551616) ds) ≡ r
-digit_taken size c ds r digit h =
-    cut_first (size * 10 + (c - 0x30)) ds ∙ ap (λ b. option_map cut (cond b (digits_after (size * 10 + (c - 0x30)) ds) None)) (sym digit) ∙ h
+-- a number beyond the cut is as good as the cut
+pub digit_beyond : (n : ℕ) (ds : List ℕ) → 18446744073709551616 ≤ n → option_map cut (digits_after 18446744073709551616 ds) ≡ option_map cut (digits_after n ds)
+digit_beyond n ds far = ap (λ k. option_map cut (digits_after k ds)) (omega (arith, far)) ∙ cut_first n ds
 
 digit_ascii : (c : ℕ) → is_ascii_digit c ≡ true → nat_lt c 128 ≡ true
 digit_ascii c h = search rules
@@ -55,6 +54,7 @@ digits_in_bytes text utf8 = of_bytes (digits_number text) refl
     of_chars (Some m) e f =
         let same : chars text ≡ text = sym (encodes-IsAscii (chars text) (IsAscii-from_test (chars text) (ascii_number (chars text) m e))) ∙ encodes-chars text utf8 in
         ap digits_number (sym same)
+
     of_bytes : (o : Option ℕ) → digits_number text ≡ o → digits_number text ≡ digits_number (chars text)
     of_bytes None e = of_chars (digits_number (chars text)) refl e
     of_bytes (Some m) e = ap digits_number (sym (chars-IsAscii text (IsAscii-from_test text (ascii_number text m e))))

@@ -13,12 +13,12 @@ use Rattle.schema_values.specs.Sound.{IsSound, IsWhole}
 use Rattle.schema_values.specs.SoundMembers.{HasSoundValue}
 use Rattle.openapi_values.specs.declared.keywords.Keyword.{Keyword}
 use Rattle.openapi_values.specs.declared.keywords.Keyword.TheVariants.{Reference, Nullable, Annotation, OfType, Format, Enum, Minimum, Maximum, ExclusiveMinimum, ExclusiveMaximum, MinLength, MaxLength, Items, MinItems, MaxItems, Properties, Required, AdditionalProperties, MinProperties, MaxProperties, AllOf, AnyOf, OneOf, Not, Other}
-use Rattle.openapi_values.specs.JsonAdmits.{schema_admits, members_admit, object_admits, admits_within}
+use Rattle.openapi_values.specs.JsonAdmits.{schema_admits, object_admits, admits_within}
 use Rattle.openapi_values.specs.Keywords.{keyword_of}
 use Rattle.openapi_values.specs.Levels.{Level, as_number, as_text, as_list, as_object}
 use Rattle.openapi_values.specs.Lookup.{definition, reference_in, is_set, is_integer, is_null_form}
 use Rattle.openapi_values.specs.Options.{is_some_and}
-use Rattle.openapi_values.specs.Rows.{is_between, in_format, is_under, row, members_hold, in_subset, every_admits, some_admits, one_admits}
+use Rattle.openapi_values.specs.Rows.{is_between, in_format, is_under, row, in_subset}
 use Rattle.openapi_values.specs.Smaller.{smaller_admits}
 use Rattle.openapi_values.proofs.SoundLevels.{number_whole, listed_sound, values_sound, definition_sound}
 use Rattle.openapi_values.proofs.Steps.{admits-zero, admits-suc}

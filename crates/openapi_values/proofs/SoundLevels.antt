@@ -1,7 +1,7 @@
 -- What a sound value holds, by its level.
 use Rattle.std.proofs.Common.{◌≡◌, ℕ, ℤ, cond, Bool, true, false, List, [], ◌∷◌, Option, Some, None, bytes_eq, codes, refl, sym, ◌∙◌, ap, subst}
 use Rattle.std.specs.List.{AllByRecursion}
-use Rattle.schema_values.specs.declared.json_value.Json.{Json, Int, List as ListOf, Object, out-Json, roll-Json, roll-out-Json}
+use Rattle.schema_values.specs.declared.json_value.Json.{Json, out-Json, roll-Json, roll-out-Json}
 use Rattle.schema_values.specs.declared.json_value.Json.TheOpen.{Json-F}
 use Rattle.schema_values.specs.declared.json_value.Json.TheVariants.{rolls-Int, rolls-List, rolls-Object}
 use Rattle.schema_values.specs.declared.json_value.Member.{Member}

@@ -4,7 +4,7 @@ use Rattle.std.specs.Str.{chars}
 use Rattle.schema_values.specs.declared.json_value.Json.{Json}
 use Rattle.schema_values.specs.declared.json_value.Json.TheVariants.{outs-Text}
 use Rattle.openapi_values.specs.declared.json_text.TextAdmitter.{TextAdmitter}
-use Rattle.openapi_values.specs.JsonAdmits.{admits_within, schema_admits}
+use Rattle.openapi_values.specs.JsonAdmits.{schema_admits}
 use Rattle.openapi_values.specs.Levels.{Level}
 use Rattle.openapi_values.specs.TextAdmitter.{value_of, level_of, steps_of, admits_of, smaller_of}
 use Rattle.openapi_values.proofs.Steps.{admits-suc}

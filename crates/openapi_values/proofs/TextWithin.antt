@@ -1,5 +1,5 @@
 -- How many steps are left, where a schema is asked of a text.
-use Rattle.std.proofs.Common.{◌≡◌, ℕ, zero, suc, Bool, false, List, refl, ap}
+use Rattle.std.proofs.Common.{◌≡◌, ℕ, zero, suc, false, List, refl, ap}
 use Rattle.schema_values.specs.declared.json_value.Json.{Json}
 use Rattle.openapi_values.specs.TextAdmits.{text_step, text_within}
 

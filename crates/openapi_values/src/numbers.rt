@@ -5,7 +5,6 @@ ghost use Rattle.openapi_values.specs.CutNumbers.{cut, cut_number_of};
 ghost use Rattle.openapi_values.specs.TextAdmits.{digits_number, has_minus, without_sign};
 
 use crate::keywords::str_after;
-use std::cmp;
 
 // The greatest size that is told: 2^64, which is beyond all numbers of 64 bits.
 const MOST: u128 = 0x1_0000_0000_0000_0000;
@@ -49,7 +48,7 @@ fn size_of_digits(digits: &str) -> Option<u128>
     size_of_bytes(digits.as_bytes())
 }
 
-#[tactic(auto, using(crate::proofs::DigitLemmas::digit_taken))]
+#[tactic(auto, using(crate::proofs::DigitLemmas::digit_beyond))]
 fn size_of_bytes(digits: &[u8]) -> Option<u128>
     ensures size { result ≡ option_map cut (digits_number digits.now) }
     ensures bound { IfSome result (λ size. size ≤ 2 ^ 64) }
@@ -57,12 +56,15 @@ fn size_of_bytes(digits: &[u8]) -> Option<u128>
     if digits.is_empty() {
         return None;
     }
+    let mut digits = digits;
     let mut size = 0;
-    for byte in digits {
+    while let Some((byte, later)) = digits.split_first() {
         if !byte.is_ascii_digit() {
             return None;
         }
-        size = cmp::min(size * 10 + (*byte - b'0') as u128, MOST);
+        let more = size * 10 + (*byte - b'0') as u128;
+        size = if more < MOST { more } else { MOST };
+        digits = later;
     }
     Some(size)
 }

@@ -37,12 +37,12 @@ admits-returns-in-Members t c =
 
 pub step-reference_or_form-requires : goal.step-reference_or_form-requires
 step-reference_or_form-requires t c =
-    (omega (arith, c.decreases), (c.requires.doc, c.requires.schema, members_sound _ _ _ c.in-Object.is c.as_slice.ensures c.requires.schema))
+    (omega (arith, c.decreases), (c.requires.doc, (c.requires.schema, members_sound _ _ _ c.in-Object.is c.as_slice.ensures c.requires.schema)))
 
 pub definition_admits-admits-requires : goal.definition_admits-admits-requires
 definition_admits-admits-requires t c =
     let found = sym c.definition_named.ensures ∙ ap (option_map (λ json. json.now)) c.in-Some.is in
-    (omega arith, (c.requires, definition_sound c.args.self.now.doc.now (chars c.args.name.now) c.in-Some.definition.now c.requires found))
+    (omega (arith, c.requires.1.0), (c.requires.1.1, definition_sound c.args.self.now.doc.now (chars c.args.name.now) c.in-Some.definition.now c.requires.1.1 found))
 
 pub form_admits-all_admits-requires : goal.form_admits-all_admits-requires
 form_admits-all_admits-requires t c =
