@@ -18,6 +18,7 @@ use Rattle.typed_values.specs.Reached.{Mentions}
 use Rattle.openapi_values.specs.declared.document.OpenApi.{OpenApi}
 use Rattle.openapi_values.specs.declared.media.RequestBody.{RequestBody}
 use Rattle.openapi_values.specs.Admits.{Admits, operation_at as listed_at}
+use Rattle.openapi_values.specs.BodyAlone.{body_alone}
 use Rattle.openapi_values.specs.Find.{value_at, operation_in}
 use Rattle.openapi_values.specs.Operation.{operation_json}
 use Rattle.openapi_values.proofs.Stands.{definition-stands, bodies-admitted}
@@ -56,6 +57,9 @@ body_with kind table desc name = record { content = media (mime_of kind) (schema
 under_json : (kind : ApiEndpointBodyContentType) (table : List Definition) (desc : Desc) (name : List ℕ)
     → value_at (codes "application/json") (body_with kind table desc name).content ≡ Some (record { schema = schema_json_titled table name desc })
 under_json JsonBody table desc name = refl
+
+no_bytes : (kind : ApiEndpointBodyContentType) (table : List Definition) (desc : Desc) (name : List ℕ) → value_at (codes "application/octet-stream") (body_with kind table desc name).content ≡ None
+no_bytes JsonBody table desc name = refl
 
 -- one slot is given one argument
 one_given : (table : List Definition) (body : List ℕ) (desc : Desc) (name : List ℕ) (slots : List Slot) → slots ≡ TypedBody desc name ∷ []
@@ -107,12 +111,12 @@ module _ {X : Type 0} {F : X → Type 0} (m : Meanings X F) (e : ApiEndpoint X F
 
   module _ (path method : List ℕ) (listed : operation_in open_api path method ≡ Some (operation_of m e)) where
     -- the document admits a body exactly where it denotes a tree
-    body_agrees : (body : List ℕ) → Admits doc path method (record { body = body }) ↔ ((tree : Tree) × BodyDenotes table desc body tree)
+    body_agrees : (body : List ℕ) → Admits doc path method (body_alone body) ↔ ((tree : Tree) × BodyDenotes table desc body tree)
     body_agrees body =
-        let admitted = bodies-admitted open_api path method (operation_of m e) (body_with e.body_content_type table desc name) (record { schema = schema }) (record { body = body }) listed has_body (under_json e.body_content_type table desc name) in
+        let admitted = bodies-admitted open_api path method (operation_of m e) (body_with e.body_content_type table desc name) (record { schema = schema }) (body_alone body) listed has_body (under_json e.body_content_type table desc name) (no_bytes e.body_content_type table desc name) in
         let denoted = λ (json : Json) (reads : Reads body json). titled_agrees doc table desc written name json (reading_sound body json reads) in (
-          λ a. let read = admitted.0 a in let tree = (denoted read.0 read.1).0 read.2 in (tree.0, (read.0, read.1, tree.1)),
-          λ d. let (json, reads, denotes) = d.1 in admitted.1 (json, reads, (denoted json reads).1 (d.0, denotes)),
+          λ a. let read = admitted.0 a in let tree = (denoted read.3 read.4).0 read.5 in (tree.0, (read.3, read.4, tree.1)),
+          λ d. let (json, reads, denotes) = d.1 in admitted.1 (refl, refl, refl, json, reads, (denoted json reads).1 (d.0, denotes)),
         )
 
 module _ {X : Type 0} {F : X → Type 0} (m : Meanings X F) (title : List ℕ) (version : Parts) (request : RequestParts) (body : List ℕ) (asked : parts_of request.version ≡ version) where
@@ -127,7 +131,7 @@ module _ {X : Type 0} {F : X → Type 0} (m : Meanings X F) (title : List ℕ) (
 
   -- what is said of one request
   abbrev pub Agrees : List (ApiEndpoint X F) → Type 0
-  Agrees es = Admits (document_of m es title version) path method (record { body = body }) ↔ IsTaken m es request body
+  Agrees es = Admits (document_of m es title version) path method (body_alone body) ↔ IsTaken m es request body
 
   same_named : (es : List (ApiEndpoint X F)) → endpoint_for version method (encode_utf8_all path) es ≡ named_by request es
   same_named es = ap (λ (path : List ℕ). endpoint_for version method path es) (sym (trimmed-encoded request.template)) ∙ ap (λ (v : Parts). endpoint_for v method template es) (sym asked)

@@ -5,6 +5,7 @@ use Rattle.std.specs.declared.result.Result.TheVariants.{Ok, Err}
 use Rattle.std.specs.Str.{encode_utf8_all}
 use Rattle.schema_values.specs.declared.json_value.Json.{Json}
 use Rattle.openapi_values.specs.Admits.{operation_at as listed_at, Admits}
+use Rattle.openapi_values.specs.BodyAlone.{body_alone}
 use Rattle.openapi_values.specs.Operation.{operation_json}
 use Rattle.semver.specs.Identifiers.{parts_of}
 use Rattle.semver.specs.Parse.{Parts}
@@ -33,7 +34,7 @@ IsTaken m endpoints request body = (e : ApiEndpoint _ _) × (named_by request en
 
 -- the document admits this request with this body, at its template without a slash at the end
 abbrev pub IsAdmitted : Json → RequestParts → List ℕ → Type 0
-IsAdmitted document request body = Admits document (trimmed request.template) request.info.method (record { body = body })
+IsAdmitted document request body = Admits document (trimmed request.template) request.info.method (body_alone body)
 
 -- the document admits a request of the version exactly where an endpoint takes it
 abbrev pub IsAgreed : {X : Type 0} {F : X → Type 0} → Meanings X F → Parts → List (ApiEndpoint X F) → Json → Type 0

@@ -6,6 +6,10 @@ mod documents;
 #[cfg(test)]
 mod errors;
 #[cfg(test)]
+mod given;
+#[cfg(test)]
+mod parts;
+#[cfg(test)]
 mod refusals;
 #[cfg(test)]
 mod schemas;
@@ -13,5 +17,7 @@ mod schemas;
 mod tables;
 #[cfg(test)]
 mod trees;
+#[cfg(test)]
+mod unwritten;
 #[cfg(test)]
 mod written;

@@ -80,10 +80,15 @@ impl OpenApiDefinition<'_> {
         let document = OpenApi {
             info: Info {
                 title: self.title.copy(alloc)?,
+                description: None,
+                terms_of_service: None,
+                contact: None,
+                license: None,
                 version: Text::from_string(self.version.to_string(alloc)?),
             },
             paths: paths(alloc, endpoints, &self.version)?,
             components: components(alloc, endpoints, &self.version)?,
+            tags: List::new(alloc),
         };
         document.to_json(alloc)
     }

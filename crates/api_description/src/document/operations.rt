@@ -113,9 +113,15 @@ fn operation_of(alloc: Global, endpoint: &ApiEndpoint) -> Result<Operation, Allo
 {
     let shape = endpoint.shape();
     Ok(Operation {
+        tags: List::new(alloc),
+        summary: None,
+        description: None,
         operation_id: endpoint.operation_id().copy(alloc)?,
+        parameters: List::new(alloc),
         request_body: request_body(alloc, *endpoint.body_content_type(), shape)?,
         responses: responses(alloc, shape)?,
+        deprecated: false,
+        pagination: None,
     })
 }
 
@@ -197,6 +203,7 @@ fn success(
     };
     Ok(ResponseObject {
         description: Some(response.description.copy(alloc)?),
+        headers: List::new(alloc),
         content,
         reference: None,
     })
@@ -225,6 +232,7 @@ fn reference(alloc: Global, error: &ApiEndpointErrorResponse) -> Result<Response
     reference.push_text(&error.name)?;
     Ok(ResponseObject {
         description: None,
+        headers: List::new(alloc),
         content: List::new(alloc),
         reference: Some(reference),
     })
