@@ -19,7 +19,6 @@ pub mod CutNumbers
 pub mod MediaTypes
 pub mod RequestParameters
 pub mod Admits
-pub mod BodyAlone
 pub mod Find
 pub mod SchemaJson
 pub mod Refusal

@@ -7,8 +7,8 @@ use Rattle.std.specs.Str.{chars, encode_utf8_all}
 use Rattle.std.specs.Str.Lossy.{utf8_lossy}
 use Rattle.form_urlencoded.specs.Form.{raw_pairs, decode}
 use Rattle.schema_values.specs.declared.json_value.Json.{Json, out-Json}
-use Rattle.openapi_values.specs.declared.request.VariableValue.{VariableValue}
-use Rattle.openapi_values.specs.declared.request.VariableValue.TheVariants.{String, Components}
+use Rattle.schema_values.specs.declared.variables.VariableValue.{VariableValue}
+use Rattle.schema_values.specs.declared.variables.VariableValue.TheVariants.{String, Components}
 use Rattle.schema_values.specs.Get.{get_of}
 use Rattle.openapi_values.specs.declared.request.WireRequest.{WireRequest}
 use Rattle.openapi_values.specs.Levels.{as_text, is_true}

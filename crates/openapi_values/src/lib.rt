@@ -34,6 +34,6 @@ pub use media::{MediaType, RequestBody, ResponseObject};
 pub use operation::{Operation, PathItem};
 pub use parameter::{HeaderObject, Parameter};
 pub use part::Part;
-pub use request::{HeaderLine, VariableSet, VariableValue, WireRequest};
+pub use request::{HeaderLine, WireRequest};
 pub use tags::{ExternalDocs, TagObject};
 pub use texts::text_admits;

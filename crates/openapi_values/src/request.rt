@@ -1,15 +1,4 @@
-use schema_values::{List, Text};
-use std::collections::BTreeMap;
-
-/// What a variable of a path stands for: one component, or the components that are left of the path.
-#[derive(Drop)]
-pub enum VariableValue {
-    String(Text),
-    Components(List<Text>),
-}
-
-/// The variables of a path, by names.
-pub type VariableSet = BTreeMap<Text, VariableValue>;
+use schema_values::{List, Text, VariableSet};
 
 /// A header line: its name, and the bytes of its value.
 #[derive(Drop)]

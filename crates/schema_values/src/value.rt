@@ -59,6 +59,25 @@ impl Json {
             Value::Object(members) => Ok(Json::Object(members_of_map(alloc, members)?)),
         }
     }
+
+    /// The same value as one of `serde_json`, whose objects have their members in ascending order of names.
+    #[cycle(to_value)]
+    pub fn to_value(&self, alloc: Global) -> Result<Value, AllocError>
+        requires sound { IsSound self.now }
+        ensures { IfOk result (λ value. json_of (view value) ≡ Some (sorted_members self.now)) }
+    {
+        match self {
+            Json::Null => Ok(Value::Null),
+            Json::Bool(truth) => Ok(Value::Bool(*truth)),
+            Json::Int(number) => match Number::from_i128(*number) {
+                Some(number) => Ok(Value::Number(number)),
+                None => unreachable!(),
+            },
+            Json::Text(text) => Ok(Value::String(String::from_str(alloc, text.as_str())?)),
+            Json::List(items) => Ok(Value::Array(values_of_items(alloc, items.as_slice())?)),
+            Json::Object(members) => Ok(Value::Object(map_of_members(alloc, members.as_slice())?)),
+        }
+    }
 }
 
 #[cycle(of_value)]
@@ -103,27 +122,6 @@ fn whole_number(number: &Number) -> Option<i128>
             Some(whole) => Some(i128::from(whole)),
             None => None,
         },
-    }
-}
-
-impl Json {
-    /// The same value as one of `serde_json`, whose objects have their members in ascending order of names.
-    #[cycle(to_value)]
-    pub fn to_value(&self, alloc: Global) -> Result<Value, AllocError>
-        requires sound { IsSound self.now }
-        ensures { IfOk result (λ value. json_of (view value) ≡ Some (sorted_members self.now)) }
-    {
-        match self {
-            Json::Null => Ok(Value::Null),
-            Json::Bool(truth) => Ok(Value::Bool(*truth)),
-            Json::Int(number) => match Number::from_i128(*number) {
-                Some(number) => Ok(Value::Number(number)),
-                None => unreachable!(),
-            },
-            Json::Text(text) => Ok(Value::String(String::from_str(alloc, text.as_str())?)),
-            Json::List(items) => Ok(Value::Array(values_of_items(alloc, items.as_slice())?)),
-            Json::Object(members) => Ok(Value::Object(map_of_members(alloc, members.as_slice())?)),
-        }
     }
 }
 

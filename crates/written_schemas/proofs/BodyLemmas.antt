@@ -1,8 +1,9 @@
 -- A document admits a body exactly where its JSON denotes a tree.
-use Rattle.std.proofs.Common.{◌≡◌, ◌↔◌, ℕ, List, map, Some, sym, ap, ◌∙◌, subst}
+use Rattle.std.proofs.Common.{◌≡◌, ◌↔◌, ℕ, List, map, sym, ap, subst}
 use Rattle.std.specs.List.{list_all}
 use Rattle.schema_values.specs.declared.json_value.Json.{Json}
 use Rattle.schema_values.specs.Reading.{Reads}
+use Rattle.schema_values.proofs.OneReading.{one_reading}
 use Rattle.schema_values.proofs.SoundReadings.{reading_sound}
 use Rattle.openapi_values.specs.declared.document.OpenApi.{OpenApi}
 use Rattle.openapi_values.specs.declared.request.WireRequest.{WireRequest}
@@ -20,9 +21,6 @@ use Rattle.typed_values.specs.Denotes.{JsonDenotes}
 use Rattle.written_schemas.specs.Bodies.{TakesJson}
 use Rattle.written_schemas.specs.Written.{IsWritten}
 use Rattle.written_schemas.proofs.Whole.{titled_agrees}
-
-one_reading : (bytes : List ℕ) (i j : Json) → Reads bytes i → Reads bytes j → i ≡ j
-one_reading bytes i j a b = let same : Some i ≡ Some j = sym a.1 ∙ b.1 in cc same
 
 pub body_agrees : (document : OpenApi) (path method name : List ℕ) (table : List Definition) (desc : Desc) → TakesJson document path method name table desc → IsWritten (open_api_json document) table desc
     → (request : WireRequest) (json : Json) → HasJsonType request.headers → Reads request.body json → Admits (open_api_json document) path method request ↔ ((tree : Tree) × JsonDenotes table desc json tree)
