@@ -113,7 +113,9 @@ fn values_go_to_the_pack_and_come_back(rt: HostRuntime) -> Result<(), Fail> {
         Json::of_value(alloc, &value)?.compact(alloc)?.as_str(),
         "[true]"
     );
-    let value = object_of(alloc, &["b", "a"])?.to_value(alloc)?;
+    let unsorted = object_of(alloc, &["b", "a"])?;
+    assert!(rt; unsorted.sound());
+    let value = unsorted.to_value(alloc)?;
     assert_eq!(rt; value.to_string(alloc)?.as_str(), "{\"a\":1,\"b\":1}");
     Ok(())
 }

@@ -1,17 +1,15 @@
-use Rattle.std.proofs.Common.{arith, ◌≡◌, ◌<◌, ◌+◌, List, ◌∷◌, ◌++◌, ◌∙◌, [], Some, sym, ap, subst, take, map, option_map, fold, string_bytes}
-use Rattle.std.specs.Str.{chars}
+use Rattle.std.proofs.Common.{arith, ◌≡◌, ◌<◌, ◌+◌, List, ◌∷◌, ◌++◌, ◌∙◌, [], Some, sym, ap, subst, take, map, option_map}
 use denote.Param.Weighed.{most}
 use Rattle.std.proofs.lemmas.List.{map-append, take_more, take_all}
 use Rattle.std.proofs.lemmas.List.Sums.{fold-append}
 use Rattle.std.proofs.Math.Utf8.{encodes, scalars}
 use Rattle.std.proofs.lemmas.Str.{encodes-chars, scalars-chars}
-use Rattle.serde_json.specs.Data.{array, object}
 use Rattle.serde_json.specs.View.{items_view, members_view}
 use Rattle.serde_json.proofs.Views.{view-Array, view-Object}
 use Rattle.schema_values.specs.declared.json_value.Json.{Json, List as ListOf, Object, size-Json}
 use Rattle.schema_values.specs.declared.json_value.Json.TheViews.{sized-List, sized-Object}
 use Rattle.schema_values.specs.declared.json_value.Member.{Member, size-Member}
-use Rattle.schema_values.specs.Reading.{json_of, items_of, members_of}
+use Rattle.schema_values.specs.Reading.{json_of, items_of}
 use Rattle.schema_values.specs.Scalars.{IsScalarText}
 use Rattle.schema_values.specs.SortedMembers.{placed, in_order_after, sorted_member, sorted_members}
 use Rattle.schema_values.proofs.AscendingLemmas.{sorted-List, sorted-Object}
