@@ -105,7 +105,7 @@ fn reference(alloc: Global) -> Result<SchemaObject, AllocError> {
     Ok(schema)
 }
 
-fn inner(alloc: Global, inner: Inner) -> Result<Schema, AllocError> {
+fn inner_schema(alloc: Global, inner: Inner) -> Result<Schema, AllocError> {
     match inner {
         Inner::Every => Ok(Schema::Bool(true)),
         Inner::Nothing => Ok(Schema::Bool(false)),
@@ -120,7 +120,7 @@ fn inner(alloc: Global, inner: Inner) -> Result<Schema, AllocError> {
 
 fn one(alloc: Global, listed: Inner) -> Result<List<Schema>, AllocError> {
     let mut schemas = List::new(alloc);
-    schemas.push(inner(alloc, listed)?)?;
+    schemas.push(inner_schema(alloc, listed)?)?;
     Ok(schemas)
 }
 
@@ -191,7 +191,7 @@ fn fill_array(alloc: Global, schema: &mut SchemaObject, part: &Given) -> Result<
         },
     };
     match part {
-        Given::Items(item) => array.items = Some(Items::One(inner(alloc, *item)?)),
+        Given::Items(item) => array.items = Some(Items::One(inner_schema(alloc, *item)?)),
         Given::ItemsByPlace(item) => array.items = Some(Items::Tuple(one(alloc, *item)?)),
         Given::ItemCounts(least, most) => {
             array.min = Some(*least);
@@ -217,11 +217,11 @@ fn fill_object(alloc: Global, schema: &mut SchemaObject, part: &Given) -> Result
     match part {
         Given::Property(name, listed) => {
             let name = Text::from_str(alloc, name)?;
-            let schema = inner(alloc, *listed)?;
+            let schema = inner_schema(alloc, *listed)?;
             object.properties.push(Property { name, schema })?;
         }
         Given::Required(name) => object.required.push(Text::from_str(alloc, name)?)?,
-        Given::Additional(listed) => object.additional = Some(inner(alloc, *listed)?),
+        Given::Additional(listed) => object.additional = Some(inner_schema(alloc, *listed)?),
         Given::MemberCounts(least, most) => {
             object.min = Some(*least);
             object.max = Some(*most);
@@ -246,7 +246,7 @@ fn fill_kinds(alloc: Global, schema: &mut SchemaObject, part: &Given) -> Result<
         Given::AllOf(listed) => kinds.all_of = Some(one(alloc, *listed)?),
         Given::AnyOf(listed) => kinds.any_of = Some(one(alloc, *listed)?),
         Given::OneOf(listed) => kinds.one_of = Some(one(alloc, *listed)?),
-        Given::Not(listed) => kinds.not = Some(inner(alloc, *listed)?),
+        Given::Not(listed) => kinds.not = Some(inner_schema(alloc, *listed)?),
         _ => {}
     }
     schema.subschemas = Some(kinds);
