@@ -1,7 +1,6 @@
 ghost use Rattle.std.specs.Prelude.{◌≡◌, IfOk};
-ghost use Rattle.openapi_values.specs.IfTrue.{if_true};
 
-use crate::objects::{add, reference};
+use crate::objects::{add, reference, true_json};
 use crate::parameter::HeaderObject;
 use crate::part::{Part, copy_map, copy_option, map_unless_empty, option_json};
 use schema_values::{Json, List, Text};
@@ -69,12 +68,6 @@ impl Part for RequestBody {
         let required = self.required;
         Ok(RequestBody { content, required })
     }
-}
-
-pub(crate) fn true_json(truth: bool) -> Option<Json>
-    ensures { result ≡ if_true truth }
-{
-    if truth { Some(Json::Bool(true)) } else { None }
 }
 
 impl ResponseObject {

@@ -1,8 +1,8 @@
 ghost use Rattle.std.specs.Prelude.{◌≡◌, IfOk, option_map};
 ghost use Rattle.openapi_values.specs.Operation.{pagination_json};
 
-use crate::media::{RequestBody, ResponseObject, true_json};
-use crate::objects::add;
+use crate::media::{RequestBody, ResponseObject};
+use crate::objects::{add, true_json};
 use crate::parameter::Parameter;
 use crate::part::{
     Part, copy_list, copy_map, copy_option, list_json, list_unless_empty, map_unless_empty,

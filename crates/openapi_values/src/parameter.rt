@@ -1,5 +1,4 @@
-use crate::media::true_json;
-use crate::objects::add;
+use crate::objects::{add, true_json};
 use crate::part::{Part, copy_option, option_json};
 use schema_values::{Json, List, Text};
 use std::alloc::{AllocError, Global};

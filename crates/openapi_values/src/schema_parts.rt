@@ -15,9 +15,8 @@ ghost use Rattle.openapi_values.specs.SchemaJson.{truth_json as json_of_truth, t
 
 use crate::find::find_word;
 use crate::keywords::text_after;
-use crate::media::true_json;
-use crate::objects::add;
-use crate::part::option_json;
+use crate::objects::{add, true_json};
+use crate::part::{copy_option, list_json, option_json};
 use schema_values::{
     InstanceType, Json, LengthBounds, List, Member, NumberBounds, SchemaObject, Text,
 };
@@ -81,16 +80,6 @@ fn title_json(
     }
 }
 
-/// A value as it stands, where there is one.
-fn value_json(alloc: Global, value: &Option<Json>) -> Result<Option<Json>, AllocError>
-    ensures { IfOk result (λ json. json ≡ value.now) }
-{
-    match value {
-        Some(value) => Ok(Some(value.copy(alloc)?)),
-        None => Ok(None),
-    }
-}
-
 /// The extension `example`, which is written as the annotation of that name.
 fn example_json(alloc: Global, extensions: &[Member]) -> Result<Option<Json>, AllocError>
     ensures { IfOk result (λ json. json ≡ first_named (codes "example") extensions.now) }
@@ -137,7 +126,7 @@ pub fn add_annotations(
     add(alloc, members, "title", title)?;
     let description = option_json(alloc, &schema.description)?;
     add(alloc, members, "description", description)?;
-    let default = value_json(alloc, &schema.default)?;
+    let default = copy_option(alloc, &schema.default)?;
     add(alloc, members, "default", default)?;
     add_extensions(alloc, members, schema.extensions.as_slice())?;
     Ok(())
@@ -331,15 +320,5 @@ pub fn names(alloc: Global, names: &List<Text>) -> Result<Option<Json>, AllocErr
     if names.len() == 0 {
         return Ok(None);
     }
-    Ok(Some(Json::List(texts(alloc, names.as_slice())?)))
-}
-
-fn texts(alloc: Global, texts: &[Text]) -> Result<List<Json>, AllocError>
-    ensures { IfOk result (λ list. list ≡ map TextOf texts.now) }
-{
-    let mut list = List::new(alloc);
-    for text in texts {
-        list.push(Json::Text(text.copy(alloc)?))?;
-    }
-    Ok(list)
+    Ok(Some(Json::List(list_json(alloc, names)?)))
 }
