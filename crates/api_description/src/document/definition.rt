@@ -15,7 +15,7 @@ use crate::document::components::components;
 use crate::document::operations::paths;
 use line_session::{Sink, SinkError, write_all};
 use openapi_values::{Info, OpenApi, Part};
-use schema_values::{Json, Text};
+use schema_values::{Json, List, Text};
 use semver::Version;
 use std::alloc::{AllocError, Global};
 
