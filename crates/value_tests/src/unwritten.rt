@@ -1,7 +1,7 @@
 //! Schemas that are not written, and why.
 use crate::given::Given::{
-    Additional, AllOf, AnyOf, Const, ExclusiveMaximum, ExclusiveMinimum, Items, ItemsByPlace,
-    Maximum, Minimum, NoKinds, Not, OneOf, Property, SeveralTypes, Type, Values,
+    Additional, AllOf, AnyOf, Const, ExclusiveMaximum, ExclusiveMinimum, ItemCounts, Items,
+    ItemsByPlace, Maximum, Minimum, NoKinds, Not, OneOf, Property, SeveralTypes, Type, Values,
 };
 use crate::given::Inner::{Every, Flag, Floats, ListOfFloats, NoItems, Types};
 use crate::given::{Given, written};
@@ -9,11 +9,13 @@ use schema_values::InstanceType as Kind;
 use std::test::Fail;
 
 // Schemas that are refused for one cause, and that cause.
-const ALONE: [(&[Given], &str); 27] = [
+const ALONE: [(&[Given], &str); 29] = [
     (&[SeveralTypes], "TypeArray"),
+    (&[SeveralTypes, Values("[]")], "TypeArray"),
     (&[Type(Kind::Number)], "FloatSchema"),
     (&[Type(Kind::Array), ItemsByPlace(Flag)], "TupleArray"),
     (&[Type(Kind::Array)], "NoItems"),
+    (&[Type(Kind::Array), ItemCounts(1, 2)], "NoItems"),
     (
         &[
             Type(Kind::Integer),
@@ -107,7 +109,11 @@ const IN_ORDER: [(&[Given], &str); 14] = [
 
 // Schemas with causes inside them, and the one that is told: the first, what is inside the first before the
 // second.
-const INSIDE: [(&[Given], &str); 11] = [
+const INSIDE: [(&[Given], &str); 12] = [
+    (
+        &[Type(Kind::Array), Items(Floats), Values("[]")],
+        "FloatSchema",
+    ),
     (&[Type(Kind::Array), Items(ListOfFloats)], "FloatSchema"),
     (
         &[

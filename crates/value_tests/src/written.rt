@@ -74,8 +74,26 @@ const EVERY_MEMBER: &str = concat!(
 );
 
 // The members of each type.
-const OF_TYPES: [(&[Given], &str); 19] = [
+const OF_TYPES: [(&[Given], &str); 21] = [
     (&[Type(Kind::Boolean)], r#"{"type":"boolean"}"#),
+    (
+        &[
+            Type(Kind::Integer),
+            Maximum(18_446_744_073_709_551_615),
+            Values("[9223372036854775808]"),
+        ],
+        r#"{"type":"integer","maximum":18446744073709551615,"enum":[9223372036854775808]}"#,
+    ),
+    (
+        &[
+            Type(Kind::Object),
+            Property("b", Flag),
+            Property("a", Every),
+            Required("b"),
+            Required("a"),
+        ],
+        r#"{"type":"object","properties":{"b":{"type":"boolean"},"a":{}},"required":["b","a"]}"#,
+    ),
     (
         &[
             Type(Kind::Boolean),
@@ -176,7 +194,16 @@ const EVERY_KIND: &str = concat!(
 );
 
 // Subschemas stand behind the members of the type, and a const beside both as the one value.
-const WITH_SUBSCHEMAS: [(&[Given], &str); 14] = [
+const WITH_SUBSCHEMAS: [(&[Given], &str); 15] = [
+    (
+        &[
+            Type(Kind::Boolean),
+            Format("flag"),
+            Maximum(2),
+            AllOf(Every),
+        ],
+        r#"{"type":"boolean","allOf":[{}]}"#,
+    ),
     (&[AllOf(Flag)], r#"{"allOf":[{"type":"boolean"}]}"#),
     (&[AnyOf(Every)], r#"{"anyOf":[{}]}"#),
     (&[OneOf(Nothing)], r#"{"oneOf":[{"not":{}}]}"#),
