@@ -57,11 +57,7 @@ const CASES: [(&str, &str, bool); 34] = [
     ),
     (r#"{"type":"array"}"#, "a", false),
     ("{}", "a", false),
-    (
-        r##"{"$ref":"#/components/schemas/Count"}"##,
-        "200",
-        true,
-    ),
+    (r##"{"$ref":"#/components/schemas/Count"}"##, "200", true),
     (
         r##"{"allOf":[{"$ref":"#/components/schemas/Count"}],"nullable":true}"##,
         "200",
