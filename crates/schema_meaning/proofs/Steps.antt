@@ -1,5 +1,5 @@
 -- The parts of a schema ask of a value what they ask where the smaller values stand beside what is made of them; one step of a schema.
-use Rattle.std.proofs.Common.{◌≡◌, ℕ, zero, suc, Bool, false, ◌&&◌, ◌||◌, List, [], ◌∷◌, map, Option, Some, None, length, bytes_eq, if◌then◌else◌, refl, sym, ◌∙◌, ap}
+use Rattle.std.proofs.Common.{◌≡◌, ℕ, suc, Bool, ◌&&◌, ◌||◌, List, [], ◌∷◌, map, Option, Some, None, length, bytes_eq, if◌then◌else◌, refl, sym, ◌∙◌, ap}
 use Rattle.std.specs.List.{list_all, list_any}
 use Rattle.std.specs.Option.{option_map_or}
 use Rattle.std.specs.Prelude.{option_and_then}
@@ -93,10 +93,6 @@ module _ {X : Type 0} (f : Json → X) (smaller : Beside X → Schema → Bool) 
 within_is : (definitions : Definitions) (room : ℕ) (j : Json) → admits_within definitions room j ≡ admits_at definitions room j (level_with (admits_within definitions room) (out-Json j))
 unfolding admits_within
 within_is definitions room j = made-out (admits_at definitions room) j
-
-pub admits-zero : (definitions : Definitions) (room : ℕ) (j : Json) (s : Schema) → admits_within definitions room j zero s ≡ false
-unfolding admits_at
-admits-zero definitions room j s = ap (λ (a : Admission). a zero s) (within_is definitions room j)
 
 same_schema : {X : Type 0} (definitions : Definitions) (f : Json → X) (smaller : Beside X → Schema → Bool) (next : Schema → Bool) (json : Json) (x : Level Json) (s : Schema)
     → schema_admits definitions smaller next json (level_with f x) s ≡ schema_admits definitions (λ y. smaller (beside_with f y)) next json x s
