@@ -68,17 +68,17 @@ truth_alone doc q (suc n) j b =
     written-suc doc q j n (Truth b)
     ∙ ap (λ (x : Level Json). is_some_and (as_object x) (members_admit doc (written_smaller doc q) (written_within doc q j n) j (out-Json j))) (json.outs-Bool b)
 
-truth_told : (definitions : Definitions) (r n : ℕ) (j : Json) (s : Schema) (b : Bool) → 1 ≤ n → out-Schema s ≡ Schema-F.Bool b → admits_within definitions r j n s ≡ b
-truth_told definitions r zero j s b le e = absurd (omega (arith, le))
-truth_told definitions r (suc n) j s b le e =
+truth_meant : (definitions : Definitions) (r n : ℕ) (j : Json) (s : Schema) (b : Bool) → 1 ≤ n → out-Schema s ≡ Schema-F.Bool b → admits_within definitions r j n s ≡ b
+truth_meant definitions r zero j s b le e = absurd (omega (arith, le))
+truth_meant definitions r (suc n) j s b le e =
     admits-suc definitions r j n s
     ∙ ap (λ (z : SchemaLevel). level_by_form (λ b. b) (object_admits definitions (smaller_admits definitions r) (admits_within definitions r j n) j (out-Json j)) z) e
 
 -- the empty schema admits all
-empty_told : (definitions : Definitions) (r n : ℕ) (j : Json) (s : Schema) → 1 ≤ n → IsEmpty s → admits_within definitions r j n s ≡ true
-empty_told definitions r n j s le (inl e) = truth_told definitions r n j s true le e
-empty_told definitions r zero j s le (inr (o, e, f)) = absurd (omega (arith, le))
-empty_told definitions r (suc n) j s le (inr (o, e, f)) =
+empty_meant : (definitions : Definitions) (r n : ℕ) (j : Json) (s : Schema) → 1 ≤ n → IsEmpty s → admits_within definitions r j n s ≡ true
+empty_meant definitions r n j s le (inl e) = truth_meant definitions r n j s true le e
+empty_meant definitions r zero j s le (inr (o, e, f)) = absurd (omega (arith, le))
+empty_meant definitions r (suc n) j s le (inr (o, e, f)) =
     let smaller = smaller_admits definitions r in
     let next = admits_within definitions r j n in
     admits-suc definitions r j n s
@@ -125,11 +125,11 @@ module _ (definitions : Definitions) (whole : Schema) (doc : Json) (accepted : I
   no_truth : (x : Json) (b : Bool) → written_smaller doc q x (Truth b) ≡ false
   no_truth x b = truth_alone doc q q x b
 
-  told : (x : Json) (s : Schema) (b : Bool) → out-Schema s ≡ Schema-F.Bool b → smaller_admits definitions r x s ≡ b
-  told x s b e = truth_told definitions r r x s b some e
+  truth_kept : (x : Json) (s : Schema) (b : Bool) → out-Schema s ≡ Schema-F.Bool b → smaller_admits definitions r x s ≡ b
+  truth_kept x s b e = truth_meant definitions r r x s b some e
 
   module _ (j : Json) (below_j : OfParts Agrees (out-Json j)) where
-    mean_of : (ss : List Schema) → ((t : Schema) → Contains ss t → IsReached definitions whole t) → (x : Json) → Agrees x → MeanOf (written_smaller doc q) (smaller_admits definitions r) no_truth told ss x
+    mean_of : (ss : List Schema) → ((t : Schema) → Contains ss t → IsReached definitions whole t) → (x : Json) → Agrees x → MeanOf (written_smaller doc q) (smaller_admits definitions r) no_truth truth_kept ss x
     mean_of ss reached x agrees t c = agrees t (reached t c) q (rests_written t (reached t c)) None r (rests t (reached t c))
 
     module _ (s : Schema) (reached : IsReached definitions whole s) (k n : ℕ) (left : (t : Schema) → LeadsTo definitions s t → Rests definitions k t) (also : (t : Schema) → LeadsTo definitions s t → Rests definitions n t)
@@ -176,19 +176,19 @@ module _ (definitions : Definitions) (whole : Schema) (doc : Json) (accepted : I
         below_reached f g t c = smaller_value s t reached (subst (λ (l : List Schema). Contains l t) (sym (below-is s o e f g)) c)
 
         parts_agree : (f : p.reference ≡ None) (g : without_values p.enum_values ≡ false) → (x : Level Json) → OfParts Agrees x
-            → PartsOf given p ((accepted s reached).parts_read o e f) (unrefused s o e f (accepted s reached).not_refused) j (written_smaller doc q) Next (smaller_admits definitions r) MeansNext no_truth told (smaller_schemas p.instance_type p) x
+            → PartsOf given p ((accepted s reached).parts_read o e f) (unrefused s o e f (accepted s reached).not_refused) j (written_smaller doc q) Next (smaller_admits definitions r) MeansNext no_truth truth_kept (smaller_schemas p.instance_type p) x
         parts_agree f g Json-F.Null h = tt
         parts_agree f g (Json-F.Bool b) h = tt
         parts_agree f g (Json-F.Int i) h = tt
         parts_agree f g (Json-F.Text t) h = tt
         parts_agree f g (Json-F.List xs) h = each xs h
           where
-            each : (xs : List Json) → AllByRecursion Agrees xs → AllByRecursion (MeanOf (written_smaller doc q) (smaller_admits definitions r) no_truth told (smaller_schemas p.instance_type p)) xs
+            each : (xs : List Json) → AllByRecursion Agrees xs → AllByRecursion (MeanOf (written_smaller doc q) (smaller_admits definitions r) no_truth truth_kept (smaller_schemas p.instance_type p)) xs
             each [] h = tt
             each (x ∷ xs) h = (mean_of (smaller_schemas p.instance_type p) (below_reached f g) x h.0, each xs h.1)
         parts_agree f g (Json-F.Object ms) h = each ms h
           where
-            each : (ms : List Member) → AllByRecursion (λ m. Agrees m.value) ms → AllByRecursion (λ m. MeanOf (written_smaller doc q) (smaller_admits definitions r) no_truth told (smaller_schemas p.instance_type p) m.value) ms
+            each : (ms : List Member) → AllByRecursion (λ m. Agrees m.value) ms → AllByRecursion (λ m. MeanOf (written_smaller doc q) (smaller_admits definitions r) no_truth truth_kept (smaller_schemas p.instance_type p) m.value) ms
             each [] h = tt
             each (m ∷ ms) h = (mean_of (smaller_schemas p.instance_type p) (below_reached f g) m.value h.0, each ms h.1)
 
@@ -202,12 +202,12 @@ module _ (definitions : Definitions) (whole : Schema) (doc : Json) (accepted : I
             let read = (accepted s reached).parts_read o e f in
             let right = unrefused s o e f (accepted s reached).not_refused in
             ap (λ (text : Option (List ℕ)). written_admits doc (written_smaller doc q) Next j (out-Json j) (option_map_or reference_json text (object_of (annotations given p ++ entries_behind (level_of p))))) (sym f)
-            ∙ object_agrees given p read right j (written_smaller doc q) Next (smaller_admits definitions r) MeansNext no_truth told doc (out-Json j) refl f
+            ∙ object_agrees given p read right j (written_smaller doc q) Next (smaller_admits definitions r) MeansNext no_truth truth_kept doc (out-Json j) refl f
             (λ g. record {
               agree = λ u h t c. next_agrees t (beside_reached f g u t h c);
               empty = λ u t h i.
                   let l = beside_reached f g u t h (not_among u t i) in
-                  empty_told definitions r n j t (some_left definitions n t (also t l)) (of_some IsEmpty u.not t i (of_some SubschemasAreRead p.subschemas u h read.subschemas_read).not_empty);
+                  empty_meant definitions r n j t (some_left definitions n t (also t l)) (of_some IsEmpty u.not t i (of_some SubschemasAreRead p.subschemas u h read.subschemas_read).not_empty);
               parts = parts_agree f g (out-Json j) below_j;
             })
 

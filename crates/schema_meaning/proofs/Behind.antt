@@ -17,7 +17,7 @@ use Rattle.openapi_values.specs.Rows.{is_read}
 use Rattle.openapi_values.specs.SchemaJson.{Written, untitled, schemas_json, object_step, schema_written, subschemas_written}
 use Rattle.openapi_values.proofs.SchemaLevels.{subschemas-are}
 use Rattle.schema_meaning.specs.Accepted.{IsEmpty, IsOne, SubschemasAreRead}
-use Rattle.schema_meaning.proofs.Entries.{each_entry, found, none-append}
+use Rattle.schema_meaning.proofs.Entries.{each_entry, value_named, none-append}
 use Rattle.schema_meaning.proofs.Noted.{AreBehind}
 use Rattle.schema_meaning.proofs.WrittenLevels.{json_of, truth-is, by_parts-is, level_of}
 
@@ -44,9 +44,9 @@ each_of q [] h a = refl
 each_of q ((name, None) ∷ es) h a = each_of q es h a.1
 each_of q ((name, Some v) ∷ es) h a = ap₂ (λ (x y : Bool). x && y) (h (name, Some v) a.0 v) (each_of q es h a.1)
 
-none_plain : (es : List Entry) → ArePlain es → found (codes "nullable") es ≡ None
+none_plain : (es : List Entry) → ArePlain es → value_named (codes "nullable") es ≡ None
 none_plain [] a = refl
-none_plain (e ∷ es) a = ap (λ b. cond b (option_or e.1 (found (codes "nullable") es)) (found (codes "nullable") es)) a.0.2 ∙ none_plain es a.1
+none_plain (e ∷ es) a = ap (λ b. cond b (option_or e.1 (value_named (codes "nullable") es)) (value_named (codes "nullable") es)) a.0.2 ∙ none_plain es a.1
 
 pub plain_behind : (es : List Entry) → ArePlain es → AreBehind es
 plain_behind es a = record {
@@ -92,7 +92,7 @@ subschemas_behind (Some s) a =
       no_null = refl;
     })
 
--- no other name is found among them
-pub no_subschema : (name : List ℕ) (o : Option Subschemas) → bytes_eq name (codes "allOf") ≡ false → bytes_eq name (codes "anyOf") ≡ false → bytes_eq name (codes "oneOf") ≡ false → bytes_eq name (codes "not") ≡ false → found name (subschema_entries o) ≡ None
+-- no other name stands among them
+pub no_subschema : (name : List ℕ) (o : Option Subschemas) → bytes_eq name (codes "allOf") ≡ false → bytes_eq name (codes "anyOf") ≡ false → bytes_eq name (codes "oneOf") ≡ false → bytes_eq name (codes "not") ≡ false → value_named name (subschema_entries o) ≡ None
 no_subschema name None e f g h = refl
-no_subschema name (Some s) e f g h = ap (found name) (subschemas-are s) ∙ rw (e, f, g, h) refl
+no_subschema name (Some s) e f g h = ap (value_named name) (subschemas-are s) ∙ rw (e, f, g, h) refl

@@ -8,7 +8,7 @@ use Rattle.schema_meaning.specs.Definitions.{Definitions, schema_named, name_ref
 use Rattle.schema_meaning.specs.Reached.{beside, below, LeadsTo, subschema, referred, ComesTo, at_once, IsReached, itself, same_value, smaller_value}
 use Rattle.schema_meaning.proofs.Among.{map_alike, one_fits, sums_fit, others_fit}
 use Rattle.schema_meaning.proofs.Chains.{Rests, go_on}
-use Rattle.schema_meaning.proofs.Sizes.{Sizes, same_or_not, without, summed, taken, sums_below, found_without}
+use Rattle.schema_meaning.proofs.Sizes.{Sizes, same_or_not, without, summed, taken, sums_below, named_without}
 
 -- A size of each schema that counts for those inside it, and the sizes of the definitions under their names.
 pub record Sized (definitions : Definitions) (whole : Schema) (size : Schema → ℕ) (sizes : Sizes) : Type 0 where
@@ -151,7 +151,7 @@ module _ (definitions : Definitions) (whole : Schema) (size : Schema → ℕ) (s
             let q : Some z ≡ Some y = sym g ∙ ap (schema_named definitions) (sym same) ∙ f in
             let w : y ≡ z = cc q in
             inr (subst (λ (v : Schema). Leads v s) w led)
-        | inr ne ↦ elim (inv r other z i e g) [ inl a ↦ inl (found_without name other left ne ∙ a) | inr a ↦ inr a ]
+        | inr ne ↦ elim (inv r other z i e g) [ inl a ↦ inl (named_without name other left ne ∙ a) | inr a ↦ inr a ]
       ]
 
   weight_is : (name : List ℕ) (y : Schema) → Reached y → schema_named definitions name ≡ Some y → weight name (size y) ≡ top y

@@ -77,9 +77,9 @@ schemas_fit doc (Some c) (Some s) e f = omega (arith, members_fit s, got_fits (c
 abbrev pub sizes_in : Json → Sizes
 sizes_in doc = map (λ m. (m.name, values m.value)) (schemas_in doc)
 
-size_found : (name : List ℕ) (ms : List Member) → value_at name (map (λ (m : Member). (m.name, values m.value)) ms) ≡ option_map values (first_named name ms)
-size_found name [] = refl
-size_found name (m ∷ ms) = by_name (bytes_eq name m.name) (size_found name ms)
+size_named : (name : List ℕ) (ms : List Member) → value_at name (map (λ (m : Member). (m.name, values m.value)) ms) ≡ option_map values (first_named name ms)
+size_named name [] = refl
+size_named name (m ∷ ms) = by_name (bytes_eq name m.name) (size_named name ms)
   where
     by_name : (b : Bool) → value_at name (map (λ (m : Member). (m.name, values m.value)) ms) ≡ option_map values (first_named name ms)
         → option_map (λ (pair : List ℕ × ℕ). pair.1) (cond b (Some (m.name, values m.value)) (find (λ pair. bytes_eq name pair.0) (map (λ (m : Member). (m.name, values m.value)) ms))) ≡ option_map values (cond b (Some m.value) (first_named name ms))
@@ -87,7 +87,7 @@ size_found name (m ∷ ms) = by_name (bytes_eq name m.name) (size_found name ms)
     by_name false later = later
 
 pub size_of_definition : (doc : Json) (name : List ℕ) → value_at name (sizes_in doc) ≡ option_map values (definition doc name)
-size_of_definition doc name = size_found name (schemas_in doc) ∙ ap (option_map values) (sym (got_in name (member_in (get_of (codes "components") doc) (codes "schemas"))))
+size_of_definition doc name = size_named name (schemas_in doc) ∙ ap (option_map values) (sym (got_in name (member_in (get_of (codes "components") doc) (codes "schemas"))))
 
 summed_total : (ms : List Member) → summed (λ name k. k) (map (λ m. (m.name, values m.value)) ms) ≡ total ms
 unfolding total

@@ -22,25 +22,25 @@ over_members q ((name, None) ∷ es) = over_members q es
 over_members q ((name, Some v) ∷ es) = ap (λ b. q name v && b) (over_members q es)
 
 -- the first value of a name
-abbrev pub found : List ℕ → List Entry → Option Json
-found name [] = None
-found name (e ∷ es) = if bytes_eq name e.0 then option_or e.1 (found name es) else found name es
+abbrev pub value_named : List ℕ → List Entry → Option Json
+value_named name [] = None
+value_named name (e ∷ es) = if bytes_eq name e.0 then option_or e.1 (value_named name es) else value_named name es
 
 either : {A : Type 0} (b : Bool) (x : A) → x ≡ cond b x x
 either true x = refl
 either false x = refl
 
-pub first-found : (name : List ℕ) (es : List Entry) → first_named name (members_of es) ≡ found name es
-first-found name [] = refl
-first-found name ((other, None) ∷ es) = first-found name es ∙ either (bytes_eq name other) (found name es)
-first-found name ((other, Some v) ∷ es) = ap (λ o. cond (bytes_eq name other) (Some v) o) (first-found name es)
+pub first_named-is : (name : List ℕ) (es : List Entry) → first_named name (members_of es) ≡ value_named name es
+first_named-is name [] = refl
+first_named-is name ((other, None) ∷ es) = first_named-is name es ∙ either (bytes_eq name other) (value_named name es)
+first_named-is name ((other, Some v) ∷ es) = ap (λ o. cond (bytes_eq name other) (Some v) o) (first_named-is name es)
 
-pub none-append : (name : List ℕ) (es fs : List Entry) → found name es ≡ None → found name (es ++ fs) ≡ found name fs
+pub none-append : (name : List ℕ) (es fs : List Entry) → value_named name es ≡ None → value_named name (es ++ fs) ≡ value_named name fs
 none-append name [] fs none = refl
 none-append name ((other, value) ∷ es) fs none = by_test (bytes_eq name other) value none (none-append name es fs)
   where
-    by_test : (b : Bool) (o : Option Json) → cond b (option_or o (found name es)) (found name es) ≡ None → (found name es ≡ None → found name (es ++ fs) ≡ found name fs)
-        → cond b (option_or o (found name (es ++ fs))) (found name (es ++ fs)) ≡ found name fs
+    by_test : (b : Bool) (o : Option Json) → cond b (option_or o (value_named name es)) (value_named name es) ≡ None → (value_named name es ≡ None → value_named name (es ++ fs) ≡ value_named name fs)
+        → cond b (option_or o (value_named name (es ++ fs))) (value_named name (es ++ fs)) ≡ value_named name fs
     by_test true None none later = later none
     by_test true (Some v) none later = absurd (cc none)
     by_test false o none later = later none
@@ -72,6 +72,6 @@ passed q holds [] es h = refl
 passed q holds ((name, None) ∷ ns) es h = passed q holds ns es h.1
 passed q holds ((name, Some v) ∷ ns) es h = ap (λ b. b && each_entry q (ns ++ es)) (holds name v h.0) ∙ passed q holds ns es h.1
 
-pub found_behind : (name : List ℕ) (ns es : List Entry) → is_annotation name ≡ false → AreRemarks ns → found name (ns ++ es) ≡ found name es
-found_behind name [] es other h = refl
-found_behind name (n ∷ ns) es other h = ap (λ b. cond b (option_or n.1 (found name (ns ++ es))) (found name (ns ++ es))) (no_annotation name n.0 other h.0) ∙ found_behind name ns es other h.1
+pub named_behind : (name : List ℕ) (ns es : List Entry) → is_annotation name ≡ false → AreRemarks ns → value_named name (ns ++ es) ≡ value_named name es
+named_behind name [] es other h = refl
+named_behind name (n ∷ ns) es other h = ap (λ b. cond b (option_or n.1 (value_named name (ns ++ es))) (value_named name (ns ++ es))) (no_annotation name n.0 other h.0) ∙ named_behind name ns es other h.1

@@ -46,11 +46,11 @@ swapped a b = by_tests (bytes_eq a b) (bytes_eq b a) refl refl
 abbrev pub written_properties : List Property → List Member
 written_properties ps = map pair_member (map property_written ps)
 
-property_found : (name : List ℕ) (ps : List Property) → first_named name (written_properties ps) ≡ option_map json_of (property_named name ps)
-property_found name [] = refl
-property_found name (p ∷ ps) =
+property_named-is : (name : List ℕ) (ps : List Property) → first_named name (written_properties ps) ≡ option_map json_of (property_named name ps)
+property_named-is name [] = refl
+property_named-is name (p ∷ ps) =
     ap (λ (pair : List ℕ × Json). cond (bytes_eq name pair.0) (Some pair.1) (first_named name (written_properties ps))) (property-is p)
-    ∙ by_test (bytes_eq name p.name) (property_found name ps)
+    ∙ by_test (bytes_eq name p.name) (property_named-is name ps)
   where
     by_test : (b : Bool) → first_named name (written_properties ps) ≡ option_map json_of (property_named name ps)
         → cond b (Some (json_of p.schema)) (first_named name (written_properties ps)) ≡ option_map json_of (option_map (λ p. p.schema) (cond b (Some p) (find (λ p. bytes_eq name p.name) ps)))
@@ -111,7 +111,7 @@ regrouped true false true c = refl
 regrouped true false false c = refl
 regrouped false r a c = refl
 
-module _ {X : Type 0} (smaller : X → Json → Bool) (means : X → Schema → Bool) (no_truth : (x : X) (b : Bool) → smaller x (Truth b) ≡ false) (told : (x : X) (s : Schema) (b : Bool) → out-Schema s ≡ Schema-F.Bool b → means x s ≡ b) where
+module _ {X : Type 0} (smaller : X → Json → Bool) (means : X → Schema → Bool) (no_truth : (x : X) (b : Bool) → smaller x (Truth b) ≡ false) (truth_kept : (x : X) (s : Schema) (b : Bool) → out-Schema s ≡ Schema-F.Bool b → means x s ≡ b) where
   -- of a smaller value some schemas mean what they are written as
   abbrev pub MeanOf : List Schema → X → Type 0
   MeanOf ss x = (s : Schema) → Contains ss s → smaller x (json_of s) ≡ means x s
@@ -128,7 +128,7 @@ module _ {X : Type 0} (smaller : X → Json → Bool) (means : X → Schema → 
           ap (λ (w : Written). is_true (out-Json (additional_json w)) || smaller x (additional_json w)) (truth-is a b e)
           ∙ ap₂ (λ (c d : Bool). c || d) (ap is_true (json.outs-Bool b)) (no_truth x b)
           ∙ or-false b
-          ∙ sym (told x a b e)
+          ∙ sym (truth_kept x a b e)
       by_form (Schema-F.Object o) e =
           let is = object-under a o e in
           ap (λ (j : Json). is_true (out-Json j) || smaller x j) (ap additional_json is ∙ sym (ap untitled is))
@@ -162,7 +162,7 @@ module _ {X : Type 0} (smaller : X → Json → Bool) (means : X → Schema → 
       one_member : (m : Named X) → MeanOf (map (λ p. p.schema) ps ++ if_any additional) m.value
           → (is_none_or (first_named m.name (written_properties ps)) (smaller m.value) && is_none_or (additional_of additional) (λ v. other_admitted smaller schema v m)) ≡ member_holds means ps additional m
       one_member m h =
-          ap₂ (λ (o : Option Json) (b : Bool). is_none_or o (smaller m.value) && is_none_or (additional_of additional) (λ v. b || (is_true (out-Json v) || smaller m.value v))) (property_found m.name ps) (is_property-is schema ps m.name stand)
+          ap₂ (λ (o : Option Json) (b : Bool). is_none_or o (smaller m.value) && is_none_or (additional_of additional) (λ v. b || (is_true (out-Json v) || smaller m.value v))) (property_named-is m.name ps) (is_property-is schema ps m.name stand)
           ∙ member_means ps additional m h (property_named m.name ps) refl
 
       each_member : (ms : List (Named X)) → AllByRecursion (λ m. MeanOf (map (λ p. p.schema) ps ++ if_any additional) m.value) ms

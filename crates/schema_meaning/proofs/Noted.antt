@@ -20,7 +20,7 @@ use Rattle.openapi_values.specs.Objects.{Entry, members_of, object_of}
 use Rattle.openapi_values.specs.Options.{is_some_and, is_none_or}
 use Rattle.openapi_values.specs.Rows.{row, is_read, members_hold}
 use Rattle.openapi_values.specs.SchemaJson.{annotations, extension_entries}
-use Rattle.schema_meaning.proofs.Entries.{each_entry, over_members, found, first-found, AreRemarks, extensions_remark, passed, found_behind}
+use Rattle.schema_meaning.proofs.Entries.{each_entry, over_members, value_named, first_named-is, AreRemarks, extensions_remark, passed, named_behind}
 
 -- the annotations beside `nullable`
 abbrev remarks : Option (List ℕ) → Parts → List Entry
@@ -41,14 +41,14 @@ are_remarks given p = (refl, (refl, (refl, (refl, (refl, (refl, (refl, extension
 -- whether the entries are those of the type of null
 abbrev pub null_form : List Entry → Bool
 null_form es =
-    is_some_and (found (codes "type") es) (λ s. is_some_and (as_text (out-Json s)) (λ name. bytes_eq name (codes "string")))
-    && is_some_and (found (codes "enum") es) (λ s. is_some_and (as_list (out-Json s)) is_null_alone)
+    is_some_and (value_named (codes "type") es) (λ s. is_some_and (as_text (out-Json s)) (λ name. bytes_eq name (codes "string")))
+    && is_some_and (value_named (codes "enum") es) (λ s. is_some_and (as_list (out-Json s)) is_null_alone)
 
 -- the entries behind annotations are read, and none is a reference or `nullable`
 pub record AreBehind (es : List Entry) : Type 0 where
   pub read : each_entry (λ name v. is_read (keyword_of name) v) es ≡ true
   pub no_reference : each_entry (λ name v. not (bytes_eq name (codes "$ref"))) es ≡ true
-  pub no_null : found (codes "nullable") es ≡ None
+  pub no_null : value_named (codes "nullable") es ≡ None
 
 not_taken : {A : Type 0} (b : Bool) (o : Option A) → (not b && true) ≡ true → cond b o None ≡ None
 not_taken true o h = absurd (cc h)
@@ -75,25 +75,25 @@ module _ (given : Option (List ℕ)) (p : Parts) (es : List Entry) where
   unfolding is_annotation bound_or part_of
   by_keyword k note null = all_passed (λ name v. k (keyword_of name) v) null (λ name v e. ap (λ b. k (cond b Annotation (bound_or (part_of name) name)) v) e ∙ note v)
 
-  pub found_in : (name : List ℕ) → bytes_eq name (codes "nullable") ≡ false → is_annotation name ≡ false → first_named name (members_of all_entries) ≡ found name es
-  found_in name e f =
-      first-found name all_entries
-      ∙ ap (λ b. cond b (option_or (if_true p.nullable) (found name (remarks given p ++ es))) (found name (remarks given p ++ es))) e
-      ∙ found_behind name (remarks given p) es f (are_remarks given p)
+  pub named_among : (name : List ℕ) → bytes_eq name (codes "nullable") ≡ false → is_annotation name ≡ false → first_named name (members_of all_entries) ≡ value_named name es
+  named_among name e f =
+      first_named-is name all_entries
+      ∙ ap (λ b. cond b (option_or (if_true p.nullable) (value_named name (remarks given p ++ es))) (value_named name (remarks given p ++ es))) e
+      ∙ named_behind name (remarks given p) es f (are_remarks given p)
 
-  is_nullable : found (codes "nullable") es ≡ None → is_set (codes "nullable") (members_of all_entries) ≡ p.nullable
+  is_nullable : value_named (codes "nullable") es ≡ None → is_set (codes "nullable") (members_of all_entries) ≡ p.nullable
   unfolding is_annotation
-  is_nullable none = ap (λ o. is_some_and o (λ s. is_true (out-Json s))) (first-found (codes "nullable") all_entries) ∙ by_case p.nullable
+  is_nullable none = ap (λ o. is_some_and o (λ s. is_true (out-Json s))) (first_named-is (codes "nullable") all_entries) ∙ by_case p.nullable
     where
-      by_case : (b : Bool) → is_some_and (option_or (if_true b) (found (codes "nullable") (remarks given p ++ es))) (λ s. is_true (out-Json s)) ≡ b
+      by_case : (b : Bool) → is_some_and (option_or (if_true b) (value_named (codes "nullable") (remarks given p ++ es))) (λ s. is_true (out-Json s)) ≡ b
       by_case true = ap is_true (outs-Bool true)
-      by_case false = ap (λ o. is_some_and o (λ s. is_true (out-Json s))) (found_behind (codes "nullable") (remarks given p) es refl (are_remarks given p) ∙ none)
+      by_case false = ap (λ o. is_some_and o (λ s. is_true (out-Json s))) (named_behind (codes "nullable") (remarks given p) es refl (are_remarks given p) ∙ none)
 
   formed : is_null_form (members_of all_entries) ≡ null_form es
   unfolding is_annotation
   formed =
-      ap (λ o. is_some_and o (λ s. is_some_and (as_text (out-Json s)) (λ name. bytes_eq name (codes "string"))) && is_some_and (first_named (codes "enum") (members_of all_entries)) (λ s. is_some_and (as_list (out-Json s)) is_null_alone)) (found_in (codes "type") refl refl)
-      ∙ ap (λ o. is_some_and (found (codes "type") es) (λ s. is_some_and (as_text (out-Json s)) (λ name. bytes_eq name (codes "string"))) && is_some_and o (λ s. is_some_and (as_list (out-Json s)) is_null_alone)) (found_in (codes "enum") refl refl)
+      ap (λ o. is_some_and o (λ s. is_some_and (as_text (out-Json s)) (λ name. bytes_eq name (codes "string"))) && is_some_and (first_named (codes "enum") (members_of all_entries)) (λ s. is_some_and (as_list (out-Json s)) is_null_alone)) (named_among (codes "type") refl refl)
+      ∙ ap (λ o. is_some_and (value_named (codes "type") es) (λ s. is_some_and (as_text (out-Json s)) (λ name. bytes_eq name (codes "string"))) && is_some_and o (λ s. is_some_and (as_list (out-Json s)) is_null_alone)) (named_among (codes "enum") refl refl)
 
   no_reference : each_entry (λ name v. not (bytes_eq name (codes "$ref"))) es ≡ true → reference_in (members_of all_entries) ≡ None
   unfolding is_annotation

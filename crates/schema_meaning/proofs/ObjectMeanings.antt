@@ -4,7 +4,7 @@ use Rattle.std.proofs.Math.Bool.{and-false}
 use Rattle.std.specs.List.{list_any}
 use Rattle.std.specs.Option.{option_map_or}
 use Rattle.std.specs.Prelude.{codes}
-use Rattle.schema_values.specs.declared.json_value.Json.{Json, Null as NullJson, Bool as Truth, Text as Words, List as ListOf, out-Json}
+use Rattle.schema_values.specs.declared.json_value.Json.{Json, Null as NullJson, Bool as Truth, List as ListOf, out-Json}
 use Rattle.schema_values.specs.declared.json_value.Json.TheOpen.{Json-F}
 use Rattle.schema_values.specs.declared.json_value.Json.TheVariants as json
 use Rattle.schema_values.specs.declared.json_value.Json.TheViews.{roll-Json, roll-out-Json}
@@ -30,11 +30,11 @@ use Rattle.openapi_values.specs.Options.{is_none_or, is_some_and}
 use Rattle.openapi_values.specs.Refusal.{type_array, values_refusal}
 use Rattle.openapi_values.specs.SchemaJson.{annotations, const_values, values_of, values_json, nothing_entries, without_values, entries_behind, object_step, type_entries, type_name}
 use Rattle.schema_meaning.specs.Accepted.{AreRead, AsksOfNoForm}
-use Rattle.schema_meaning.specs.Asked.{is_of, is_of_types, format_holds, number_holds, length_holds, array_holds, object_holds, form_holds, subschemas_hold, each_holds, parts_hold}
+use Rattle.schema_meaning.specs.Asked.{is_of, is_of_types, format_holds, number_holds, length_holds, array_holds, object_holds, is_string, form_holds, subschemas_hold, parts_hold}
 use Rattle.schema_meaning.specs.Reached.{combined_schemas, smaller_schemas}
 use Rattle.schema_meaning.proofs.Behind.{both_behind, plain_behind, subschema_entries, subschemas_behind, no_subschema}
 use Rattle.schema_meaning.proofs.Combined.{Agree, rows, rows-append, subschemas_agree}
-use Rattle.schema_meaning.proofs.Entries.{found}
+use Rattle.schema_meaning.proofs.Entries.{value_named}
 use Rattle.schema_meaning.proofs.Noted.{AreBehind, null_form, noted_admits}
 use Rattle.schema_meaning.proofs.NotRefused.{Unrefused, has_one, nulls_beside, no_values, without_type, of_array, of_object}
 use Rattle.schema_meaning.proofs.TypeEntries.{type_plain}
@@ -48,17 +48,6 @@ regrouped false v f s = refl
 
 null_is : (v : Json) → out-Json v ≡ Json-F.Null → v ≡ NullJson
 null_is v e = sym (roll-out-Json v) ∙ ap roll-Json e ∙ json.rolls-Null
-
-text_is : (v : Json) (t : List ℕ) → out-Json v ≡ Json-F.Text t → v ≡ Words t
-text_is v t e = sym (roll-out-Json v) ∙ ap roll-Json e ∙ json.rolls-Text t
-
-is_null-is : (x : Level Json) → is_null x ≡ true → x ≡ Json-F.Null
-is_null-is Json-F.Null h = refl
-is_null-is (Json-F.Bool b) h = absurd (cc h)
-is_null-is (Json-F.Int n) h = absurd (cc h)
-is_null-is (Json-F.Text t) h = absurd (cc h)
-is_null-is (Json-F.List xs) h = absurd (cc h)
-is_null-is (Json-F.Object ms) h = absurd (cc h)
 
 no_values-is : (o : Option (List Json)) → without_values o ≡ true → o ≡ Some []
 no_values-is None e = absurd (cc e)
@@ -74,34 +63,41 @@ nothing_behind = record {
 }
 
 module _ (given : Option (List ℕ)) (p : Parts) (read : AreRead p) (right : Unrefused p) (value : Json) (smaller : Json → Json → Bool) (next : Json → Bool) (means : Json → Schema → Bool) (means_next : Schema → Bool)
-    (no_truth : (x : Json) (b : Bool) → smaller x (Truth b) ≡ false) (told : (x : Json) (s : Schema) (b : Bool) → out-Schema s ≡ Schema-F.Bool b → means x s ≡ b) where
+    (no_truth : (x : Json) (b : Bool) → smaller x (Truth b) ≡ false) (truth_kept : (x : Json) (s : Schema) (b : Bool) → out-Schema s ≡ Schema-F.Bool b → means x s ≡ b) where
   abbrev Entries : Option InstanceTypes → List Entry
-  Entries = entries_of given p read value smaller next means no_truth told
+  Entries = entries_of given p read value smaller next means no_truth truth_kept
 
   abbrev Listed : Bool
-  Listed = listed given p read value smaller next means no_truth told
+  Listed = listed given p read value smaller next means no_truth truth_kept
 
   abbrev pub PartsOf : List Schema → Level Json → Type 0
-  PartsOf = PartsMean given p read value smaller next means no_truth told
+  PartsOf = PartsMean given p read value smaller next means no_truth truth_kept
+
+  -- the values that are given are null alone
+  abbrev Null_alone : Bool
+  Null_alone = is_some_and p.enum_values is_null_alone
 
   abbrev Subschemas_hold : Bool
   Subschemas_hold = is_none_or p.subschemas (subschemas_hold means_next)
 
   -- the rows of some entries of the whole object
   abbrev rows_in : Option InstanceTypes → Level Json → List Entry → Bool
-  rows_in t x = rows smaller next value x (members_for given p read value smaller next means no_truth told t)
+  rows_in t x = rows smaller next value x (members_for given p read value smaller next means no_truth truth_kept t)
 
   abbrev null_or : Level Json → Bool → Bool
   null_or x b = p.nullable && is_null x || b
 
-  -- what a type, or none, and the other parts ask
-  abbrev asked : Option InstanceTypes → Level Json → Bool
-  asked t x = is_none_or t (is_of_types x) && (Listed && (form_holds means x p && Subschemas_hold))
+  -- what a type, or none, and the other parts ask, but for the null form
+  abbrev each_part : Option InstanceTypes → Level Json → Bool
+  each_part t x = is_none_or t (is_of_types x) && (Listed && (form_holds means x p && Subschemas_hold))
 
-  asked-is : (t : Option InstanceTypes) (x : Level Json) → p.instance_type ≡ t → each_holds means means_next value x p ≡ asked t x
+  abbrev asked : Option InstanceTypes → Level Json → Bool
+  asked t x = if is_string t && Null_alone then is_null x else each_part t x
+
+  asked-is : (t : Option InstanceTypes) (x : Level Json) → p.instance_type ≡ t → parts_hold means means_next value x p ≡ null_or x (asked t x)
   asked-is t x e =
-      ap (λ (t : Option InstanceTypes). is_none_or t (is_of_types x) && (Listed && (is_none_or p.const_value (same_json value) && (form_holds means x p && Subschemas_hold)))) e
-      ∙ ap (λ (o : Option Json). is_none_or t (is_of_types x) && (Listed && (is_none_or o (same_json value) && (form_holds means x p && Subschemas_hold)))) read.no_const
+      ap (λ (t : Option InstanceTypes). null_or x (if is_string t && Null_alone then is_null x else (is_none_or t (is_of_types x) && (Listed && (is_none_or p.const_value (same_json value) && (form_holds means x p && Subschemas_hold)))))) e
+      ∙ ap (λ (o : Option Json). null_or x (if is_string t && Null_alone then is_null x else (is_none_or t (is_of_types x) && (Listed && (is_none_or o (same_json value) && (form_holds means x p && Subschemas_hold)))))) read.no_const
 
   -- the object as it is written admits what is asked
   abbrev Outcome : Option InstanceTypes → Level Json → Type 0
@@ -109,15 +105,16 @@ module _ (given : Option (List ℕ)) (p : Parts) (read : AreRead p) (right : Unr
 
   module _ (agree : (s : Subschemas) → p.subschemas ≡ Some s → Agree next means_next (combined_schemas s)) (empty : (s : Subschemas) (t : Schema) → p.subschemas ≡ Some s → s.not ≡ Some t → means_next t ≡ true) where
     subschemas_part : (t : Option InstanceTypes) (x : Level Json) → rows_in t x (subschema_entries p.subschemas) ≡ Subschemas_hold
-    subschemas_part t x = subschemas_agree smaller next value x (members_for given p read value smaller next means no_truth told t) means_next p.subschemas agree empty
+    subschemas_part t x = subschemas_agree smaller next value x (members_for given p read value smaller next means no_truth truth_kept t) means_next p.subschemas agree empty
 
-    by_rows : (type : InstanceType) (x : Level Json) → null_form (Entries (Some (Single type))) ≡ false → TypeMeans given p read value smaller next means no_truth told type → PartsOf (smaller_schemas (Some (Single type)) p) x → Outcome (Some (Single type)) x
-    by_rows type x form means_type parts =
+    by_rows : (type : InstanceType) (x : Level Json) → null_form (Entries (Some (Single type))) ≡ false → (is_string (Some (Single type)) && Null_alone) ≡ false → TypeMeans given p read value smaller next means no_truth truth_kept type → PartsOf (smaller_schemas (Some (Single type)) p) x → Outcome (Some (Single type)) x
+    by_rows type x form other means_type parts =
         ap (λ b. null_or x (if b then is_null x else rows_in (Some (Single type)) x (Entries (Some (Single type))))) form
         ∙ ap (λ b. null_or x b)
-        (rows-append smaller next value x (members_for given p read value smaller next means no_truth told (Some (Single type))) (type_entries (Some (Single type)) (level_of p)) (subschema_entries p.subschemas)
+        (rows-append smaller next value x (members_for given p read value smaller next means no_truth truth_kept (Some (Single type))) (type_entries (Some (Single type)) (level_of p)) (subschema_entries p.subschemas)
         ∙ ap₂ (λ (a b : Bool). a && b) (means_type x parts) (subschemas_part (Some (Single type)) x)
         ∙ regrouped (is_of x type) Listed (form_holds means x p) Subschemas_hold)
+        ∙ ap (λ b. null_or x (if b then is_null x else each_part (Some (Single type)) x)) (sym other)
 
     -- ---- without a type
 
@@ -134,7 +131,7 @@ module _ (given : Option (List ℕ)) (p : Parts) (read : AreRead p) (right : Unr
 
     without_any : (x : Level Json) → p.instance_type ≡ None → p.enum_values ≡ None → Outcome None x
     without_any x e none =
-        ap (λ (o : Option Json). null_or x (if (is_some_and o (λ s. is_some_and (as_text (out-Json s)) (λ name. bytes_eq name (codes "string"))) && is_some_and (found (codes "enum") (Entries None)) (λ s. is_some_and (as_list (out-Json s)) is_null_alone)) then is_null x else rows_in None x (Entries None)))
+        ap (λ (o : Option Json). null_or x (if (is_some_and o (λ s. is_some_and (as_text (out-Json s)) (λ name. bytes_eq name (codes "string"))) && is_some_and (value_named (codes "enum") (Entries None)) (λ s. is_some_and (as_list (out-Json s)) is_null_alone)) then is_null x else rows_in None x (Entries None)))
         (no_subschema (codes "type") p.subschemas refl refl refl refl)
         ∙ ap (λ b. null_or x b) (subschemas_part None x)
         ∙ ap₂ (λ (a b : Bool). null_or x (a && (b && Subschemas_hold))) (sym (all_listed none)) (sym (form_true x e (read.typed e)))
@@ -143,13 +140,13 @@ module _ (given : Option (List ℕ)) (p : Parts) (read : AreRead p) (right : Unr
 
     other_form : (type : InstanceType) → bytes_eq (type_name type) (codes "string") ≡ false → null_form (Entries (Some (Single type))) ≡ false
     other_form type other =
-        ap (λ (x : Level Json). is_some_and (as_text x) (λ name. bytes_eq name (codes "string")) && is_some_and (found (codes "enum") (Entries (Some (Single type)))) (λ s. is_some_and (as_list (out-Json s)) is_null_alone)) (json.outs-Text (type_name type))
-        ∙ ap (λ b. b && is_some_and (found (codes "enum") (Entries (Some (Single type)))) (λ s. is_some_and (as_list (out-Json s)) is_null_alone)) other
+        ap (λ (x : Level Json). is_some_and (as_text x) (λ name. bytes_eq name (codes "string")) && is_some_and (value_named (codes "enum") (Entries (Some (Single type)))) (λ s. is_some_and (as_list (out-Json s)) is_null_alone)) (json.outs-Text (type_name type))
+        ∙ ap (λ b. b && is_some_and (value_named (codes "enum") (Entries (Some (Single type)))) (λ s. is_some_and (as_list (out-Json s)) is_null_alone)) other
 
-    string_form : (type : InstanceType) → bytes_eq (type_name type) (codes "string") ≡ true → null_form (Entries (Some (Single type))) ≡ is_some_and (found (codes "enum") (Entries (Some (Single type)))) (λ s. is_some_and (as_list (out-Json s)) is_null_alone)
+    string_form : (type : InstanceType) → bytes_eq (type_name type) (codes "string") ≡ true → null_form (Entries (Some (Single type))) ≡ is_some_and (value_named (codes "enum") (Entries (Some (Single type)))) (λ s. is_some_and (as_list (out-Json s)) is_null_alone)
     string_form type same =
-        ap (λ (x : Level Json). is_some_and (as_text x) (λ name. bytes_eq name (codes "string")) && is_some_and (found (codes "enum") (Entries (Some (Single type)))) (λ s. is_some_and (as_list (out-Json s)) is_null_alone)) (json.outs-Text (type_name type))
-        ∙ ap (λ b. b && is_some_and (found (codes "enum") (Entries (Some (Single type)))) (λ s. is_some_and (as_list (out-Json s)) is_null_alone)) same
+        ap (λ (x : Level Json). is_some_and (as_text x) (λ name. bytes_eq name (codes "string")) && is_some_and (value_named (codes "enum") (Entries (Some (Single type)))) (λ s. is_some_and (as_list (out-Json s)) is_null_alone)) (json.outs-Text (type_name type))
+        ∙ ap (λ b. b && is_some_and (value_named (codes "enum") (Entries (Some (Single type)))) (λ s. is_some_and (as_list (out-Json s)) is_null_alone)) same
 
     -- ---- the type of null
 
@@ -182,41 +179,23 @@ module _ (given : Option (List ℕ)) (p : Parts) (read : AreRead p) (right : Unr
 
     -- ---- a text
 
-    texts_form : null_form (Entries (Some (Single String))) ≡ is_some_and (values_json p.enum_values) (λ s. is_some_and (as_list (out-Json s)) is_null_alone)
+    values_form : (o : Option (List Json)) → is_some_and (values_json o) (λ s. is_some_and (as_list (out-Json s)) is_null_alone) ≡ is_some_and o is_null_alone
+    values_form None = refl
+    values_form (Some vs) = ap (λ (x : Level Json). is_some_and (as_list x) is_null_alone) (json.outs-List vs)
+
+    texts_form : null_form (Entries (Some (Single String))) ≡ Null_alone
     texts_form =
         string_form String refl
         ∙ ap (λ (o : Option Json). is_some_and o (λ s. is_some_and (as_list (out-Json s)) is_null_alone))
-        (or_none (values_json (values_of p.const_value p.enum_values)) (found (codes "enum") (subschema_entries p.subschemas)) (no_subschema (codes "enum") p.subschemas refl refl refl refl)
-        ∙ ap values_json (values_are given p read value smaller next means no_truth told))
+        (or_none (values_json (values_of p.const_value p.enum_values)) (value_named (codes "enum") (subschema_entries p.subschemas)) (no_subschema (codes "enum") p.subschemas refl refl refl refl)
+        ∙ ap values_json (values_are given p read value smaller next means no_truth truth_kept))
+        ∙ values_form p.enum_values
 
-    -- null alone is no text
-    no_text : (x : Level Json) → out-Json value ≡ x → p.nullable ≡ true → p.enum_values ≡ Some (NullJson ∷ []) → null_or x (is_null x) ≡ null_or x (asked (Some (Single String)) x)
-    no_text Json-F.Null e null values = rw null refl
-    no_text (Json-F.Bool b) e null values = refl
-    no_text (Json-F.Int n) e null values = refl
-    no_text (Json-F.Text t) e null values =
-        ap (λ b. null_or (Json-F.Text t) (b && (form_holds means (Json-F.Text t) p && Subschemas_hold)))
-        (sym (ap₂ (λ (v : Json) (o : Option (List Json)). is_none_or o (list_any (same_json v))) (text_is value t e) values))
-    no_text (Json-F.List xs) e null values = refl
-    no_text (Json-F.Object ms) e null values = refl
-
-    only_null : (vs : List Json) → is_null_alone vs ≡ true → vs ≡ NullJson ∷ []
-    only_null [] h = absurd (cc h)
-    only_null (v ∷ []) h = ap (λ (j : Json). j ∷ []) (null_is v (is_null-is (out-Json v) h))
-    only_null (v ∷ w ∷ vs) h = absurd (cc h)
-
-    of_text : (x : Level Json) → out-Json value ≡ x → p.instance_type ≡ Some (Single String) → PartsOf [] x → (o : Option (List Json)) → p.enum_values ≡ o → Outcome (Some (Single String)) x
-    of_text x e type parts None values = by_rows String x (texts_form ∙ ap (λ (o : Option (List Json)). is_some_and (values_json o) (λ s. is_some_and (as_list (out-Json s)) is_null_alone)) values) (string_means given p read value smaller next means no_truth told) parts
-    of_text x e type parts (Some vs) values = by_test (is_null_alone vs) refl
-      where
-        formed : null_form (Entries (Some (Single String))) ≡ is_null_alone vs
-        formed = texts_form ∙ ap (λ (o : Option (List Json)). is_some_and (values_json o) (λ s. is_some_and (as_list (out-Json s)) is_null_alone)) values ∙ ap (λ (x : Level Json). is_some_and (as_list x) is_null_alone) (json.outs-List vs)
-
-        by_test : (b : Bool) → is_null_alone vs ≡ b → Outcome (Some (Single String)) x
-        by_test true h =
-            let only : p.enum_values ≡ Some (NullJson ∷ []) = values ∙ ap Some (only_null vs h) in
-            ap (λ b. null_or x (if b then is_null x else rows_in (Some (Single String)) x (Entries (Some (Single String))))) (formed ∙ h) ∙ no_text x e (read.no_null_text type only) only
-        by_test false h = by_rows String x (formed ∙ h) (string_means given p read value smaller next means no_truth told) parts
+    of_text : (x : Level Json) → PartsOf [] x → (b : Bool) → Null_alone ≡ b → Outcome (Some (Single String)) x
+    of_text x parts true h =
+        ap (λ b. null_or x (if b then is_null x else rows_in (Some (Single String)) x (Entries (Some (Single String))))) (texts_form ∙ h)
+        ∙ ap (λ b. null_or x (if b then is_null x else each_part (Some (Single String)) x)) (sym h)
+    of_text x parts false h = by_rows String x (texts_form ∙ h) h (string_means given p read value smaller next means no_truth truth_kept) parts
 
     -- ---- each type
 
@@ -225,17 +204,17 @@ module _ (given : Option (List ℕ)) (p : Parts) (read : AreRead p) (right : Unr
     by_type (Some (Several types)) e x f some parts = absurd (let w : type_array (Some (Several types)) ≡ None = subst (λ (t : Option InstanceTypes). type_array t ≡ None) e right.one_type in cc w)
     by_type (Some (Single Number)) e x f some parts = absurd (let w : type_array (Some (Single Number)) ≡ None = subst (λ (t : Option InstanceTypes). type_array t ≡ None) e right.one_type in cc w)
     by_type (Some (Single Null)) e x f some parts = of_null x f e some (subst (λ (t : Option InstanceTypes). values_refusal t (unwrap_or p.enum_values []) ≡ None) e right.values_right)
-    by_type (Some (Single Boolean)) e x f some parts = by_rows Boolean x (other_form Boolean refl) (boolean_means given p read value smaller next means no_truth told) parts
-    by_type (Some (Single String)) e x f some parts = of_text x f e parts p.enum_values refl
-    by_type (Some (Single Integer)) e x f some parts = by_rows Integer x (other_form Integer refl) (integer_means given p read value smaller next means no_truth told e right.bounds_right) parts
+    by_type (Some (Single Boolean)) e x f some parts = by_rows Boolean x (other_form Boolean refl) refl (boolean_means given p read value smaller next means no_truth truth_kept) parts
+    by_type (Some (Single String)) e x f some parts = of_text x parts Null_alone refl
+    by_type (Some (Single Integer)) e x f some parts = by_rows Integer x (other_form Integer refl) refl (integer_means given p read value smaller next means no_truth truth_kept e right.bounds_right) parts
     by_type (Some (Single Array)) e x f some parts =
-        by_rows Array x (other_form Array refl)
-        (array_means given p read value smaller next means no_truth told (has_one p e right.has_items)
+        by_rows Array x (other_form Array refl) refl
+        (array_means given p read value smaller next means no_truth truth_kept (has_one p e right.has_items)
         (no_values (Some (Single Array)) p.enum_values of_array some (subst (λ (t : Option InstanceTypes). values_refusal t (unwrap_or p.enum_values []) ≡ None) e right.values_right)))
         parts
     by_type (Some (Single Object)) e x f some parts =
-        by_rows Object x (other_form Object refl)
-        (object_means given p read value smaller next means no_truth told (no_values (Some (Single Object)) p.enum_values of_object some (subst (λ (t : Option InstanceTypes). values_refusal t (unwrap_or p.enum_values []) ≡ None) e right.values_right)))
+        by_rows Object x (other_form Object refl) refl
+        (object_means given p read value smaller next means no_truth truth_kept (no_values (Some (Single Object)) p.enum_values of_object some (subst (λ (t : Option InstanceTypes). values_refusal t (unwrap_or p.enum_values []) ≡ None) e right.values_right)))
         parts
 
   -- ---- the whole object
@@ -246,7 +225,10 @@ module _ (given : Option (List ℕ)) (p : Parts) (read : AreRead p) (right : Unr
       (subschemas_behind p.subschemas read.subschemas_read)
 
   nothing_asked : (x : Level Json) → p.enum_values ≡ Some [] → asked p.instance_type x ≡ false
-  nothing_asked x e = ap (λ (o : Option (List Json)). is_none_or p.instance_type (is_of_types x) && (is_none_or o (list_any (same_json value)) && (form_holds means x p && Subschemas_hold))) e ∙ and-false (is_none_or p.instance_type (is_of_types x))
+  nothing_asked x e =
+      ap (λ (o : Option (List Json)). if is_string p.instance_type && is_some_and o is_null_alone then is_null x else (is_none_or p.instance_type (is_of_types x) && (is_none_or o (list_any (same_json value)) && (form_holds means x p && Subschemas_hold)))) e
+      ∙ ap (λ b. if b then is_null x else (is_none_or p.instance_type (is_of_types x) && false)) (and-false (is_string p.instance_type))
+      ∙ and-false (is_none_or p.instance_type (is_of_types x))
 
   -- what stands inside the object agrees
   pub record InsideAgrees (x : Level Json) : Type 0 where
@@ -262,12 +244,13 @@ module _ (given : Option (List ℕ)) (p : Parts) (read : AreRead p) (right : Unr
     unfolding is_annotation bound_or part_of
     by_values true e inside =
         noted_admits given p nothing_entries doc smaller next value x nothing_behind
-        ∙ ap (λ b. null_or x b) (sym (nothing_asked x (no_values-is p.enum_values e)) ∙ sym (asked-is p.instance_type x refl))
+        ∙ ap (λ b. null_or x b) (sym (nothing_asked x (no_values-is p.enum_values e)))
+        ∙ sym (asked-is p.instance_type x refl)
     by_values false e inside =
         let agrees = inside refl in
         noted_admits given p (Entries p.instance_type) doc smaller next value x (behind p.instance_type)
         ∙ by_type agrees.agree agrees.empty p.instance_type refl x is e agrees.parts
-        ∙ ap (λ b. null_or x b) (sym (asked-is p.instance_type x refl))
+        ∙ sym (asked-is p.instance_type x refl)
 
     pub object_admits : p.reference ≡ None → (without_values p.enum_values ≡ false → InsideAgrees x) → schema_admits doc smaller next value x (object_step (level_of p) given) ≡ parts_hold means means_next value x p
     object_admits none inside =

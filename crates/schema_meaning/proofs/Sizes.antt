@@ -27,7 +27,7 @@ module _ (g : List ℕ → ℕ → ℕ) where
   summed_cons : (e : List ℕ × ℕ) (es : Sizes) → summed (e ∷ es) ≡ g e.0 e.1 + summed es
   summed_cons e es = sum_by-cons (λ n. n) (g e.0 e.1) (map (λ e. g e.0 e.1) es)
 
-  -- the one that is found, and the others
+  -- the one of the name, and the others
   pub taken : (name : List ℕ) (es : Sizes) (k : ℕ) → value_at name es ≡ Some k → summed es ≡ g name k + summed (without name es)
   unfolding without
   taken name [] k f = absurd (cc f)
@@ -45,11 +45,11 @@ pub sums_below : (f g : List ℕ → ℕ → ℕ) → ((name : List ℕ) (k : �
 sums_below f g h [] = omega arith
 sums_below f g h (e ∷ es) = omega (arith, h e.0 e.1, sums_below f g h es, sum_by-cons (λ n. n) (f e.0 e.1) (map (λ e. f e.0 e.1) es), sum_by-cons (λ n. n) (g e.0 e.1) (map (λ e. g e.0 e.1) es))
 
--- another name is found as before
-pub found_without : (name other : List ℕ) (es : Sizes) → (name ≡ other → ⊥) → value_at other (without name es) ≡ value_at other es
+-- what stands under another name is as before
+pub named_without : (name other : List ℕ) (es : Sizes) → (name ≡ other → ⊥) → value_at other (without name es) ≡ value_at other es
 unfolding without
-found_without name other [] ne = refl
-found_without name other (e ∷ es) ne = by_name (bytes_eq name e.0) (bytes_eq other e.0) refl refl (found_without name other es ne)
+named_without name other [] ne = refl
+named_without name other (e ∷ es) ne = by_name (bytes_eq name e.0) (bytes_eq other e.0) refl refl (named_without name other es ne)
   where
     by_name : (b c : Bool) → bytes_eq name e.0 ≡ b → bytes_eq other e.0 ≡ c → value_at other (without name es) ≡ value_at other es
         → value_at other (cond b es (e ∷ without name es)) ≡ option_map (λ pair. pair.1) (cond c (Some e) (find (λ pair. bytes_eq other pair.0) es))

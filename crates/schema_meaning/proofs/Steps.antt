@@ -1,5 +1,5 @@
 -- The parts of a schema ask of a value what they ask where the smaller values stand beside what is made of them; one step of a schema.
-use Rattle.std.proofs.Common.{◌≡◌, ℕ, zero, suc, Bool, false, ◌&&◌, ◌||◌, List, [], ◌∷◌, map, Option, Some, None, length, bytes_eq, refl, sym, ◌∙◌, ap}
+use Rattle.std.proofs.Common.{◌≡◌, ℕ, suc, Bool, ◌&&◌, ◌||◌, List, [], ◌∷◌, map, Option, Some, None, length, bytes_eq, if◌then◌else◌, refl, sym, ◌∙◌, ap}
 use Rattle.std.specs.List.{list_all, list_any}
 use Rattle.std.specs.Option.{option_map_or}
 use Rattle.std.specs.Prelude.{option_and_then}
@@ -20,7 +20,7 @@ use Rattle.schema_values.specs.Same.{same_json}
 use Rattle.schema_values.proofs.Besides.{made-out}
 use Rattle.openapi_values.specs.Levels.{Level, is_null, has_member}
 use Rattle.openapi_values.specs.Options.{is_some_and, is_none_or}
-use Rattle.schema_meaning.specs.Asked.{count_holds, places_hold, items_hold, array_holds, member_holds, object_holds, is_of_types, subschemas_hold, parts_hold}
+use Rattle.schema_meaning.specs.Asked.{count_holds, places_hold, items_hold, array_holds, member_holds, object_holds, is_of_types, is_null_form, subschemas_hold, parts_hold}
 use Rattle.schema_meaning.specs.Definitions.{Definitions, schema_named, name_in}
 use Rattle.schema_meaning.specs.Forms.{SchemaLevel, ItemsLevel, level_by_form, items_by_form}
 use Rattle.schema_meaning.specs.Meaning.{object_admits, schema_admits, Admission, admitted_beside, admits_at, admits_within}
@@ -78,8 +78,9 @@ module _ {X : Type 0} (f : Json → X) (smaller : Beside X → Schema → Bool) 
     abbrev rest : Level Json → Parts → Bool → Bool
     rest x parts b =
         parts.nullable && is_null x
-        || is_none_or parts.instance_type (is_of_types x)
-        && (is_none_or parts.enum_values (list_any (same_json json)) && (is_none_or parts.const_value (same_json json) && (b && is_none_or parts.subschemas (subschemas_hold next))))
+        || (if is_null_form parts then is_null x
+        else (is_none_or parts.instance_type (is_of_types x)
+        && (is_none_or parts.enum_values (list_any (same_json json)) && (is_none_or parts.const_value (same_json json) && (b && is_none_or parts.subschemas (subschemas_hold next))))))
 
     same_parts : (x : Level Json) (parts : Parts) → parts_hold smaller next json (level_with f x) parts ≡ parts_hold plainly next json x parts
     same_parts Json-F.Null parts = refl
@@ -92,10 +93,6 @@ module _ {X : Type 0} (f : Json → X) (smaller : Beside X → Schema → Bool) 
 within_is : (definitions : Definitions) (room : ℕ) (j : Json) → admits_within definitions room j ≡ admits_at definitions room j (level_with (admits_within definitions room) (out-Json j))
 unfolding admits_within
 within_is definitions room j = made-out (admits_at definitions room) j
-
-pub admits-zero : (definitions : Definitions) (room : ℕ) (j : Json) (s : Schema) → admits_within definitions room j zero s ≡ false
-unfolding admits_at
-admits-zero definitions room j s = ap (λ (a : Admission). a zero s) (within_is definitions room j)
 
 same_schema : {X : Type 0} (definitions : Definitions) (f : Json → X) (smaller : Beside X → Schema → Bool) (next : Schema → Bool) (json : Json) (x : Level Json) (s : Schema)
     → schema_admits definitions smaller next json (level_with f x) s ≡ schema_admits definitions (λ y. smaller (beside_with f y)) next json x s

@@ -38,9 +38,9 @@ use Rattle.schema_meaning.proofs.Among.{among_first}
 use Rattle.schema_meaning.proofs.Arrays.{MeansOf, array_part}
 use Rattle.schema_meaning.proofs.Behind.{subschema_entries, no_subschema}
 use Rattle.schema_meaning.proofs.Combined.{rows}
-use Rattle.schema_meaning.proofs.Entries.{found}
+use Rattle.schema_meaning.proofs.Entries.{value_named}
 use Rattle.schema_meaning.proofs.Members.{written_properties, MeanOf, object_part}
-use Rattle.schema_meaning.proofs.Noted.{all_entries, found_in}
+use Rattle.schema_meaning.proofs.Noted.{all_entries, named_among}
 use Rattle.schema_meaning.proofs.NotRefused.{HasOne, one_form}
 use Rattle.schema_meaning.proofs.Numbers.{AreMarked, number_part}
 use Rattle.schema_meaning.proofs.Texts.{text_part}
@@ -55,7 +55,7 @@ marked_by : (b : Bool) (o : Option Json) → o ≡ None → is_some_and (option_
 marked_by true o e = ap is_true (json.outs-Bool true)
 marked_by false o e = ap (λ (o : Option Json). is_some_and o (λ s. is_true (out-Json s))) e
 
-module _ (given : Option (List ℕ)) (p : Parts) (read : AreRead p) (value : Json) (smaller : Json → Json → Bool) (next : Json → Bool) (means : Json → Schema → Bool) (no_truth : (x : Json) (b : Bool) → smaller x (Truth b) ≡ false) (told : (x : Json) (s : Schema) (b : Bool) → out-Schema s ≡ Schema-F.Bool b → means x s ≡ b) where
+module _ (given : Option (List ℕ)) (p : Parts) (read : AreRead p) (value : Json) (smaller : Json → Json → Bool) (next : Json → Bool) (means : Json → Schema → Bool) (no_truth : (x : Json) (b : Bool) → smaller x (Truth b) ≡ false) (truth_kept : (x : Json) (s : Schema) (b : Bool) → out-Schema s ≡ Schema-F.Bool b → means x s ≡ b) where
   -- the entries behind the annotations, and the whole object
   abbrev pub entries_of : Option InstanceTypes → List Entry
   entries_of t = type_entries t (level_of p) ++ subschema_entries p.subschemas
@@ -72,8 +72,8 @@ module _ (given : Option (List ℕ)) (p : Parts) (read : AreRead p) (value : Jso
 
   -- the smaller values of a value, of which some schemas mean what they are written as
   abbrev pub PartsMean : List Schema → Level Json → Type 0
-  PartsMean ss (Json-F.List xs) = AllByRecursion (MeanOf smaller means no_truth told ss) xs
-  PartsMean ss (Json-F.Object ms) = AllByRecursion (λ m. MeanOf smaller means no_truth told ss m.value) ms
+  PartsMean ss (Json-F.List xs) = AllByRecursion (MeanOf smaller means no_truth truth_kept ss) xs
+  PartsMean ss (Json-F.Object ms) = AllByRecursion (λ m. MeanOf smaller means no_truth truth_kept ss m.value) ms
   PartsMean ss _ = ⊤
 
   -- the type says, and what stands beside it, what is asked
@@ -125,12 +125,12 @@ module _ (given : Option (List ℕ)) (p : Parts) (read : AreRead p) (value : Jso
       record {
         low =
             ap (λ (o : Option Json). is_some_and o (λ s. is_true (out-Json s)))
-            (found_in given p (entries_of (Some (Single Integer))) (codes "exclusiveMinimum") refl refl ∙ ap (λ (o : Option NumberBounds). found (codes "exclusiveMinimum") (integer_entries o)) e)
-            ∙ marked_by (is_some b.exclusive_minimum) (found (codes "exclusiveMinimum") (subschema_entries p.subschemas)) (no_subschema (codes "exclusiveMinimum") p.subschemas refl refl refl refl);
+            (named_among given p (entries_of (Some (Single Integer))) (codes "exclusiveMinimum") refl refl ∙ ap (λ (o : Option NumberBounds). value_named (codes "exclusiveMinimum") (integer_entries o)) e)
+            ∙ marked_by (is_some b.exclusive_minimum) (value_named (codes "exclusiveMinimum") (subschema_entries p.subschemas)) (no_subschema (codes "exclusiveMinimum") p.subschemas refl refl refl refl);
         high =
             ap (λ (o : Option Json). is_some_and o (λ s. is_true (out-Json s)))
-            (found_in given p (entries_of (Some (Single Integer))) (codes "exclusiveMaximum") refl refl ∙ ap (λ (o : Option NumberBounds). found (codes "exclusiveMaximum") (integer_entries o)) e)
-            ∙ marked_by (is_some b.exclusive_maximum) (found (codes "exclusiveMaximum") (subschema_entries p.subschemas)) (no_subschema (codes "exclusiveMaximum") p.subschemas refl refl refl refl);
+            (named_among given p (entries_of (Some (Single Integer))) (codes "exclusiveMaximum") refl refl ∙ ap (λ (o : Option NumberBounds). value_named (codes "exclusiveMaximum") (integer_entries o)) e)
+            ∙ marked_by (is_some b.exclusive_maximum) (value_named (codes "exclusiveMaximum") (subschema_entries p.subschemas)) (no_subschema (codes "exclusiveMaximum") p.subschemas refl refl refl refl);
         low_once = once.0;
         high_once = once.1;
       }
@@ -138,7 +138,7 @@ module _ (given : Option (List ℕ)) (p : Parts) (read : AreRead p) (value : Jso
   integer_is : is_integer (members_for (Some (Single Integer))) ≡ true
   unfolding is_annotation
   integer_is =
-      ap (λ (o : Option Json). is_some_and o (λ s. is_some_and (as_text (out-Json s)) (λ name. bytes_eq name (codes "integer")))) (found_in given p (entries_of (Some (Single Integer))) (codes "type") refl refl)
+      ap (λ (o : Option Json). is_some_and o (λ s. is_some_and (as_text (out-Json s)) (λ name. bytes_eq name (codes "integer")))) (named_among given p (entries_of (Some (Single Integer))) (codes "type") refl refl)
       ∙ ap (λ (x : Level Json). is_some_and (as_text x) (λ name. bytes_eq name (codes "integer"))) (json.outs-Text (codes "integer"))
 
   pub integer_means : p.instance_type ≡ Some (Single Integer) → bounds_refusal p.number ≡ None → TypeMeans Integer
@@ -165,7 +165,7 @@ module _ (given : Option (List ℕ)) (p : Parts) (read : AreRead p) (value : Jso
   all_listed : p.enum_values ≡ None → listed ≡ true
   all_listed none = ap (λ (o : Option (List Json)). is_none_or o (list_any (same_json value))) none
 
-  mean_items : (ss : List Schema) (s : Schema) → ss ≡ s ∷ [] → (xs : List Json) → AllByRecursion (MeanOf smaller means no_truth told ss) xs → MeansOf smaller means s xs
+  mean_items : (ss : List Schema) (s : Schema) → ss ≡ s ∷ [] → (xs : List Json) → AllByRecursion (MeanOf smaller means no_truth truth_kept ss) xs → MeansOf smaller means s xs
   mean_items ss s e [] h = tt
   mean_items ss s e (x ∷ xs) h = (h.0 s (subst (λ (l : List Schema). Contains l s) (sym e) (among_first s [])), mean_items ss s e xs h.1)
 
@@ -199,15 +199,15 @@ module _ (given : Option (List ℕ)) (p : Parts) (read : AreRead p) (value : Jso
   properties_stand : (o : ObjectParts) → p.object ≡ Some o → first_named (codes "properties") (members_for (Some (Single Object))) ≡ unless_empty (written_properties (out-ObjectParts o).properties)
   unfolding is_annotation
   properties_stand o e =
-      found_in given p (entries_of (Some (Single Object))) (codes "properties") refl refl
-      ∙ ap₂ (λ (c : Option Json) (o : Option ObjectParts). found (codes "properties") (object_entries c o)) read.no_const e
-      ∙ ap (λ (es : List Entry). found (codes "properties") (es ++ subschema_entries p.subschemas)) (object_parts-are o)
-      ∙ or_none (unless_empty (written_properties (out-ObjectParts o).properties)) (found (codes "properties") (subschema_entries p.subschemas)) (no_subschema (codes "properties") p.subschemas refl refl refl refl)
+      named_among given p (entries_of (Some (Single Object))) (codes "properties") refl refl
+      ∙ ap₂ (λ (c : Option Json) (o : Option ObjectParts). value_named (codes "properties") (object_entries c o)) read.no_const e
+      ∙ ap (λ (es : List Entry). value_named (codes "properties") (es ++ subschema_entries p.subschemas)) (object_parts-are o)
+      ∙ or_none (unless_empty (written_properties (out-ObjectParts o).properties)) (value_named (codes "properties") (subschema_entries p.subschemas)) (no_subschema (codes "properties") p.subschemas refl refl refl refl)
 
-  object_rows : (ms : List Member) (o : Option ObjectParts) → p.object ≡ o → AllByRecursion (λ m. MeanOf smaller means no_truth told (option_map_or object_schemas o []) m.value) ms
+  object_rows : (ms : List Member) (o : Option ObjectParts) → p.object ≡ o → AllByRecursion (λ m. MeanOf smaller means no_truth truth_kept (option_map_or object_schemas o []) m.value) ms
       → rows_at Object (Json-F.Object ms) (unwrap_or (option_map object_parts_written o) []) ≡ is_none_or o (object_holds means ms)
   object_rows ms None e h = refl
-  object_rows ms (Some o) e h = object_part smaller means no_truth told next value (members_for (Some (Single Object))) ms o (properties_stand o e) h
+  object_rows ms (Some o) e h = object_part smaller means no_truth truth_kept next value (members_for (Some (Single Object))) ms o (properties_stand o e) h
 
   pub object_means : p.enum_values ≡ None → TypeMeans Object
   object_means none x h = by_type Object x ∙ by_level x h

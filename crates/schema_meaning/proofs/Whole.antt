@@ -29,9 +29,9 @@ use Rattle.std.proofs.lemmas.List.Sums.{sum_by-cons}
 abbrev sizes_of : Definitions → Sizes
 sizes_of = map (λ d. (d.0, schemas d.1))
 
-count_found : (name : List ℕ) (ds : Definitions) → value_at name (sizes_of ds) ≡ option_map schemas (schema_named ds name)
-count_found name [] = refl
-count_found name (d ∷ ds) = by_name (bytes_eq name d.0) (count_found name ds)
+count_named : (name : List ℕ) (ds : Definitions) → value_at name (sizes_of ds) ≡ option_map schemas (schema_named ds name)
+count_named name [] = refl
+count_named name (d ∷ ds) = by_name (bytes_eq name d.0) (count_named name ds)
   where
     by_name : (b : Bool) → value_at name (sizes_of ds) ≡ option_map schemas (schema_named ds name)
         → option_map (λ (pair : List ℕ × ℕ). pair.1) (cond b (Some (d.0, schemas d.1)) (find (λ pair. bytes_eq name pair.0) (sizes_of ds))) ≡ option_map schemas (option_map (λ (pair : List ℕ × Schema). pair.1) (cond b (Some d) (find (λ pair. bytes_eq name pair.0) ds)))
@@ -56,7 +56,7 @@ module _ (doc : Json) (definitions : Definitions) (whole : Schema) (title : Opti
   sized : Sized definitions whole schemas (sizes_of definitions)
   sized = record {
     counts = λ s reached. schemas_count s;
-    named = λ s name y reached e f. count_found name definitions ∙ ap (option_map schemas) f;
+    named = λ s name y reached e f. count_named name definitions ∙ ap (option_map schemas) f;
   }
 
   -- any steps that are no fewer than the two rooms

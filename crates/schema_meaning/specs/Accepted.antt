@@ -1,7 +1,6 @@
 -- The schemas whose meaning is kept where they are written (OpenAPI 3.0.3, Schema Object).
 use Rattle.std.specs.Prelude.{◌≡◌, ◌⊎◌, true, List, [], ◌∷◌, Some, None, IfSome}
-use Rattle.schema_values.specs.declared.json_value.Json.{Null as NullJson}
-use Rattle.schema_values.specs.declared.schema.InstanceType.TheVariants.{Null, String}
+use Rattle.schema_values.specs.declared.schema.InstanceType.TheVariants.{Null}
 use Rattle.schema_values.specs.declared.schema.InstanceTypes.TheVariants.{Single}
 use Rattle.schema_values.specs.declared.schema.Items.TheOpen.{Schema-F}
 use Rattle.schema_values.specs.declared.schema.Schema.{Schema, out-Schema}
@@ -42,8 +41,6 @@ pub record AreRead (parts : Parts) : Type 0 where
   pub typed : parts.instance_type ≡ None → AsksOfNoForm parts
   -- beside the type of null no subschemas stand
   pub null_alone : parts.instance_type ≡ Some (Single Null) → parts.subschemas ≡ None
-  -- where null is the one value of a text, the schema is nullable: it is written as the type of null is
-  pub no_null_text : parts.instance_type ≡ Some (Single String) → parts.enum_values ≡ Some (NullJson ∷ []) → parts.nullable ≡ true
 
 -- what is asked of the parts of a schema: nothing of a truth value, or of a reference
 abbrev pub PartsAreRead : Schema → Type 0

@@ -1,5 +1,5 @@
 -- What each part of a schema asks of a value (OpenAPI 3.0.3, Schema Object).
-use Rattle.std.specs.Prelude.{ℕ, ℤ, Bool, true, false, ◌&&◌, ◌||◌, not, ◌==◌, nat_le, int_le, int_lt, List, [], ◌∷◌, Option, Some, option_map, find, bytes_eq, length, count_by}
+use Rattle.std.specs.Prelude.{ℕ, ℤ, Bool, true, false, ◌&&◌, ◌||◌, not, ◌==◌, nat_le, int_le, int_lt, List, [], ◌∷◌, Option, Some, option_map, if◌then◌else◌, find, bytes_eq, length, count_by}
 use Rattle.std.specs.List.{list_all, list_any}
 use Rattle.std.specs.Option.{option_map_or}
 use Rattle.schema_values.specs.declared.json_value.Json.{Json}
@@ -19,7 +19,8 @@ use Rattle.schema_values.specs.declared.schema.Subschemas.{Subschemas}
 use Rattle.schema_values.specs.Parts.{Parts}
 use Rattle.schema_values.specs.Same.{same_json}
 use Rattle.openapi_values.specs.Levels.{Named, Level, is_null, has_member}
-use Rattle.openapi_values.specs.Options.{is_none_or}
+use Rattle.openapi_values.specs.Lookup.{is_null_alone}
+use Rattle.openapi_values.specs.Options.{is_none_or, is_some_and}
 use Rattle.openapi_values.specs.Rows.{in_format}
 use Rattle.schema_meaning.specs.Forms.{by_items}
 
@@ -38,6 +39,15 @@ is_of j type = false
 abbrev pub is_of_types : {X : Type 0} → Level X → InstanceTypes → Bool
 is_of_types j (Single type) = is_of j type
 is_of_types j (Several types) = list_any (is_of j) types
+
+-- the one type is that of texts
+abbrev pub is_string : Option InstanceTypes → Bool
+is_string (Some (Single String)) = true
+is_string types = false
+
+-- the form that null alone is written in, since OpenAPI 3.0.3 has no type of null: a string whose one value is null
+abbrev pub is_null_form : Parts → Bool
+is_null_form parts = is_string parts.instance_type && is_some_and parts.enum_values is_null_alone
 
 -- the format of an integer asks that a number is one of the format's; beside other types a format asks nothing
 abbrev pub format_holds : Option InstanceTypes → Option (List ℕ) → ℤ → Bool
@@ -117,6 +127,6 @@ module _ {X : Type 0} (smaller : X → Schema → Bool) (next : Schema → Bool)
       && (form_holds smaller j parts
       && is_none_or parts.subschemas (subschemas_hold next))))
 
-  -- `nullable` admits null whatever else is asked
+  -- `nullable` admits null whatever else is asked, and the null form null alone
   abbrev pub parts_hold : Level X → Parts → Bool
-  parts_hold j parts = parts.nullable && is_null j || each_holds j parts
+  parts_hold j parts = parts.nullable && is_null j || (if is_null_form parts then is_null j else each_holds j parts)

@@ -1,4 +1,4 @@
--- What is said of a schema by its form.
+-- Cases by the form of a schema.
 use Rattle.std.specs.Prelude.{Bool, List}
 use Rattle.schema_values.specs.declared.schema.ArrayParts.{ArrayParts}
 use Rattle.schema_values.specs.declared.schema.Items.{Items, out-Items}
@@ -17,7 +17,7 @@ abbrev pub ItemsLevel : Type 0
 ItemsLevel = Items-F Items Schema ArrayParts ObjectParts Property SchemaObject Subschemas
 
 module _ {X : Type 0} where
-  -- what is said of a truth value, or of a schema object
+  -- one case for a truth value, another for a schema object
   abbrev pub level_by_form : (Bool → X) → (SchemaObject → X) → SchemaLevel → X
   level_by_form truth object (Schema-F.Bool b) = truth b
   level_by_form truth object (Schema-F.Object o) = object o
@@ -25,7 +25,7 @@ module _ {X : Type 0} where
   abbrev pub by_form : (Bool → X) → (SchemaObject → X) → Schema → X
   by_form truth object schema = level_by_form truth object (out-Schema schema)
 
-  -- what is said of one schema for each item, or of schemas of items by place
+  -- one case for one schema of each item, another for schemas of items by place
   abbrev pub items_by_form : (Schema → X) → (List Schema → X) → ItemsLevel → X
   items_by_form one by_place (Items-F.One schema) = one schema
   items_by_form one by_place (Items-F.Tuple schemas) = by_place schemas
