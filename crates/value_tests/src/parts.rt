@@ -113,17 +113,31 @@ fn paged(alloc: Global) -> Result<Operation, AllocError> {
     Ok(operation)
 }
 
+fn two(
+    alloc: Global,
+    first: &str,
+    second: &str,
+) -> Result<(Option<Operation>, Option<Operation>), AllocError> {
+    let first = bare(alloc, first)?;
+    let second = bare(alloc, second)?;
+    Ok((Some(first), Some(second)))
+}
+
 /// An operation of each method, whose ids are numbers.
 fn path(alloc: Global) -> Result<PathItem, AllocError> {
+    let (get, put) = two(alloc, "1", "2")?;
+    let (post, delete) = two(alloc, "3", "4")?;
+    let (options, head) = two(alloc, "5", "6")?;
+    let (patch, trace) = two(alloc, "7", "8")?;
     Ok(PathItem {
-        get: Some(bare(alloc, "1")?),
-        put: Some(bare(alloc, "2")?),
-        post: Some(bare(alloc, "3")?),
-        delete: Some(bare(alloc, "4")?),
-        options: Some(bare(alloc, "5")?),
-        head: Some(bare(alloc, "6")?),
-        patch: Some(bare(alloc, "7")?),
-        trace: Some(bare(alloc, "8")?),
+        get,
+        put,
+        post,
+        delete,
+        options,
+        head,
+        patch,
+        trace,
     })
 }
 
