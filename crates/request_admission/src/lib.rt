@@ -1,0 +1,10 @@
+//! Whether an OpenAPI document admits a request: its parameters, its media type and its body.
+#![tactic(auto)]
+
+mod check;
+mod content_type;
+mod query;
+#[cfg(test)]
+mod tests;
+
+pub use check::check_admits;
