@@ -104,7 +104,7 @@ fn is_json_type(media: &[u8]) -> bool
 fn has_json_suffix(media: &[u8]) -> bool
     ensures { result ≡ has_json_suffix media.now }
 {
-    match bytes_after(media, b"application/") {
+    match subtype_of(media) {
         Some(subtype) => match after_plus(subtype) {
             Some(suffix) => suffix == b"json".as_slice(),
             None => false,
@@ -113,21 +113,11 @@ fn has_json_suffix(media: &[u8]) -> bool
     }
 }
 
-// What follows a prefix.
-fn bytes_after<'a>(bytes: &'a [u8], prefix: &[u8]) -> Option<&'a [u8]>
-    ensures { option_map (λ rest. rest.now) result ≡ after prefix.now bytes.now }
+// What stands under `application/`.
+fn subtype_of(media: &[u8]) -> Option<&[u8]>
+    ensures { option_map (λ rest. rest.now) result ≡ after (codes "application/") media.now }
 {
-    let mut bytes = bytes;
-    let mut prefix = prefix;
-    while let Some((wanted, later)) = prefix.split_first() {
-        let (byte, rest) = bytes.split_first()?;
-        if *wanted != *byte {
-            return None;
-        }
-        prefix = later;
-        bytes = rest;
-    }
-    Some(bytes)
+    media.strip_prefix(b"application/".as_slice())
 }
 
 // What follows the first `+`.

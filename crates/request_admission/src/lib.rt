@@ -3,6 +3,8 @@
 
 mod check;
 mod content_type;
+mod members;
+mod parameters;
 mod query;
 #[cfg(test)]
 mod tests;

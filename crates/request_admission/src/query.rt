@@ -12,9 +12,9 @@ pub(crate) fn query_pairs(alloc: Global, query: &Text) -> Result<List<(Text, Tex
     ensures { IfOk result (λ pairs. pairs ≡ query_pairs query.now) }
 {
     let mut pairs = List::new(alloc);
-    for pair in raw_pairs(query.as_bytes()) {
-        let name = decoded(alloc, pair.0)?;
-        let value = decoded(alloc, pair.1)?;
+    for (name, value) in raw_pairs(query.as_bytes()) {
+        let name = decoded(alloc, name)?;
+        let value = decoded(alloc, value)?;
         pairs.push((name, value))?;
     }
     Ok(pairs)

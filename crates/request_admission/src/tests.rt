@@ -127,7 +127,10 @@ fn a_body_is_json_that_the_schema_admits(rt: HostRuntime) -> Result<(), Fail> {
             let value = List::from_bytes(alloc, media_type)?;
             request.headers.push(HeaderLine { name, value })?;
         }
-        assert_eq!(rt; check_admits(alloc, &doc, "/probe", "POST", &request)?, wanted);
+        assert_eq!(rt;
+            check_admits(alloc, &doc, "/probe", "POST", &request)?,
+            wanted
+        );
     }
     Ok(())
 }
@@ -140,7 +143,10 @@ fn parameters_stand_in_the_path_and_the_query(rt: HostRuntime) -> Result<(), Fai
         let mut request = request(alloc, query, b"")?;
         let id = VariableValue::String(Text::from_str(alloc, id)?);
         request.variables.insert(Text::from_str(alloc, "id")?, id)?;
-        assert_eq!(rt; check_admits(alloc, &doc, "/items/{id}", "GET", &request)?, wanted);
+        assert_eq!(rt;
+            check_admits(alloc, &doc, "/items/{id}", "GET", &request)?,
+            wanted
+        );
     }
     Ok(())
 }
@@ -152,7 +158,9 @@ fn the_components_of_a_path_are_no_variable(rt: HostRuntime) -> Result<(), Fail>
     let mut request = request(alloc, "after=1", b"")?;
     assert!(rt; !check_admits(alloc, &doc, "/items/{id}", "GET", &request)?);
     let components = VariableValue::Components(List::new(alloc));
-    request.variables.insert(Text::from_str(alloc, "id")?, components)?;
+    request
+        .variables
+        .insert(Text::from_str(alloc, "id")?, components)?;
     assert!(rt; !check_admits(alloc, &doc, "/items/{id}", "GET", &request)?);
     Ok(())
 }
