@@ -15,8 +15,9 @@ use openapi_values::{WireRequest, json_admits};
 use schema_values::{Json, ReadError};
 use std::alloc::{AllocError, Global};
 
-/// Whether a document admits a request for the operation of a path and a method, which is written in upper
-/// case. Fails only for want of memory.
+/// Whether a document admits a request for the operation of a path's template and a method. The document is
+/// sound, as one that was read is, and the method is written in upper case, as `POST`. Fails only for want of
+/// memory.
 pub fn check_admits(
     alloc: Global,
     doc: &Json,

@@ -15,7 +15,7 @@ pub(crate) fn has_json_type(alloc: Global, lines: &[HeaderLine]) -> Result<bool,
     ensures { IfOk result (λ holds. IsTrue holds ↔ HasJsonType lines.now) }
 {
     match first_line(lines, b"content-type") {
-        Some(value) => is_json_value(alloc, value),
+        Some(value) => gives_json_type(alloc, value),
         None => Ok(true),
     }
 }
@@ -38,8 +38,8 @@ fn is_line_of(line: &HeaderLine, name: &[u8]) -> bool
     line.name.as_bytes().eq_ignore_ascii_case(name)
 }
 
-// Whether the value of a `content-type` line gives a media type of JSON.
-fn is_json_value(alloc: Global, value: &[u8]) -> Result<bool, AllocError>
+// Whether the value of a line gives a media type of JSON.
+fn gives_json_type(alloc: Global, value: &[u8]) -> Result<bool, AllocError>
     ensures { IfOk result (λ holds. holds ≡ is_some_and (type_of_value value.now) is_json_type) }
 {
     if !all_shown(value) {

@@ -84,7 +84,7 @@ fn variable_holds(doc: &Json, schema: &Json, request: &WireRequest, name: &Text)
 {
     match request.variables.get(name) {
         Some(VariableValue::String(text)) => is_admitted(doc, schema, text),
-        _ => false,
+        Some(VariableValue::Components(_)) | None => false,
     }
 }
 

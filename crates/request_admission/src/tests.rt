@@ -116,10 +116,14 @@ fn request(alloc: Global, query: &str, body: &[u8]) -> Result<WireRequest, Alloc
     })
 }
 
+fn admitted(alloc: Global, path: &str, method: &str, request: &WireRequest) -> Result<bool, Fail> {
+    let doc = Json::read(alloc, DOCUMENT.as_bytes())?;
+    Ok(check_admits(alloc, &doc, path, method, request)?)
+}
+
 #[test]
 fn a_body_is_json_that_the_schema_admits(rt: HostRuntime) -> Result<(), Fail> {
     let alloc = rt.alloc();
-    let doc = Json::read(alloc, DOCUMENT.as_bytes())?;
     for (media_types, body, wanted) in BODIES {
         let mut request = request(alloc, "", body)?;
         for media_type in media_types {
@@ -127,10 +131,7 @@ fn a_body_is_json_that_the_schema_admits(rt: HostRuntime) -> Result<(), Fail> {
             let value = List::from_bytes(alloc, media_type)?;
             request.headers.push(HeaderLine { name, value })?;
         }
-        assert_eq!(rt;
-            check_admits(alloc, &doc, "/probe", "POST", &request)?,
-            wanted
-        );
+        assert_eq!(rt; admitted(alloc, "/probe", "POST", &request)?, wanted);
     }
     Ok(())
 }
@@ -138,15 +139,11 @@ fn a_body_is_json_that_the_schema_admits(rt: HostRuntime) -> Result<(), Fail> {
 #[test]
 fn parameters_stand_in_the_path_and_the_query(rt: HostRuntime) -> Result<(), Fail> {
     let alloc = rt.alloc();
-    let doc = Json::read(alloc, DOCUMENT.as_bytes())?;
     for (id, query, wanted) in QUERIES {
         let mut request = request(alloc, query, b"")?;
         let id = VariableValue::String(Text::from_str(alloc, id)?);
         request.variables.insert(Text::from_str(alloc, "id")?, id)?;
-        assert_eq!(rt;
-            check_admits(alloc, &doc, "/items/{id}", "GET", &request)?,
-            wanted
-        );
+        assert_eq!(rt; admitted(alloc, "/items/{id}", "GET", &request)?, wanted);
     }
     Ok(())
 }
@@ -154,24 +151,22 @@ fn parameters_stand_in_the_path_and_the_query(rt: HostRuntime) -> Result<(), Fai
 #[test]
 fn the_components_of_a_path_are_no_variable(rt: HostRuntime) -> Result<(), Fail> {
     let alloc = rt.alloc();
-    let doc = Json::read(alloc, DOCUMENT.as_bytes())?;
     let mut request = request(alloc, "after=1", b"")?;
-    assert!(rt; !check_admits(alloc, &doc, "/items/{id}", "GET", &request)?);
+    assert!(rt; !admitted(alloc, "/items/{id}", "GET", &request)?);
     let components = VariableValue::Components(List::new(alloc));
     request
         .variables
         .insert(Text::from_str(alloc, "id")?, components)?;
-    assert!(rt; !check_admits(alloc, &doc, "/items/{id}", "GET", &request)?);
+    assert!(rt; !admitted(alloc, "/items/{id}", "GET", &request)?);
     Ok(())
 }
 
 #[test]
 fn an_operation_is_found_by_its_path_and_method(rt: HostRuntime) -> Result<(), Fail> {
     let alloc = rt.alloc();
-    let doc = Json::read(alloc, DOCUMENT.as_bytes())?;
     let request = request(alloc, "", b"")?;
     for (path, method, wanted) in OPERATIONS {
-        assert_eq!(rt; check_admits(alloc, &doc, path, method, &request)?, wanted);
+        assert_eq!(rt; admitted(alloc, path, method, &request)?, wanted);
     }
     Ok(())
 }
