@@ -41,7 +41,7 @@ SendsJson sent body = HasJsonType sent.headers × (sent.body ≡ body)
 abbrev pub IsAdmitted : Json → RequestParts → WireRequest → Type 0
 IsAdmitted document request sent = Admits document (trimmed request.template) request.info.method sent
 
--- the document admits a request of the version exactly where an endpoint takes it
+-- the document admits a request of the version, sent with a media type of JSON, exactly where an endpoint takes it
 abbrev pub IsAgreed : {X : Type 0} {F : X → Type 0} → Meanings X F → Parts → List (ApiEndpoint X F) → Json → Type 0
 IsAgreed m version endpoints document = (request : RequestParts) (body : List ℕ) (sent : WireRequest) → SendsJson sent body → parts_of request.version ≡ version
     → IsAdmitted document request sent ↔ IsTaken m endpoints request body
@@ -52,7 +52,7 @@ IsHandled (Ok (Handled args reply response)) = ⊤
 IsHandled (Ok (Refused fault response)) = ⊥
 IsHandled (Err error) = ⊥
 
--- a request with a valid id that is answered, so not lost for want of memory, is handled exactly where the document admits what was sent for it
+-- a request with a valid id that is answered, so not lost for want of memory, is handled exactly where the document admits what was sent for it, with a media type of JSON
 abbrev pub FollowsDocument : Json → RequestParts → List ℕ → Result Exchange ExchangeError → Type 0
 FollowsDocument document request body outcome = HasId request → outcome ≢ Err OutOfMemory
     → (sent : WireRequest) → SendsJson sent body → IsHandled outcome ↔ IsAdmitted document request sent
