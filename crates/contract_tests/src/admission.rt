@@ -10,7 +10,12 @@ use std::test::Fail;
 const CASES: [(&str, &str, &str, bool); 5] = [
     ("/points", "POST", r#"{"label":"a","n":7,"on":true}"#, true),
     ("/points", "POST", r#"{"label":"","n":7,"on":true}"#, false),
-    ("/points", "POST", r#"{"label":"a","n":7,"on":true} x"#, false),
+    (
+        "/points",
+        "POST",
+        r#"{"label":"a","n":7,"on":true} x"#,
+        false,
+    ),
     ("/points", "GET", "", false),
     ("/circles", "POST", "{}", false),
 ];

@@ -1,5 +1,5 @@
 -- Blanks at the end of bytes.
-use Rattle.std.proofs.Common.{◌≡◌, ℕ, Bool, true, false, ◌&&◌, cond, List, [], ◌∷◌, ◌++◌, refl, sym, ◌∙◌, ap}
+use Rattle.std.proofs.Common.{◌≡◌, ℕ, Bool, true, false, ◌&&◌, cond, List, [], ◌∷◌, ◌++◌, refl, ◌∙◌, ap}
 use Rattle.std.specs.List.{list_all}
 use Rattle.openapi_values.specs.MediaTypes.{is_blank, without_end}
 

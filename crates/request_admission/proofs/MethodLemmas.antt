@@ -1,5 +1,5 @@
 -- The name under which a path has the operation of a method, where the method's bytes are known.
-use Rattle.std.proofs.Common.{◌≡◌, ◌≢◌, ℕ, List, Option, Some, None, IsTrue, IsUtf8, chars, codes, refl, sym, ◌∙◌, ap}
+use Rattle.std.proofs.Common.{◌≡◌, ◌≢◌, ℕ, List, Some, None, IsTrue, IsUtf8, chars, codes, refl, sym, ◌∙◌, ap}
 use Rattle.schema_values.specs.Ascii.{all_ascii}
 use Rattle.openapi_values.specs.Admits.{method_member}
 use Rattle.openapi_values.proofs.Words.{chars-word}
@@ -13,12 +13,4 @@ member_named method name member is ascii member_ascii found =
 -- a text that is no method
 pub member_missing : (method : List ℕ) → IsUtf8 method → method ≢ codes "GET" → method ≢ codes "PUT" → method ≢ codes "POST" → method ≢ codes "DELETE" → method ≢ codes "OPTIONS" → method ≢ codes "HEAD" → method ≢ codes "PATCH" → method ≢ codes "TRACE" → None ≡ method_member (chars method)
 member_missing method utf8 get put post delete options head patch trace =
-    let e0 = other_word method (codes "GET") utf8 get refl in
-    let e1 = other_word method (codes "PUT") utf8 put refl in
-    let e2 = other_word method (codes "POST") utf8 post refl in
-    let e3 = other_word method (codes "DELETE") utf8 delete refl in
-    let e4 = other_word method (codes "OPTIONS") utf8 options refl in
-    let e5 = other_word method (codes "HEAD") utf8 head refl in
-    let e6 = other_word method (codes "PATCH") utf8 patch refl in
-    let e7 = other_word method (codes "TRACE") utf8 trace refl in
-    rw (e0, e1, e2, e3, e4, e5, e6, e7) refl
+    rw (other_word method (codes "GET") utf8 get refl, other_word method (codes "PUT") utf8 put refl, other_word method (codes "POST") utf8 post refl, other_word method (codes "DELETE") utf8 delete refl, other_word method (codes "OPTIONS") utf8 options refl, other_word method (codes "HEAD") utf8 head refl, other_word method (codes "PATCH") utf8 patch refl, other_word method (codes "TRACE") utf8 trace refl) refl
