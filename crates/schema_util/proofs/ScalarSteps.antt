@@ -1,4 +1,4 @@
--- What is asked of a schema is smaller than the schema.
+-- The schemas that a type test finds in a schema are smaller than it.
 use Rattle.std.proofs.Common.{◌≡◌, ℕ, suc, ◌<◌, Bool, true, false, cond, Option, None, List, [], ◌∷◌, Some, drop, get_or, length, refl, sym, ap, ◌∙◌, arith}
 use Rattle.std.proofs.Math.Seq.{drop-cons}
 use denote.Param.Weighed.{most}

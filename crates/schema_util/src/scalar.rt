@@ -13,7 +13,7 @@ ghost use Rattle.schema_util.specs.Scalars.{finding_value, fault_of};
 
 use crate::form::{Form, Kind};
 use crate::met::Met;
-use crate::references::{ResolveError, resolve, follow};
+use crate::references::{ResolveError, follow, resolve};
 use schema_values::{
     ArrayParts, Definitions, InstanceType, InstanceTypes, Items, Schema, SchemaObject, Subschemas,
 };
