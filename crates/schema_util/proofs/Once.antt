@@ -1,5 +1,5 @@
 -- Each of the answers is the only one.
-use Rattle.std.proofs.Common.{◌≡◌, ◌∙◌, ℕ, List, [], ◌∷◌, Option, Some, None, Result, Ok, Err, IfOk, refl, sym, ap, subst}
+use Rattle.std.proofs.Common.{◌≡◌, ℕ, List, [], ◌∷◌, Option, Some, None, Result, Ok, Err, IfOk, refl, sym, subst}
 use Rattle.schema_values.specs.declared.schema.Schema.{Schema}
 use Rattle.schema_util.specs.References.{Unresolved, Names, follow, reference_of, ComesTo, stays, breaks, goes_on}
 use Rattle.schema_util.specs.declared.scalar.Wanted.{Wanted}

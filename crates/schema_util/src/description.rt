@@ -3,7 +3,8 @@
 ghost use Rattle.std.specs.Prelude.{◌≡◌, IfOk};
 ghost use Rattle.std.specs.Option.{option_copied};
 ghost use Rattle.schema_util.specs.Descriptions.{extensions_of, is_empty as empty, is_not_of_all};
-ghost use Rattle.schema_util.specs.Descriptions.{lone_member, only, says_nothing, description_and_schema, undescribed};
+ghost use Rattle.schema_util.specs.Descriptions.{description_and_schema, lone_member, only};
+ghost use Rattle.schema_util.specs.Descriptions.{says_nothing, undescribed};
 ghost use Rattle.schema_util.specs.Forms.{form_of, kind_of, schema_form};
 
 use crate::form::{Form, Kind};

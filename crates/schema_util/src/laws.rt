@@ -19,7 +19,8 @@ pub fn comes_to_once()
 pub fn first_fault_once()
     ensures { (wanted : Wanted) (names : Names) (met : List (List ℕ)) (schema : Schema)
         (fault other : Option Fault)
-        → FirstFault wanted names met schema fault → FirstFault wanted names met schema other → fault ≡ other }
+        → FirstFault wanted names met schema fault
+        → FirstFault wanted names met schema other → fault ≡ other }
 {}
 
 /// A schema has one first fault as one of lists of texts, or none.

@@ -7,9 +7,9 @@ ghost use Rattle.schema_values.specs.declared.schema.ArrayParts.{out-ArrayParts}
 ghost use Rattle.schema_util.specs.Forms.{kind_of};
 ghost use Rattle.schema_util.specs.Met.{names_met};
 ghost use Rattle.schema_util.specs.declared.scalar.Wanted.TheVariants.{Scalar, Text};
-ghost use Rattle.schema_util.specs.Scalars.{is_wanted, single_type, finding_of_kind, finding};
-ghost use Rattle.schema_util.specs.Scalars.{mismatch, FirstFault, FirstFaultAmong, one_item, item_of, FirstFaultOfList};
-ghost use Rattle.schema_util.specs.Scalars.{finding_value, fault_of};
+ghost use Rattle.schema_util.specs.Scalars.{fault_of, finding, finding_of_kind, finding_value};
+ghost use Rattle.schema_util.specs.Scalars.{is_wanted, item_of, mismatch, one_item, single_type};
+ghost use Rattle.schema_util.specs.Scalars.{FirstFault, FirstFaultAmong, FirstFaultOfList};
 
 use crate::form::{Form, Kind};
 use crate::met::Met;
@@ -141,8 +141,8 @@ fn tested<'a>(
 ) -> Result<(), ScalarError<'a>>
     ensures fits { OnOk result
         (FirstFault wanted (get_by_text definitions.now) (names_met met.entry) schema.now None) }
-    ensures faulty { IfErr result (λ error.
-        FirstFault wanted (get_by_text definitions.now) (names_met met.entry) schema.now (Some (fault_of error))) }
+    ensures faulty { IfErr result (λ error. FirstFault wanted
+        (get_by_text definitions.now) (names_met met.entry) schema.now (Some (fault_of error))) }
 {
     match look_into(wanted, schema) {
         Finding::Reference(reference) => {
@@ -164,8 +164,8 @@ fn all_tested<'a>(
 ) -> Result<(), ScalarError<'a>>
     ensures fit { OnOk result
         (FirstFaultAmong wanted (get_by_text definitions.now) (names_met met.entry) members.now None) }
-    ensures faulty { IfErr result (λ error.
-        FirstFaultAmong wanted (get_by_text definitions.now) (names_met met.entry) members.now (Some (fault_of error))) }
+    ensures faulty { IfErr result (λ error. FirstFaultAmong wanted
+        (get_by_text definitions.now) (names_met met.entry) members.now (Some (fault_of error))) }
 {
     for member in members {
         tested(wanted, member, definitions, met)?;

@@ -14,7 +14,6 @@ fn types_are_scalar_or_texts_or_neither(rt: HostRuntime) -> Result<(), Fail> {
     let fits = Ok(());
     let no_scalar = Err(ScalarError::NotScalar);
     let no_text = Err(ScalarError::NotStringList);
-    let nothing = || List::new(alloc);
     let rows = [
         (text(alloc)?, fits, fits),
         (typed(alloc, InstanceType::Boolean)?, fits, no_text),
@@ -25,41 +24,36 @@ fn types_are_scalar_or_texts_or_neither(rt: HostRuntime) -> Result<(), Fail> {
         (typed(alloc, InstanceType::Array)?, no_scalar, no_text),
         (list_of(alloc, text(alloc)?)?, no_scalar, no_text),
         (Schema::Bool(true), no_scalar, no_text),
-        (
-            combined(alloc, None, all_of(one(alloc, text(alloc)?)?))?,
-            fits,
-            fits,
-        ),
-        (
-            combined(alloc, None, any_of(one(alloc, text(alloc)?)?))?,
-            fits,
-            fits,
-        ),
-        (
-            combined(alloc, None, one_of(two(alloc, text(alloc)?, text(alloc)?)?))?,
-            fits,
-            fits,
-        ),
-        (combined(alloc, None, one_of(nothing()))?, fits, fits),
-        (
-            combined(alloc, None, all_of(nothing()))?,
-            no_scalar,
-            no_text,
-        ),
-        (
-            combined(alloc, None, any_of(two(alloc, text(alloc)?, text(alloc)?)?))?,
-            no_scalar,
-            no_text,
-        ),
-        (
-            combined(alloc, None, not(text(alloc)?))?,
-            no_scalar,
-            no_text,
-        ),
     ];
     for (schema, scalar, string) in rows {
         assert_eq!(rt; type_is_scalar(&schema, &definitions), scalar);
         assert_eq!(rt; type_is_string(&schema, &definitions), string);
+    }
+    Ok(())
+}
+
+#[test]
+fn one_schema_of_all_or_any_is_tested_and_each_of_one_of(rt: HostRuntime) -> Result<(), Fail> {
+    let alloc = rt.alloc();
+    let definitions = Definitions::new(alloc);
+    let fits = Ok(());
+    let differs = Err(ScalarError::NotStringList);
+    let rows = [
+        (all_of(one(alloc, text(alloc)?)?), fits),
+        (any_of(one(alloc, text(alloc)?)?), fits),
+        (one_of(two(alloc, text(alloc)?, text(alloc)?)?), fits),
+        (one_of(List::new(alloc)), fits),
+        (all_of(List::new(alloc)), differs),
+        (any_of(List::new(alloc)), differs),
+        (all_of(two(alloc, text(alloc)?, text(alloc)?)?), differs),
+        (any_of(two(alloc, text(alloc)?, text(alloc)?)?), differs),
+        (not(text(alloc)?), differs),
+    ];
+    for (subschemas, wanted) in rows {
+        let schema = combined(alloc, None, subschemas)?;
+        assert_eq!(rt; type_is_string(&schema, &definitions), wanted);
+        let scalar = type_is_scalar(&schema, &definitions);
+        assert_eq!(rt; scalar.is_ok(), wanted.is_ok());
     }
     Ok(())
 }

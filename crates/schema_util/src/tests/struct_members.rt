@@ -86,76 +86,58 @@ fn refusal(answer: &Result<List<StructMember>, Schema2StructError>) -> (&str, &s
 #[test]
 fn schemas_of_no_struct_are_refused(rt: HostRuntime) -> Result<(), Fail> {
     let alloc = rt.alloc();
-    let mut definitions = Definitions::new(alloc);
-    let all = all_of(one(alloc, reference(alloc, "#/components/schemas/All")?)?);
-    define(
-        alloc,
-        &mut definitions,
-        "All",
-        structure(alloc, &["a"], &[], Some(all))?,
-    )?;
-    let any = any_of(one(alloc, reference(alloc, "#/components/schemas/Any")?)?);
-    define(
-        alloc,
-        &mut definitions,
-        "Any",
-        structure(alloc, &["a"], &[], Some(any))?,
-    )?;
-    let missing = any_of(one(alloc, reference(alloc, "#/components/schemas/N")?)?);
+    let definitions = Definitions::new(alloc);
     let several = all_of(two(alloc, text(alloc)?, text(alloc)?)?);
     let choice = one_of(one(alloc, text(alloc)?)?);
+    let negated = not(text(alloc)?);
     let truth = any_of(one(alloc, Schema::Bool(true))?);
+    let several = structure(alloc, &["a"], &[], Some(several))?;
+    let choice = structure(alloc, &["a"], &[], Some(choice))?;
+    let negated = structure(alloc, &["a"], &[], Some(negated))?;
+    let truth = structure(alloc, &["a"], &[], Some(truth))?;
     let bare = Schema::Object(Boxed::new(alloc, SchemaObject::new(alloc))?);
     let rows = [
-        (
-            structure(alloc, &["a"], &[], Some(several))?,
-            "InvalidSubschema",
-            "",
-        ),
-        (
-            structure(alloc, &["a"], &[], Some(choice))?,
-            "InvalidSubschema",
-            "",
-        ),
-        (
-            structure(alloc, &["a"], &[], Some(not(text(alloc)?)))?,
-            "InvalidSubschema",
-            "",
-        ),
-        (
-            structure(alloc, &["a"], &[], Some(truth))?,
-            "InvalidType",
-            "",
-        ),
-        (
-            structure(alloc, &["a"], &[], Some(missing))?,
-            "Dangling",
-            "N",
-        ),
-        (Schema::Bool(true), "InvalidType", ""),
-        (bare, "InvalidType", ""),
-        (list_of(alloc, text(alloc)?)?, "InvalidType", ""),
-        (reference(alloc, "#/components/schemas/N")?, "Dangling", "N"),
-        (
-            reference(alloc, "#/definitions/All")?,
-            "Dangling",
-            "#/definitions/All",
-        ),
-        (
-            reference(alloc, "#/components/schemas/All")?,
-            "Cycle",
-            "All",
-        ),
-        (
-            reference(alloc, "#/components/schemas/Any")?,
-            "Cycle",
-            "Any",
-        ),
-        (text(alloc)?, "none", ""),
+        (several, "InvalidSubschema"),
+        (choice, "InvalidSubschema"),
+        (negated, "InvalidSubschema"),
+        (truth, "InvalidType"),
+        (Schema::Bool(true), "InvalidType"),
+        (bare, "InvalidType"),
+        (list_of(alloc, text(alloc)?)?, "InvalidType"),
+        (text(alloc)?, "none"),
     ];
-    for (schema, kind, name) in rows {
+    for (schema, wanted) in rows {
         let answer = schema2struct(alloc, &schema, &definitions, true);
-        assert!(rt; refusal(&answer) == (kind, name), "{kind} {name}");
+        let (kind, _) = refusal(&answer);
+        assert_eq!(rt; kind, wanted);
+    }
+    Ok(())
+}
+
+#[test]
+fn structs_of_themselves_or_of_nothing_are_refused(rt: HostRuntime) -> Result<(), Fail> {
+    let alloc = rt.alloc();
+    let mut definitions = Definitions::new(alloc);
+    let all = all_of(one(alloc, reference(alloc, "#/components/schemas/All")?)?);
+    let all = structure(alloc, &["a"], &[], Some(all))?;
+    define(alloc, &mut definitions, "All", all)?;
+    let any = any_of(one(alloc, reference(alloc, "#/components/schemas/Any")?)?);
+    let any = structure(alloc, &["a"], &[], Some(any))?;
+    define(alloc, &mut definitions, "Any", any)?;
+    let missing = any_of(one(alloc, reference(alloc, "#/components/schemas/N")?)?);
+    let missing = structure(alloc, &["a"], &[], Some(missing))?;
+    define(alloc, &mut definitions, "Missing", missing)?;
+    let rows = [
+        ("#/components/schemas/N", "Dangling", "N"),
+        ("#/components/schemas/Missing", "Dangling", "N"),
+        ("#/definitions/All", "Dangling", "#/definitions/All"),
+        ("#/components/schemas/All", "Cycle", "All"),
+        ("#/components/schemas/Any", "Cycle", "Any"),
+    ];
+    for (text, kind, name) in rows {
+        let schema = reference(alloc, text)?;
+        let answer = schema2struct(alloc, &schema, &definitions, true);
+        assert!(rt; refusal(&answer) == (kind, name), "{text}");
     }
     Ok(())
 }
