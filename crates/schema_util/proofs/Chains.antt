@@ -4,20 +4,13 @@ use Rattle.std.proofs.lemmas.Slice.Eq.{bytes_eq-Decides}
 use Rattle.std.specs.Option.{option_copied}
 use Rattle.std.specs.Map.{lookup}
 use Rattle.schema_values.specs.declared.schema.Schema.{Schema}
-use Rattle.schema_util.specs.declared.met.Met.{Met, out-Met}
-use Rattle.schema_util.specs.declared.met.Met.TheFolds.{fold_out-Met, fold-roll-Met}
+use Rattle.schema_util.specs.declared.met.Met.{Met}
+use Rattle.schema_util.specs.declared.met.Met.TheFolds.{fold-roll-Met}
 use Rattle.schema_util.specs.declared.met.Met.TheViews.{roll-Met}
 use Rattle.schema_util.specs.Met.{all_met, with_met}
 use Rattle.schema_util.specs.References.{is_met}
 
--- the names, as a list
-met_by : (m : Met) (o : Option (Bor Met)) → (out-Met m).before ≡ o → all_met (Some m) ≡ (out-Met m).name.now ∷ all_met (option_copied o)
-met_by m None e = fold_out-Met (List (List ℕ)) with_met m ∙ rw e refl
-met_by m (Some r) e = fold_out-Met (List (List ℕ)) with_met m ∙ rw e refl
-
-pub met_split : (m : Met) → all_met (Some m) ≡ (out-Met m).name.now ∷ all_met (option_copied (out-Met m).before)
-met_split m = met_by m (out-Met m).before refl
-
+-- the names, one longer
 pub met_longer : (name : Bor (List ℕ)) (o : Option (Bor Met)) → all_met (Some (roll-Met (record { name = name; before = o }))) ≡ name.now ∷ all_met (option_copied o)
 met_longer name None = fold-roll-Met (List (List ℕ)) with_met (record { name = name; before = None })
 met_longer name (Some r) = fold-roll-Met (List (List ℕ)) with_met (record { name = name; before = Some r })

@@ -5,8 +5,8 @@ use Rattle.schema_values.specs.declared.schema.ObjectParts.{ObjectParts}
 use Rattle.schema_values.specs.declared.schema.Schema.{Schema}
 use Rattle.schema_util.specs.declared.struct_members.StructMember.{StructMember}
 use Rattle.schema_util.specs.Forms.{SchemaForm, schema_form, truth, bare, reference, combination, struct, values, other}
-use Rattle.schema_util.specs.References.{Names, step, reference_in}
-use Rattle.schema_util.specs.StructMembers.{beside, behind, own_members, is_enumeration, is_no_object, Misfit, broken, invalid_subschema, invalid_enum, invalid_type, Gives, breaks, goes_on, adds, has_others, of_enumeration, of_no_object, GiveAll, none_left, stops, then_rest}
+use Rattle.schema_util.specs.References.{Names, follow, reference_in}
+use Rattle.schema_util.specs.StructMembers.{flattened, behind, own_members, is_enumeration, is_no_object, Misfit, unresolved, invalid_subschema, invalid_enum, invalid_type, Gives, breaks, goes_on, adds, has_others, of_enumeration, of_no_object, GiveAll, none_left, stops, then_rest}
 use Rattle.schema_util.proofs.Once.{Next}
 
 -- a form's reference
@@ -21,14 +21,14 @@ reference_seen other text h = absurd (cc h)
 
 -- what is given, by the form of a schema
 module _ (names : Names) (met : List (List ℕ)) (required : Bool) (end : Result (List StructMember) Misfit) where
-  abbrev GivenBeside : Option ObjectParts → Option (Bool × List Schema) → Type 0
-  GivenBeside object None = end ≡ Err invalid_subschema
-  GivenBeside object (Some (may, schemas)) =
-      (inner : Result (List StructMember) Misfit) × GiveAll names met may schemas inner × (end ≡ behind (own_members required object) inner)
+  abbrev GivenFlattened : Option ObjectParts → Option (Bool × List Schema) → Type 0
+  GivenFlattened object None = end ≡ Err invalid_subschema
+  GivenFlattened object (Some (may_require, schemas)) =
+      (inner : Result (List StructMember) Misfit) × GiveAll names met may_require schemas inner × (end ≡ behind (own_members required object) inner)
 
   abbrev GivenBy : SchemaForm → Type 0
-  GivenBy (reference text) = Next names met (λ more next. Gives names more required next end) (λ why. end ≡ Err (broken why)) (step names met (encode_utf8_all text))
-  GivenBy (struct object subschemas) = GivenBeside object (beside required subschemas)
+  GivenBy (reference text) = Next names met (λ more next. Gives names more required next end) (λ why. end ≡ Err (unresolved why)) (follow names met (encode_utf8_all text))
+  GivenBy (struct object subschemas) = GivenFlattened object (flattened required subschemas)
   GivenBy (combination subschemas) = end ≡ Err invalid_enum
   GivenBy values = end ≡ Err invalid_enum
   GivenBy form = end ≡ Err invalid_type
@@ -72,7 +72,7 @@ module _ (names : Names) (met : List (List ℕ)) (required : Bool) (end : Result
 given : (names : Names) (met : List (List ℕ)) (required : Bool) {s : Schema} {end : Result (List StructMember) Misfit} → Gives names met required s end → GivenBy names met required end (schema_form s)
 given names met required {s} (breaks text why e f) = let (t, is, same) = reference_seen (schema_form s) text e in rw (is, same, f) refl
 given names met required {s} (goes_on text name next end e f more) = let (t, is, same) = reference_seen (schema_form s) text e in rw (is, same, f) more
-given names met required {s} (adds object subschemas may schemas end form found all) = rw (form, found) (end, all, refl)
+given names met required {s} (adds object subschemas may_require schemas end form found all) = rw (form, found) (end, all, refl)
 given names met required {s} (has_others object subschemas form found) = rw (form, found) refl
 given names met required {s} (of_enumeration e) = enumeration_given names met required _ (schema_form s) e refl
 given names met required {s} (of_no_object e) = no_object_given names met required _ (schema_form s) e refl
@@ -84,7 +84,7 @@ mutual
       let (t, is, same) = reference_seen (schema_form s) text e in sym (rw (is, same, f) at (given names met required second))
   gives_once names {met} {required} {s} (goes_on text name next end e f more) second =
       let (t, is, same) = reference_seen (schema_form s) text e in gives_once names more (rw (is, same, f) at (given names met required second))
-  gives_once names {met} {required} {s} (adds object subschemas may schemas end form found all) second =
+  gives_once names {met} {required} {s} (adds object subschemas may_require schemas end form found all) second =
       let (inner, rest, is) = rw (form, found) at (given names met required second) in
       ap (behind (own_members required object)) (all_give_once names all rest) ∙ sym is
   gives_once names {met} {required} {s} (has_others object subschemas form found) second = sym (rw (form, found) at (given names met required second))

@@ -33,8 +33,8 @@ undescribed object = Object (roll-SchemaObject (record (out-SchemaObject object)
 }))
 
 -- a schema's description, and the schema without it
-abbrev pub taken_apart : Schema → Option (List ℕ) × Schema
-taken_apart schema = elim (out-Schema schema) [
+abbrev pub description_and_schema : Schema → Option (List ℕ) × Schema
+description_and_schema schema = elim (out-Schema schema) [
   | open_types.Bool b ↦ (None, schema)
   | open_types.Object object ↦ ((out-SchemaObject object).description, unwrap_or (lone_member (form_of object)) (undescribed object))
 ]

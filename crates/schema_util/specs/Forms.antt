@@ -47,14 +47,14 @@ form_of object = if is_limited object then other else by_parts
     (out-SchemaObject object).object
     (out-SchemaObject object).reference
 
--- the form that the code has found
-abbrev pub seen : Form → SchemaForm
-seen code.Bare = bare
-seen (code.Reference text) = reference text.now
-seen (code.Combination subschemas) = combination subschemas.now
-seen (code.Struct object subschemas) = struct (option_copied object) (option_copied subschemas)
-seen code.Values = values
-seen code.Other = other
+-- a form of the code, as a value
+abbrev pub form_value : Form → SchemaForm
+form_value code.Bare = bare
+form_value (code.Reference text) = reference text.now
+form_value (code.Combination subschemas) = combination subschemas.now
+form_value (code.Struct object subschemas) = struct (option_copied object) (option_copied subschemas)
+form_value code.Values = values
+form_value code.Other = other
 
 -- the form of a schema
 abbrev pub schema_form : Schema → SchemaForm
@@ -80,10 +80,10 @@ by_kinds all any one not = mixed
 abbrev pub kind_of : Subschemas → SchemaKind
 kind_of s = by_kinds (out-Subschemas s).all_of (out-Subschemas s).any_of (out-Subschemas s).one_of (out-Subschemas s).not
 
--- the kind that the code has found
-abbrev pub kind_seen : Kind → SchemaKind
-kind_seen (kinds.AllOf schemas) = all_of schemas.now
-kind_seen (kinds.AnyOf schemas) = any_of schemas.now
-kind_seen (kinds.OneOf schemas) = one_of schemas.now
-kind_seen (kinds.Not schema) = not_of schema.now
-kind_seen kinds.Other = mixed
+-- a kind of the code, as a value
+abbrev pub kind_value : Kind → SchemaKind
+kind_value (kinds.AllOf schemas) = all_of schemas.now
+kind_value (kinds.AnyOf schemas) = any_of schemas.now
+kind_value (kinds.OneOf schemas) = one_of schemas.now
+kind_value (kinds.Not schema) = not_of schema.now
+kind_value kinds.Other = mixed

@@ -22,20 +22,15 @@ use Rattle.schema_util.specs.declared.scalar.ScalarError.TheVariants.{NotScalar,
 use Rattle.schema_util.specs.declared.scalar.Wanted.{Wanted}
 use Rattle.schema_util.specs.declared.scalar.Wanted.TheVariants.{Scalar, Text}
 use Rattle.schema_util.specs.Forms.{SchemaForm, form_of, reference, combination, SchemaKind, kind_of, all_of, any_of, one_of}
-use Rattle.schema_util.specs.References.{Broken, dangling, again, Names, step, ComesTo}
+use Rattle.schema_util.specs.References.{Unresolved, dangling, cycle, Names, follow, ComesTo}
 
--- what a test seeks: a type of scalar values, or that of texts
-pub data Sought : Type 0 where
-  scalars : Sought
-  texts : Sought
-
--- whether a type is sought
-abbrev pub is_sought : Sought → InstanceType → Bool
-is_sought sought String = true
-is_sought scalars Boolean = true
-is_sought scalars Number = true
-is_sought scalars Integer = true
-is_sought sought type = false
+-- whether a type is wanted: that of a scalar value, or that of texts
+abbrev pub is_wanted : Wanted → InstanceType → Bool
+is_wanted wanted String = true
+is_wanted Scalar Boolean = true
+is_wanted Scalar Number = true
+is_wanted Scalar Integer = true
+is_wanted wanted type = false
 
 -- by types, subschemas, array, object and reference
 abbrev pub type_by : Option InstanceTypes → Option Subschemas → Option ArrayParts → Option ObjectParts → Option (List ℕ) → Option InstanceType
@@ -51,59 +46,59 @@ single_type object = type_by
     (out-SchemaObject object).object
     (out-SchemaObject object).reference
 
--- what a test asks of a schema: what its reference leads to, each of its subschemas, or nothing, as it fits or does not
-pub data Asked : Type 0 where
-  refers : List ℕ → Asked
-  asks : List Schema → Asked
-  fits : Asked
-  differs : Asked
+-- what a type test finds in a schema: a reference to test behind, schemas to test each, a type that is wanted, or anything else
+pub data SchemaFinding : Type 0 where
+  refers : List ℕ → SchemaFinding
+  has_members : List Schema → SchemaFinding
+  fits : SchemaFinding
+  differs : SchemaFinding
 
 -- by the kind of subschemas that stand alone
-abbrev pub asked_of : SchemaKind → Asked
-asked_of (all_of (member ∷ [])) = asks (member ∷ [])
-asked_of (any_of (member ∷ [])) = asks (member ∷ [])
-asked_of (one_of members) = asks members
-asked_of kind = differs
+abbrev pub finding_of_kind : SchemaKind → SchemaFinding
+finding_of_kind (all_of (member ∷ [])) = has_members (member ∷ [])
+finding_of_kind (any_of (member ∷ [])) = has_members (member ∷ [])
+finding_of_kind (one_of members) = has_members members
+finding_of_kind kind = differs
 
 -- by the single type, if there is one
-abbrev pub asked_at : Sought → Option InstanceType → Asked
-asked_at sought None = differs
-asked_at sought (Some type) = if is_sought sought type then fits else differs
+abbrev pub finding_of_type : Wanted → Option InstanceType → SchemaFinding
+finding_of_type wanted None = differs
+finding_of_type wanted (Some type) = if is_wanted wanted type then fits else differs
 
 -- by the form and the single type
-abbrev pub asked_by : Sought → SchemaForm → Option InstanceType → Asked
-asked_by sought (reference text) type = refers (encode_utf8_all text)
-asked_by sought (combination subschemas) type = asked_of (kind_of subschemas)
-asked_by sought form type = asked_at sought type
+abbrev pub finding_of_form : Wanted → SchemaForm → Option InstanceType → SchemaFinding
+finding_of_form wanted (reference text) type = refers (encode_utf8_all text)
+finding_of_form wanted (combination subschemas) type = finding_of_kind (kind_of subschemas)
+finding_of_form wanted form type = finding_of_type wanted type
 
--- what a test asks of a schema
-abbrev pub asked : Sought → Schema → Asked
-asked sought schema = elim (out-Schema schema) [ open_types.Bool b ↦ differs | open_types.Object object ↦ asked_by sought (form_of object) (single_type object) ]
+-- what a type test finds in a schema
+abbrev pub finding : Wanted → Schema → SchemaFinding
+finding wanted schema = elim (out-Schema schema) [ open_types.Bool b ↦ differs | open_types.Object object ↦ finding_of_form wanted (form_of object) (single_type object) ]
 
--- why a schema does not fit: one on the way is none of what is sought, or a reference is broken
+-- why a schema does not fit: one on the way is none of what is wanted, or a reference has no end
 pub data Fault : Type 0 where
-  is_none : Sought → Fault
-  broken : Broken → Fault
+  mismatch : Wanted → Fault
+  unresolved : Unresolved → Fault
 
 mutual
-  -- what is told of a schema, behind the names that were met: its first fault, if there is one
-  pub data IsTold (sought : Sought) (names : Names) : List (List ℕ) → Schema → Option Fault → Type 0 where
-    told_at_once : {met : List (List ℕ)} {schema : Schema} → asked sought schema ≡ fits → IsTold sought names met schema None
-    denied : {met : List (List ℕ)} {schema : Schema} → asked sought schema ≡ differs → IsTold sought names met schema (Some (is_none sought))
-    breaks : {met : List (List ℕ)} {schema : Schema} (text : List ℕ) (why : Broken) → asked sought schema ≡ refers text → step names met text ≡ Err why
-        → IsTold sought names met schema (Some (broken why))
-    goes_on : {met : List (List ℕ)} {schema : Schema} (text name : List ℕ) (next : Schema) (fault : Option Fault) → asked sought schema ≡ refers text
-        → step names met text ≡ Ok (name, next) → IsTold sought names (name ∷ met) next fault → IsTold sought names met schema fault
-    of_members : {met : List (List ℕ)} {schema : Schema} (members : List Schema) (fault : Option Fault) → asked sought schema ≡ asks members
-        → AreTold sought names met members fault → IsTold sought names met schema fault
+  -- the first fault of a schema behind the names that were met, if there is one
+  pub data FirstFault (wanted : Wanted) (names : Names) : List (List ℕ) → Schema → Option Fault → Type 0 where
+    accepted : {met : List (List ℕ)} {schema : Schema} → finding wanted schema ≡ fits → FirstFault wanted names met schema None
+    rejected : {met : List (List ℕ)} {schema : Schema} → finding wanted schema ≡ differs → FirstFault wanted names met schema (Some (mismatch wanted))
+    breaks : {met : List (List ℕ)} {schema : Schema} (text : List ℕ) (why : Unresolved) → finding wanted schema ≡ refers text → follow names met text ≡ Err why
+        → FirstFault wanted names met schema (Some (unresolved why))
+    goes_on : {met : List (List ℕ)} {schema : Schema} (text name : List ℕ) (next : Schema) (fault : Option Fault) → finding wanted schema ≡ refers text
+        → follow names met text ≡ Ok (name, next) → FirstFault wanted names (name ∷ met) next fault → FirstFault wanted names met schema fault
+    of_members : {met : List (List ℕ)} {schema : Schema} (members : List Schema) (fault : Option Fault) → finding wanted schema ≡ has_members members
+        → FirstFaultAmong wanted names met members fault → FirstFault wanted names met schema fault
 
-  -- what is told of schemas in turn: the first fault among them
-  pub data AreTold (sought : Sought) (names : Names) : List (List ℕ) → List Schema → Option Fault → Type 0 where
-    none_left : {met : List (List ℕ)} → AreTold sought names met [] None
-    at_first : {met : List (List ℕ)} {schema : Schema} {rest : List Schema} (fault : Fault) → IsTold sought names met schema (Some fault)
-        → AreTold sought names met (schema ∷ rest) (Some fault)
-    at_rest : {met : List (List ℕ)} {schema : Schema} {rest : List Schema} (fault : Option Fault) → IsTold sought names met schema None
-        → AreTold sought names met rest fault → AreTold sought names met (schema ∷ rest) fault
+  -- the first fault among schemas, from the left, if there is one
+  pub data FirstFaultAmong (wanted : Wanted) (names : Names) : List (List ℕ) → List Schema → Option Fault → Type 0 where
+    none_left : {met : List (List ℕ)} → FirstFaultAmong wanted names met [] None
+    at_first : {met : List (List ℕ)} {schema : Schema} {rest : List Schema} (fault : Fault) → FirstFault wanted names met schema (Some fault)
+        → FirstFaultAmong wanted names met (schema ∷ rest) (Some fault)
+    at_rest : {met : List (List ℕ)} {schema : Schema} {rest : List Schema} (fault : Option Fault) → FirstFault wanted names met schema None
+        → FirstFaultAmong wanted names met rest fault → FirstFaultAmong wanted names met (schema ∷ rest) fault
 
 -- the one schema of all items
 abbrev pub one_item : Option Items → Option Schema
@@ -133,26 +128,23 @@ item_of schema = elim (out-Schema schema) [
       (out-SchemaObject object).reference
 ]
 
--- what is told of a schema of lists of texts
-pub data IsToldOfList (names : Names) (schema : Schema) : Option Fault → Type 0 where
-  is_broken : (why : Broken) → ComesTo names [] schema (Err why) → IsToldOfList names schema (Some (broken why))
-  no_list : (found : Schema) → ComesTo names [] schema (Ok found) → item_of found ≡ None → IsToldOfList names schema (Some (is_none texts))
-  of_items : (found item : Schema) (fault : Option Fault) → ComesTo names [] schema (Ok found) → item_of found ≡ Some item → IsTold texts names [] item fault
-      → IsToldOfList names schema fault
+-- the first fault of a schema as one of lists of texts, if there is one
+pub data FirstFaultOfList (names : Names) (schema : Schema) : Option Fault → Type 0 where
+  is_unresolved : (why : Unresolved) → ComesTo names [] schema (Err why) → FirstFaultOfList names schema (Some (unresolved why))
+  no_list : (found : Schema) → ComesTo names [] schema (Ok found) → item_of found ≡ None → FirstFaultOfList names schema (Some (mismatch Text))
+  of_items : (found item : Schema) (fault : Option Fault) → ComesTo names [] schema (Ok found) → item_of found ≡ Some item → FirstFault Text names [] item fault
+      → FirstFaultOfList names schema fault
 
--- what the code seeks, what it asks, and what its errors say
-abbrev pub sought_by : Wanted → Sought
-sought_by Scalar = scalars
-sought_by Text = texts
+-- what the code finds, as a value
+abbrev pub finding_value : Finding → SchemaFinding
+finding_value (code.Reference text) = refers text.now
+finding_value (code.Members members) = has_members members.now
+finding_value code.Fits = fits
+finding_value code.Differs = differs
 
-abbrev pub found : Finding → Asked
-found (code.Reference text) = refers text.now
-found (code.Members members) = asks members.now
-found code.Fits = fits
-found code.Differs = differs
-
-abbrev pub said : ScalarError → Fault
-said NotScalar = is_none scalars
-said NotStringList = is_none texts
-said (Dangling name) = broken (dangling name.now)
-said (Cycle name) = broken (again name.now)
+-- what an error says
+abbrev pub fault_of : ScalarError → Fault
+fault_of NotScalar = mismatch Scalar
+fault_of NotStringList = mismatch Text
+fault_of (Dangling name) = unresolved (dangling name.now)
+fault_of (Cycle name) = unresolved (cycle name.now)

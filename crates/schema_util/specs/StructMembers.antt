@@ -10,9 +10,9 @@ use Rattle.schema_values.specs.declared.schema.Subschemas.{Subschemas}
 use Rattle.schema_util.specs.declared.struct_members.Schema2StructError.{Schema2StructError}
 use Rattle.schema_util.specs.declared.struct_members.Schema2StructError.TheVariants as code
 use Rattle.schema_util.specs.declared.struct_members.StructMember.{StructMember}
-use Rattle.schema_util.specs.Descriptions.{taken_apart}
+use Rattle.schema_util.specs.Descriptions.{description_and_schema}
 use Rattle.schema_util.specs.Forms.{SchemaForm, schema_form, truth, bare, combination, struct, values, other, SchemaKind, all_of, any_of, kind_of}
-use Rattle.schema_util.specs.References.{Broken, dangling, again, Names, step, reference_of}
+use Rattle.schema_util.specs.References.{Unresolved, dangling, cycle, Names, follow, reference_of}
 
 -- whether some names have a name
 abbrev pub is_named : List (List ℕ) → List ℕ → Bool
@@ -22,8 +22,8 @@ is_named names name = list_any (λ one. bytes_eq one name) names
 abbrev pub member_of : Bool → List (List ℕ) → Property → StructMember
 member_of required names p = record {
   name = (out-Property p).name;
-  description = (taken_apart (out-Property p).schema).0;
-  schema = (taken_apart (out-Property p).schema).1;
+  description = (description_and_schema (out-Property p).schema).0;
+  schema = (description_and_schema (out-Property p).schema).1;
   required = required && is_named names (out-Property p).name;
 }
 
@@ -33,14 +33,14 @@ own_members required None = []
 own_members required (Some object) = map (member_of required (out-ObjectParts object).required) (out-ObjectParts object).properties
 
 -- the schemas whose members come too: those of an `any_of`, none of them required, or the one of an `all_of`; no answer for other subschemas
-abbrev pub beside_of : Bool → SchemaKind → Option (Bool × List Schema)
-beside_of required (any_of schemas) = Some (false, schemas)
-beside_of required (all_of (schema ∷ [])) = Some (required, schema ∷ [])
-beside_of required kind = None
+abbrev pub flattened_of_kind : Bool → SchemaKind → Option (Bool × List Schema)
+flattened_of_kind required (any_of schemas) = Some (false, schemas)
+flattened_of_kind required (all_of (schema ∷ [])) = Some (required, schema ∷ [])
+flattened_of_kind required kind = None
 
-abbrev pub beside : Bool → Option Subschemas → Option (Bool × List Schema)
-beside required None = Some (required, [])
-beside required (Some subschemas) = beside_of required (kind_of subschemas)
+abbrev pub flattened : Bool → Option Subschemas → Option (Bool × List Schema)
+flattened required None = Some (required, [])
+flattened required (Some subschemas) = flattened_of_kind required (kind_of subschemas)
 
 -- whether a form is that of an enumeration: values, or subschemas alone
 abbrev pub is_enumeration : SchemaForm → Bool
@@ -57,7 +57,7 @@ is_no_object form = false
 
 -- why a schema is that of no struct
 pub data Misfit : Type 0 where
-  broken : Broken → Misfit
+  unresolved : Unresolved → Misfit
   invalid_subschema : Misfit
   invalid_enum : Misfit
   invalid_type : Misfit
@@ -70,15 +70,15 @@ behind own (Err why) = Err why
 mutual
   -- the members that a schema gives, behind the names that were met, where they may be required or not
   pub data Gives (names : Names) : List (List ℕ) → Bool → Schema → Result (List StructMember) Misfit → Type 0 where
-    breaks : {met : List (List ℕ)} {required : Bool} {s : Schema} (text : List ℕ) (why : Broken) → reference_of s ≡ Some text → step names met text ≡ Err why
-        → Gives names met required s (Err (broken why))
+    breaks : {met : List (List ℕ)} {required : Bool} {s : Schema} (text : List ℕ) (why : Unresolved) → reference_of s ≡ Some text → follow names met text ≡ Err why
+        → Gives names met required s (Err (unresolved why))
     goes_on : {met : List (List ℕ)} {required : Bool} {s : Schema} (text name : List ℕ) (next : Schema) (end : Result (List StructMember) Misfit)
-        → reference_of s ≡ Some text → step names met text ≡ Ok (name, next) → Gives names (name ∷ met) required next end → Gives names met required s end
-    adds : {met : List (List ℕ)} {required : Bool} {s : Schema} (object : Option ObjectParts) (subschemas : Option Subschemas) (may : Bool) (schemas : List Schema)
-        (end : Result (List StructMember) Misfit) → schema_form s ≡ struct object subschemas → beside required subschemas ≡ Some (may, schemas)
-        → GiveAll names met may schemas end → Gives names met required s (behind (own_members required object) end)
+        → reference_of s ≡ Some text → follow names met text ≡ Ok (name, next) → Gives names (name ∷ met) required next end → Gives names met required s end
+    adds : {met : List (List ℕ)} {required : Bool} {s : Schema} (object : Option ObjectParts) (subschemas : Option Subschemas) (may_require : Bool) (schemas : List Schema)
+        (end : Result (List StructMember) Misfit) → schema_form s ≡ struct object subschemas → flattened required subschemas ≡ Some (may_require, schemas)
+        → GiveAll names met may_require schemas end → Gives names met required s (behind (own_members required object) end)
     has_others : {met : List (List ℕ)} {required : Bool} {s : Schema} (object : Option ObjectParts) (subschemas : Option Subschemas)
-        → schema_form s ≡ struct object subschemas → beside required subschemas ≡ None → Gives names met required s (Err invalid_subschema)
+        → schema_form s ≡ struct object subschemas → flattened required subschemas ≡ None → Gives names met required s (Err invalid_subschema)
     of_enumeration : {met : List (List ℕ)} {required : Bool} {s : Schema} → is_enumeration (schema_form s) ≡ true → Gives names met required s (Err invalid_enum)
     of_no_object : {met : List (List ℕ)} {required : Bool} {s : Schema} → is_no_object (schema_form s) ≡ true → Gives names met required s (Err invalid_type)
 
@@ -92,17 +92,17 @@ mutual
 
 -- what an error says, unless there was not enough memory
 abbrev pub misfit_of : Schema2StructError → Option Misfit
-misfit_of (code.Dangling name) = Some (broken (dangling (encode_utf8_all name)))
-misfit_of (code.Cycle name) = Some (broken (again (encode_utf8_all name)))
+misfit_of (code.Dangling name) = Some (unresolved (dangling (encode_utf8_all name)))
+misfit_of (code.Cycle name) = Some (unresolved (cycle (encode_utf8_all name)))
 misfit_of code.InvalidSubschema = Some invalid_subschema
 misfit_of code.InvalidEnum = Some invalid_enum
 misfit_of code.InvalidType = Some invalid_type
 misfit_of code.OutOfMemory = None
 
--- the schemas that the code has found beside a struct's own properties
-abbrev pub found_beside : Option (Bool × Bor (List Schema)) → Option (Bool × List Schema)
-found_beside None = None
-found_beside (Some found) = Some (found.0, found.1.now)
+-- what the code finds to flatten, as a value
+abbrev pub flattened_value : Option (Bool × Bor (List Schema)) → Option (Bool × List Schema)
+flattened_value None = None
+flattened_value (Some found) = Some (found.0, found.1.now)
 
 -- a schema has given members behind those that were there
 abbrev pub HasGiven : Names → List (List ℕ) → Bool → Schema → List StructMember → List StructMember → Type 0

@@ -3,7 +3,8 @@
 ghost use Rattle.std.specs.Prelude.{◌≡◌, IfOk};
 ghost use Rattle.std.specs.Option.{option_copied};
 ghost use Rattle.schema_util.specs.Descriptions.{extensions_of, is_empty as empty, is_not_of_all};
-ghost use Rattle.schema_util.specs.Descriptions.{lone_member, only, says_nothing, taken_apart, undescribed};
+ghost use Rattle.schema_util.specs.Descriptions.{description_and_schema, lone_member, only};
+ghost use Rattle.schema_util.specs.Descriptions.{says_nothing, undescribed};
 ghost use Rattle.schema_util.specs.Forms.{form_of, kind_of, schema_form};
 
 use crate::form::{Form, Kind};
@@ -16,19 +17,26 @@ pub fn schema_extract_description(
     alloc: Global,
     schema: &Schema,
 ) -> Result<(Option<Text>, Schema), AllocError>
-    ensures { IfOk result (λ parts. parts ≡ taken_apart schema.now) }
+    ensures { IfOk result (λ parts. parts ≡ description_and_schema schema.now) }
 {
     let Schema::Object(object) = schema else {
         return Ok((None, schema.copy(alloc)?));
     };
     let object = object.get();
-    let description = match &object.description {
-        Some(description) => Some(description.copy(alloc)?),
-        None => None,
-    };
+    let description = copy_text(alloc, &object.description)?;
     match lone_member(object) {
         Some(member) => Ok((description, member.copy(alloc)?)),
         None => Ok((description, without_annotations(alloc, object)?)),
+    }
+}
+
+/// A text equal to another, where there is one.
+pub(crate) fn copy_text(alloc: Global, text: &Option<Text>) -> Result<Option<Text>, AllocError>
+    ensures { IfOk result (λ copy. copy ≡ text.now) }
+{
+    match text {
+        Some(text) => Ok(Some(text.copy(alloc)?)),
+        None => Ok(None),
     }
 }
 

@@ -1,7 +1,7 @@
 //! What a schema object has beside its annotations, as far as this crate asks.
 
 ghost use Rattle.std.specs.Prelude.{◌≡◌};
-ghost use Rattle.schema_util.specs.Forms.{form_of, is_limited, kind_of, kind_seen, seen};
+ghost use Rattle.schema_util.specs.Forms.{form_of, is_limited, kind_of, kind_value, form_value};
 
 use schema_values::{InstanceTypes, List, ObjectParts, Schema, SchemaObject, Subschemas, Text};
 
@@ -36,7 +36,7 @@ pub(crate) enum Kind<'a> {
 
 impl<'a> Form<'a> {
     pub(crate) fn of(object: &'a SchemaObject) -> Form<'a>
-        ensures { seen result ≡ form_of object.now }
+        ensures { form_value result ≡ form_of object.now }
     {
         if is_limited(object) {
             return Form::Other;
@@ -73,7 +73,7 @@ fn is_limited(object: &SchemaObject) -> bool
 
 impl<'a> Kind<'a> {
     pub(crate) fn of(subschemas: &'a Subschemas) -> Kind<'a>
-        ensures { kind_seen result ≡ kind_of subschemas.now }
+        ensures { kind_value result ≡ kind_of subschemas.now }
     {
         match subschemas {
             Subschemas {

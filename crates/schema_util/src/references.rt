@@ -1,11 +1,11 @@
 //! What references lead to.
 
-ghost use Rattle.std.specs.Prelude.{◌≡◌, ℕ, [], List, Ok, Err, IfOk, IfErr};
+ghost use Rattle.std.specs.Prelude.{◌≡◌, [], None, Ok, Err, IfOk, IfErr};
 ghost use Rattle.std.specs.HashMap.{get_by_text};
 ghost use Rattle.std.specs.Option.{option_copied};
-ghost use Rattle.schema_util.specs.Met.{all_met};
-ghost use Rattle.schema_util.specs.References.{ComesTo, came_to, leads_to, name_in, reference_of};
-ghost use Rattle.schema_util.specs.References.{step as leads, told};
+ghost use Rattle.schema_util.specs.Met.{names_met};
+ghost use Rattle.schema_util.specs.References.{ComesTo, resolve_value, follow_value, name_in, reference_of};
+ghost use Rattle.schema_util.specs.References.{follow, reason_of};
 
 use crate::form::Form;
 use crate::met::{Met, is_met};
@@ -28,10 +28,11 @@ pub fn resolve<'a>(
     schema: &'a Schema,
     definitions: &'a Definitions,
 ) -> Result<&'a Schema, ResolveError<'a>>
-    ensures resolved { IfOk result (λ found. ComesTo (get_by_text definitions.now) [] schema.now
-        (Ok found.now)) }
-    ensures refused { IfErr result (λ error. ComesTo (get_by_text definitions.now) [] schema.now (Err
-        (told error))) }
+    ensures resolved { IfOk result
+        (λ found. ComesTo (get_by_text definitions.now) [] schema.now (Ok found.now)) }
+    ensures settled { IfOk result (λ found. reference_of found.now ≡ None) }
+    ensures refused { IfErr result
+        (λ error. ComesTo (get_by_text definitions.now) [] schema.now (Err (reason_of error))) }
 {
     resolve_behind(schema, definitions, None)
 }
@@ -42,24 +43,23 @@ fn resolve_behind<'a>(
     definitions: &'a Definitions,
     met: Option<&Met<'_>>,
 ) -> Result<&'a Schema, ResolveError<'a>>
-    ensures { ComesTo (get_by_text definitions.now) (all_met (option_copied met.entry)) schema.now
-        (came_to result) }
+    ensures { ComesTo (get_by_text definitions.now) (names_met met.entry) schema.now (resolve_value result) }
 {
     let Some(reference) = reference_of(schema) else {
         return Ok(schema);
     };
-    let (name, next) = step(reference, definitions, met)?;
+    let (name, next) = follow(reference, definitions, met)?;
     resolve_behind(next, definitions, Some(&Met { name, before: met }))
 }
 
 /// The definition that a reference means, with its name, where the name was not met.
-pub(crate) fn step<'a>(
+pub(crate) fn follow<'a>(
     reference: &'a str,
     definitions: &'a Definitions,
     met: Option<&Met<'_>>,
 ) -> Result<(&'a str, &'a Schema), ResolveError<'a>>
-    ensures { leads_to result ≡ leads (get_by_text definitions.now) (all_met (option_copied met.entry))
-        reference.now }
+    ensures { follow_value result
+        ≡ follow (get_by_text definitions.now) (names_met met.entry) reference.now }
 {
     let Some(name) = name_in(reference) else {
         return Err(ResolveError::Dangling(reference));
@@ -81,7 +81,7 @@ fn name_in(reference: &str) -> Option<&str>
 }
 
 /// The reference of a schema that has no other part. Annotations are no parts.
-pub(crate) fn reference_of(schema: &Schema) -> Option<&str>
+fn reference_of(schema: &Schema) -> Option<&str>
     ensures { option_copied result ≡ reference_of schema.now }
 {
     match schema {

@@ -5,14 +5,15 @@ ghost use Rattle.std.specs.HashMap.{get_by_text};
 ghost use Rattle.std.specs.Option.{option_copied};
 ghost use Rattle.schema_values.specs.declared.schema.ArrayParts.{out-ArrayParts};
 ghost use Rattle.schema_util.specs.Forms.{kind_of};
-ghost use Rattle.schema_util.specs.Met.{all_met};
-ghost use Rattle.schema_util.specs.Scalars.{scalars, texts, is_sought, single_type, asked_of, asked};
-ghost use Rattle.schema_util.specs.Scalars.{is_none, IsTold, AreTold, one_item, item_of, IsToldOfList};
-ghost use Rattle.schema_util.specs.Scalars.{sought_by, found, said};
+ghost use Rattle.schema_util.specs.Met.{names_met};
+ghost use Rattle.schema_util.specs.declared.scalar.Wanted.TheVariants.{Scalar, Text};
+ghost use Rattle.schema_util.specs.Scalars.{fault_of, finding, finding_of_kind, finding_value};
+ghost use Rattle.schema_util.specs.Scalars.{is_wanted, item_of, mismatch, one_item, single_type};
+ghost use Rattle.schema_util.specs.Scalars.{FirstFault, FirstFaultAmong, FirstFaultOfList};
 
 use crate::form::{Form, Kind};
 use crate::met::Met;
-use crate::references::{ResolveError, resolve, step};
+use crate::references::{ResolveError, follow, resolve};
 use schema_values::{
     ArrayParts, Definitions, InstanceType, InstanceTypes, Items, Schema, SchemaObject, Subschemas,
 };
@@ -40,7 +41,7 @@ enum Wanted {
 
 impl Wanted {
     fn refusal<'a>(self) -> ScalarError<'a>
-        ensures { said result ≡ is_none (sought_by self) }
+        ensures { fault_of result ≡ mismatch self }
     {
         match self {
             Wanted::Scalar => ScalarError::NotScalar,
@@ -49,7 +50,7 @@ impl Wanted {
     }
 
     fn takes(self, kind: InstanceType) -> bool
-        ensures { result ≡ is_sought (sought_by self) kind }
+        ensures { result ≡ is_wanted self kind }
     {
         match kind {
             InstanceType::String => true,
@@ -81,9 +82,9 @@ pub fn type_is_scalar<'a>(
     schema: &'a Schema,
     definitions: &'a Definitions,
 ) -> Result<(), ScalarError<'a>>
-    ensures scalar { OnOk result (IsTold scalars (get_by_text definitions.now) [] schema.now None) }
-    ensures refused { IfErr result (λ error. IsTold scalars (get_by_text definitions.now) [] schema.now
-        (Some (said error))) }
+    ensures scalar { OnOk result (FirstFault Scalar (get_by_text definitions.now) [] schema.now None) }
+    ensures refused { IfErr result
+        (λ error. FirstFault Scalar (get_by_text definitions.now) [] schema.now (Some (fault_of error))) }
 {
     tested(Wanted::Scalar, schema, definitions, None)
 }
@@ -93,9 +94,9 @@ pub fn type_is_string<'a>(
     schema: &'a Schema,
     definitions: &'a Definitions,
 ) -> Result<(), ScalarError<'a>>
-    ensures text { OnOk result (IsTold texts (get_by_text definitions.now) [] schema.now None) }
-    ensures refused { IfErr result (λ error. IsTold texts (get_by_text definitions.now) [] schema.now
-        (Some (said error))) }
+    ensures text { OnOk result (FirstFault Text (get_by_text definitions.now) [] schema.now None) }
+    ensures refused { IfErr result
+        (λ error. FirstFault Text (get_by_text definitions.now) [] schema.now (Some (fault_of error))) }
 {
     tested(Wanted::Text, schema, definitions, None)
 }
@@ -105,9 +106,9 @@ pub fn type_is_string_enum<'a>(
     schema: &'a Schema,
     definitions: &'a Definitions,
 ) -> Result<(), ScalarError<'a>>
-    ensures list { OnOk result (IsToldOfList (get_by_text definitions.now) schema.now None) }
-    ensures refused { IfErr result (λ error. IsToldOfList (get_by_text definitions.now) schema.now
-        (Some (said error))) }
+    ensures list { OnOk result (FirstFaultOfList (get_by_text definitions.now) schema.now None) }
+    ensures refused { IfErr result
+        (λ error. FirstFaultOfList (get_by_text definitions.now) schema.now (Some (fault_of error))) }
 {
     match items_of(resolve(schema, definitions)?) {
         Some(item) => type_is_string(item, definitions),
@@ -117,10 +118,10 @@ pub fn type_is_string_enum<'a>(
 
 impl<'a> From<ResolveError<'a>> for ScalarError<'a> {
     ghost use Rattle.std.specs.Prelude.{◌≡◌};
-    ghost use Rattle.schema_util.specs.References.{told};
-    ghost use Rattle.schema_util.specs.Scalars.{broken, said};
+    ghost use Rattle.schema_util.specs.References.{reason_of};
+    ghost use Rattle.schema_util.specs.Scalars.{unresolved, fault_of};
 
-    ghost from_gives = { λ error made. said made ≡ broken (told error) };
+    ghost from_gives = { λ error made. fault_of made ≡ unresolved (reason_of error) };
 
     fn from(error: ResolveError<'a>) -> ScalarError<'a> {
         match error {
@@ -138,14 +139,14 @@ fn tested<'a>(
     definitions: &'a Definitions,
     met: Option<&Met<'_>>,
 ) -> Result<(), ScalarError<'a>>
-    ensures fits { OnOk result (IsTold (sought_by wanted) (get_by_text definitions.now)
-        (all_met (option_copied met.entry)) schema.now None) }
-    ensures faulty { IfErr result (λ error. IsTold (sought_by wanted) (get_by_text definitions.now)
-        (all_met (option_copied met.entry)) schema.now (Some (said error))) }
+    ensures fits { OnOk result
+        (FirstFault wanted (get_by_text definitions.now) (names_met met.entry) schema.now None) }
+    ensures faulty { IfErr result (λ error. FirstFault wanted
+        (get_by_text definitions.now) (names_met met.entry) schema.now (Some (fault_of error))) }
 {
     match look_into(wanted, schema) {
         Finding::Reference(reference) => {
-            let (name, next) = step(reference, definitions, met)?;
+            let (name, next) = follow(reference, definitions, met)?;
             tested(wanted, next, definitions, Some(&Met { name, before: met }))
         }
         Finding::Members(members) => all_tested(wanted, members, definitions, met),
@@ -161,10 +162,10 @@ fn all_tested<'a>(
     definitions: &'a Definitions,
     met: Option<&Met<'_>>,
 ) -> Result<(), ScalarError<'a>>
-    ensures fit { OnOk result (AreTold (sought_by wanted) (get_by_text definitions.now)
-        (all_met (option_copied met.entry)) members.now None) }
-    ensures faulty { IfErr result (λ error. AreTold (sought_by wanted) (get_by_text definitions.now)
-        (all_met (option_copied met.entry)) members.now (Some (said error))) }
+    ensures fit { OnOk result
+        (FirstFaultAmong wanted (get_by_text definitions.now) (names_met met.entry) members.now None) }
+    ensures faulty { IfErr result (λ error. FirstFaultAmong wanted
+        (get_by_text definitions.now) (names_met met.entry) members.now (Some (fault_of error))) }
 {
     for member in members {
         tested(wanted, member, definitions, met)?;
@@ -173,7 +174,7 @@ fn all_tested<'a>(
 }
 
 fn look_into(wanted: Wanted, schema: &Schema) -> Finding<'_>
-    ensures { found result ≡ asked (sought_by wanted) schema.now }
+    ensures { finding_value result ≡ finding wanted schema.now }
 {
     let Schema::Object(object) = schema else {
         return Finding::Differs;
@@ -190,7 +191,7 @@ fn look_into(wanted: Wanted, schema: &Schema) -> Finding<'_>
 
 /// The members of an `all_of` or an `any_of` of one, or of a `one_of`.
 fn members_of(subschemas: &Subschemas) -> Finding<'_>
-    ensures { found result ≡ asked_of (kind_of subschemas.now) }
+    ensures { finding_value result ≡ finding_of_kind (kind_of subschemas.now) }
 {
     match Kind::of(subschemas) {
         Kind::AllOf(schemas) | Kind::AnyOf(schemas) if schemas.len() == 1 => {

@@ -1,21 +1,21 @@
 //! The members of a struct.
 
-ghost use Rattle.std.specs.Prelude.{◌≡◌, ◌++◌, ◌∷◌, [], map, Ok, Err, Some, IfErr, IfOk, IfSome, OnErr, OnOk};
+ghost use Rattle.std.specs.Prelude.{◌≡◌, ◌++◌, [], map, Ok, Err, Some, IfErr, IfOk, IfSome, OnOk};
 ghost use Rattle.std.specs.HashMap.{get_by_text};
 ghost use Rattle.std.specs.Option.{option_copied};
 ghost use Rattle.std.specs.Str.{encode_utf8_all};
 ghost use Rattle.schema_values.specs.declared.schema.ObjectParts.{out-ObjectParts};
 ghost use Rattle.schema_util.specs.Forms.{kind_of};
-ghost use Rattle.schema_util.specs.Met.{all_met};
-ghost use Rattle.schema_util.specs.References.{told};
-ghost use Rattle.schema_util.specs.StructMembers.{beside, beside_of, broken, found_beside, is_named};
+ghost use Rattle.schema_util.specs.Met.{names_met};
+ghost use Rattle.schema_util.specs.References.{reason_of};
+ghost use Rattle.schema_util.specs.StructMembers.{flattened, flattened_of_kind, flattened_value};
 ghost use Rattle.schema_util.specs.StructMembers.{member_of, misfit_of, own_members, Gives, GiveAll};
-ghost use Rattle.schema_util.specs.StructMembers.{HasGiven, HaveGiven};
+ghost use Rattle.schema_util.specs.StructMembers.{HasGiven, HaveGiven, is_named, unresolved};
 
-use crate::description::schema_extract_description;
+use crate::description::{copy_text, schema_extract_description};
 use crate::form::{Form, Kind};
 use crate::met::Met;
-use crate::references::{ResolveError, reference_of, step};
+use crate::references::{ResolveError, follow};
 use schema_values::{Definitions, List, ObjectParts, Property, Schema, Subschemas, Text};
 use std::alloc::{AllocError, Global};
 
@@ -30,6 +30,20 @@ pub struct StructMember {
     pub schema: Schema,
     /// Whether each value of the struct has it.
     pub required: bool,
+}
+
+impl StructMember {
+    /// A member equal to this one.
+    pub fn copy(&self, alloc: Global) -> Result<StructMember, AllocError>
+        ensures { IfOk result (λ copy. copy ≡ self.now) }
+    {
+        Ok(StructMember {
+            name: self.name.copy(alloc)?,
+            description: copy_text(alloc, &self.description)?,
+            schema: self.schema.copy(alloc)?,
+            required: self.required,
+        })
+    }
 }
 
 /// Why a schema is that of no struct.
@@ -62,7 +76,7 @@ impl From<AllocError> for Schema2StructError {
 
 impl Schema2StructError {
     fn of(alloc: Global, error: ResolveError<'_>) -> Result<Schema2StructError, AllocError>
-        ensures { IfOk result (λ made. misfit_of made ≡ Some (broken (told error.entry))) }
+        ensures { IfOk result (λ made. misfit_of made ≡ Some (unresolved (reason_of error.entry))) }
     {
         match error {
             ResolveError::Dangling(name) => Ok(Schema2StructError::Dangling(text_of(alloc, name)?)),
@@ -88,10 +102,10 @@ pub fn schema2struct(
     definitions: &Definitions,
     required: bool,
 ) -> Result<List<StructMember>, Schema2StructError>
-    ensures members { IfOk result (λ members. Gives (get_by_text definitions.now) [] required schema.now
-        (Ok members)) }
-    ensures refused { IfErr result (λ error. IfSome (misfit_of error)
-        (λ why. Gives (get_by_text definitions.now) [] required schema.now (Err why))) }
+    ensures members { IfOk result
+        (λ members. Gives (get_by_text definitions.now) [] required schema.now (Ok members)) }
+    ensures refused { IfErr result (λ error. IfSome (misfit_of error) (λ why.
+        Gives (get_by_text definitions.now) [] required schema.now (Err why))) }
 {
     let mut members = List::new(alloc);
     add_struct(alloc, &mut members, schema, definitions, required, None)?;
@@ -108,36 +122,32 @@ fn add_struct(
     required: bool,
     met: Option<&Met<'_>>,
 ) -> Result<(), Schema2StructError>
-    ensures added { OnOk result (HasGiven (get_by_text definitions.now) (all_met (option_copied met.entry))
-        required schema.now members.old members.new) }
-    ensures refused { IfErr result (λ error. IfSome (misfit_of error)
-        (λ why. Gives (get_by_text definitions.now) (all_met (option_copied met.entry)) required schema.now
-        (Err why))) }
+    ensures added { OnOk result (HasGiven
+        (get_by_text definitions.now) (names_met met.entry) required schema.now members.old members.new) }
+    ensures refused { IfErr result (λ error. IfSome (misfit_of error) (λ why.
+        Gives (get_by_text definitions.now) (names_met met.entry) required schema.now (Err why))) }
 {
-    if let Some(reference) = reference_of(schema) {
-        return match step(reference, definitions, met) {
+    let Schema::Object(object) = schema else {
+        return Err(Schema2StructError::InvalidType);
+    };
+    match Form::of(object.get()) {
+        Form::Reference(reference) => match follow(reference.as_str(), definitions, met) {
             Ok((name, next)) => {
                 let met = Met { name, before: met };
                 add_struct(alloc, members, next, definitions, required, Some(&met))
             }
             Err(error) => Err(Schema2StructError::of(alloc, error)?),
-        };
-    }
-    let Schema::Object(object) = schema else {
-        return Err(Schema2StructError::InvalidType);
-    };
-    match Form::of(object.get()) {
+        },
         Form::Struct(parts, subschemas) => {
-            let Some((may, schemas)) = beside(required, subschemas) else {
+            let Some((may_require, schemas)) = flattened(required, subschemas) else {
                 return Err(Schema2StructError::InvalidSubschema);
             };
             add_properties(alloc, members, parts, required)?;
-            add_each(alloc, members, schemas, definitions, may, met)
+            add_each(alloc, members, schemas, definitions, may_require, met)
         }
         Form::Combination(_) => Err(Schema2StructError::InvalidEnum),
         Form::Values => Err(Schema2StructError::InvalidEnum),
         Form::Bare => Err(Schema2StructError::InvalidType),
-        Form::Reference(_) => Err(Schema2StructError::InvalidType),
         Form::Other => Err(Schema2StructError::InvalidType),
     }
 }
@@ -151,11 +161,10 @@ fn add_each(
     required: bool,
     met: Option<&Met<'_>>,
 ) -> Result<(), Schema2StructError>
-    ensures added { OnOk result (HaveGiven (get_by_text definitions.now) (all_met
-        (option_copied met.entry)) required schemas.now members.old members.new) }
-    ensures refused { IfErr result (λ error. IfSome (misfit_of error)
-        (λ why. GiveAll (get_by_text definitions.now) (all_met (option_copied met.entry)) required
-        schemas.now (Err why))) }
+    ensures added { OnOk result (HaveGiven
+        (get_by_text definitions.now) (names_met met.entry) required schemas.now members.old members.new) }
+    ensures refused { IfErr result (λ error. IfSome (misfit_of error) (λ why.
+        GiveAll (get_by_text definitions.now) (names_met met.entry) required schemas.now (Err why))) }
 {
     for schema in schemas {
         add_struct(alloc, members, schema, definitions, required, met)?;
@@ -218,17 +227,17 @@ fn is_named(names: &[Text], name: &Text) -> bool
 }
 
 /// The schemas whose members come beside a struct's own, and whether those may be required.
-fn beside<'a>(required: bool, subschemas: Option<&'a Subschemas>) -> Option<(bool, &'a [Schema])>
-    ensures { found_beside result ≡ beside required (option_copied subschemas.entry) }
+fn flattened<'a>(required: bool, subschemas: Option<&'a Subschemas>) -> Option<(bool, &'a [Schema])>
+    ensures { flattened_value result ≡ flattened required (option_copied subschemas.entry) }
 {
     match subschemas {
-        Some(subschemas) => beside_of(required, subschemas),
+        Some(subschemas) => flattened_of_kind(required, subschemas),
         None => Some((required, &[])),
     }
 }
 
-fn beside_of(required: bool, subschemas: &Subschemas) -> Option<(bool, &[Schema])>
-    ensures { found_beside result ≡ beside_of required (kind_of subschemas.now) }
+fn flattened_of_kind(required: bool, subschemas: &Subschemas) -> Option<(bool, &[Schema])>
+    ensures { flattened_value result ≡ flattened_of_kind required (kind_of subschemas.now) }
 {
     match Kind::of(subschemas) {
         Kind::AnyOf(schemas) => Some((false, schemas.as_slice())),

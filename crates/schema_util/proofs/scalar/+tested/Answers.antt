@@ -2,13 +2,12 @@ use Rattle.std.proofs.Common.{◌*◌, Some, None, sym, arith, add-one}
 use Rattle.std.proofs.Math.ListN.{drop_of_length-le}
 use Rattle.std.proofs.lemmas.Result.{err_from_is_err_and, on_ok_weaker, IfErr-weaker}
 use Rattle.std.specs.HashMap.{get_by_text}
-use Rattle.std.specs.Option.{option_copied}
 use Rattle.schema_values.specs.declared.schema.Schema.{size-Schema}
-use Rattle.schema_util.specs.Met.{all_met}
-use Rattle.schema_util.specs.References.{told}
-use Rattle.schema_util.specs.Scalars.{told_at_once, denied, breaks, goes_on, of_members, none_left, at_first, at_rest, said, sought_by}
+use Rattle.schema_util.specs.Met.{names_met}
+use Rattle.schema_util.specs.References.{reason_of}
+use Rattle.schema_util.specs.Scalars.{accepted, rejected, breaks, goes_on, of_members, none_left, at_first, at_rest, fault_of}
 use Rattle.schema_util.proofs.Chains.{met_longer}
-use Rattle.schema_util.proofs.Steps.{stepped}
+use Rattle.schema_util.proofs.Steps.{followed}
 use Rattle.schema_util.proofs.Sizes.{falls, member_smaller}
 use Rattle.schema_util.proofs.ScalarSteps.{next_member, members_smaller}
 use Rattle.schema_util.proofs.scalar.+tested.Goals as goal
@@ -16,12 +15,12 @@ use Rattle.schema_util.proofs.scalar.+tested.Goals as goal
 pub tested-returns-in_err-name-in-Reference-clause-faulty : goal.tested-returns-in_err-name-in-Reference-clause-faulty
 tested-returns-in_err-name-in-Reference-clause-faulty t c =
     let p = err_from_is_err_and c.from_residual.result c.from_residual.ensures.1 in
-    rw (p.1, p.2) (breaks c.in-Reference.reference.now (told c.in_err-name-in-Reference.field-0.0) (sym c.in-Reference.ensures) (sym c.in_err-name-in-Reference.ensures))
+    rw (p.1, p.2) (breaks c.in-Reference.reference.now (reason_of c.in_err-name-in-Reference.field-0.0) (sym c.in-Reference.ensures) (sym c.in_err-name-in-Reference.ensures))
 
 pub tested-tested-requires : goal.tested-tested-requires
 tested-tested-requires t c =
-    let met = all_met (option_copied c.args.met) in
-    let s = stepped (get_by_text c.args.definitions.now) met c.in_ok-name-in-Reference.name.now c.in_ok-name-in-Reference.next.now c.in-Reference.reference.now (sym c.in_ok-name-in-Reference.ensures) in
+    let met = names_met c.args.met in
+    let s = followed (get_by_text c.args.definitions.now) met c.in_ok-name-in-Reference.name.now c.in_ok-name-in-Reference.next.now c.in-Reference.reference.now (sym c.in_ok-name-in-Reference.ensures) in
     rw (met_longer c.in_ok-name-in-Reference.name c.args.met) (
       omega (arith, c.decreases, falls c.args.definitions.now.entries met c.in_ok-name-in-Reference.name.now c.in_ok-name-in-Reference.next.now 2 (2 * size-Schema c.args.schema.now) s.found s.unmet),
       tt,
@@ -36,12 +35,12 @@ tested-returns-in_ok-name-in-Reference-clause-fits t c =
 pub tested-returns-in_ok-name-in-Reference-clause-faulty : goal.tested-returns-in_ok-name-in-Reference-clause-faulty
 tested-returns-in_ok-name-in-Reference-clause-faulty t c =
     IfErr-weaker c.tested.result _ _
-    (λ error. goes_on c.in-Reference.reference.now c.in_ok-name-in-Reference.name.now c.in_ok-name-in-Reference.next.now (Some (said error)) (sym c.in-Reference.ensures) (sym c.in_ok-name-in-Reference.ensures))
+    (λ error. goes_on c.in-Reference.reference.now c.in_ok-name-in-Reference.name.now c.in_ok-name-in-Reference.next.now (Some (fault_of error)) (sym c.in-Reference.ensures) (sym c.in_ok-name-in-Reference.ensures))
     (simp met_longer at c.tested.ensures.faulty)
 
 pub tested-all_tested-requires : goal.tested-all_tested-requires
 tested-all_tested-requires t c =
-    (omega (arith, c.decreases, members_smaller (sought_by c.args.wanted) c.args.schema.now c.in-Members.members.now (sym c.in-Members.ensures)), tt)
+    (omega (arith, c.decreases, members_smaller c.args.wanted c.args.schema.now c.in-Members.members.now (sym c.in-Members.ensures)), tt)
 
 pub tested-returns-in-Members-clause-fits : goal.tested-returns-in-Members-clause-fits
 tested-returns-in-Members-clause-fits t c =
@@ -49,13 +48,13 @@ tested-returns-in-Members-clause-fits t c =
 
 pub tested-returns-in-Members-clause-faulty : goal.tested-returns-in-Members-clause-faulty
 tested-returns-in-Members-clause-faulty t c =
-    IfErr-weaker c.all_tested.result _ _ (λ error. of_members c.in-Members.members.now (Some (said error)) (sym c.in-Members.ensures)) c.all_tested.ensures.faulty
+    IfErr-weaker c.all_tested.result _ _ (λ error. of_members c.in-Members.members.now (Some (fault_of error)) (sym c.in-Members.ensures)) c.all_tested.ensures.faulty
 
 pub tested-returns-in-Fits-clause-fits : goal.tested-returns-in-Fits-clause-fits
-tested-returns-in-Fits-clause-fits t c = told_at_once (sym c.in-Fits.ensures)
+tested-returns-in-Fits-clause-fits t c = accepted (sym c.in-Fits.ensures)
 
 pub tested-returns-in-Differs-clause-faulty : goal.tested-returns-in-Differs-clause-faulty
-tested-returns-in-Differs-clause-faulty t c = rw c.refusal.ensures (denied (sym c.in-Differs.ensures))
+tested-returns-in-Differs-clause-faulty t c = rw c.refusal.ensures (rejected (sym c.in-Differs.ensures))
 
 pub all_tested-tested-requires : goal.all_tested-tested-requires
 all_tested-tested-requires t c =
@@ -69,7 +68,7 @@ all_tested-loop-member-preserved t c = λ fault rest.
 pub all_tested-returns-in_err-tested-clause-faulty : goal.all_tested-returns-in_err-tested-clause-faulty
 all_tested-returns-in_err-tested-clause-faulty t c =
     let p = err_from_is_err_and c.from_residual.result c.from_residual.ensures.1 in
-    let fault = said c.in_err-tested.field-0.0 in
+    let fault = fault_of c.in_err-tested.field-0.0 in
     let place = next_member c.args.members.now c.loop-member.member-index c.member-item.result (omega arith) c.member-item.is in
     rw (p.1, p.2) (c.loop-member.invariant (Some fault) (rw place (at_first fault c.in_err-tested.ensures.faulty)))
 
