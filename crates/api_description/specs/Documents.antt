@@ -251,6 +251,7 @@ components_of m version endpoints = record {
 -- the document of endpoints at a version, with a title
 abbrev pub open_api_of : {X : Type 0} {F : X → Type 0} → Meanings X F → List (ApiEndpoint X F) → List ℕ → Parts → OpenApi
 open_api_of m endpoints title version = record {
+  openapi = codes "3.0.3";
   info = record { title = title; description = None; terms_of_service = None; contact = None; license = None; version = chars (parts_text version) };
   paths = paths_of m version endpoints;
   components = components_of m version endpoints;

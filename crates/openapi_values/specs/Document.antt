@@ -22,7 +22,7 @@ components_json components = object_of (components_entries components)
 -- the members of a document, in their order
 abbrev pub open_api_entries : OpenApi → List Entry
 open_api_entries document =
-    (codes "openapi", Some (Text (codes "3.0.3")))
+    (codes "openapi", Some (Text document.openapi))
     ∷ (codes "info", Some (info_json document.info))
     ∷ (codes "paths", Some (Object (map_members path_item_json document.paths)))
     ∷ (codes "components", Some (components_json document.components))

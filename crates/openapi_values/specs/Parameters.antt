@@ -20,11 +20,11 @@ parameter_entries p =
 unfoldable pub parameter_json : Parameter → Json
 parameter_json p = object_of (parameter_entries p)
 
--- the description, the style, which is always `simple`, `required` where it is true, and the schema
+-- the description, the style, `required` where it is true, and the schema
 abbrev pub header_entries : HeaderObject → List Entry
 header_entries h =
     (codes "description", option_map Text h.description)
-    ∷ (codes "style", Some (Text (codes "simple")))
+    ∷ (codes "style", Some (Text h.style))
     ∷ (codes "required", if_true h.required)
     ∷ (codes "schema", Some h.schema)
     ∷ []

@@ -107,27 +107,27 @@ values_refusal None (value ∷ values) = Some EnumWithoutType
 values_refusal type values = None
 
 -- a schema has one type, which is not that of all numbers
-abbrev pub type_array : Option InstanceTypes → Refusal
-type_array (Some (Several types)) = Some TypeArray
-type_array (Some (Single Number)) = Some FloatSchema
-type_array type = None
+abbrev pub types_refusal : Option InstanceTypes → Refusal
+types_refusal (Some (Several types)) = Some TypeArray
+types_refusal (Some (Single Number)) = Some FloatSchema
+types_refusal type = None
 
 -- an array has one schema for all its items
-abbrev pub items_missing : Option InstanceTypes → Option Within → Refusal
-items_missing (Some (Single Array)) None = Some NoItems
-items_missing (Some (Single Array)) (Some items) = if items.by_place then Some TupleArray else None
-items_missing type items = None
+abbrev pub own_items_refusal : Option InstanceTypes → Option Within → Refusal
+own_items_refusal (Some (Single Array)) None = Some NoItems
+own_items_refusal (Some (Single Array)) (Some items) = if items.by_place then Some TupleArray else None
+own_items_refusal type items = None
 
 -- a const is one of the values, where both are given
-abbrev pub const_among : Option Json → Option (List Json) → Refusal
-const_among (Some const) (Some values) = if list_any (same_json const) values then None else Some EnumConflict
-const_among const values = None
+abbrev pub enum_conflict : Option Json → Option (List Json) → Refusal
+enum_conflict (Some const) (Some values) = if list_any (same_json const) values then None else Some EnumConflict
+enum_conflict const values = None
 
 -- a const stands beside a type and subschemas
-abbrev pub const_alone : Option Json → Option InstanceTypes → Option Inner → Refusal
-const_alone None type subschemas = None
-const_alone (Some const) (Some type) (Some subschemas) = None
-const_alone (Some const) type subschemas = Some ConstUnsupported
+abbrev pub const_unsupported : Option Json → Option InstanceTypes → Option Inner → Refusal
+const_unsupported None type subschemas = None
+const_unsupported (Some const) (Some type) (Some subschemas) = None
+const_unsupported (Some const) type subschemas = Some ConstUnsupported
 
 -- whether a bound stands in both its forms
 abbrev pub is_bound_twice : NumberBounds → Bool
@@ -156,10 +156,10 @@ items_of schema = option_and_then (λ items. items) schema.array
 -- the schema's own case: its type, its items, its const, its values, its bounds, and then the kinds of its subschemas
 abbrev pub own_refusal : Level SchemaObject-F → Refusal
 own_refusal schema = first_of (
-    type_array schema.instance_type
-    ∷ items_missing schema.instance_type (items_of schema)
-    ∷ const_among schema.const_value schema.enum_values
-    ∷ const_alone schema.const_value schema.instance_type schema.subschemas
+    types_refusal schema.instance_type
+    ∷ own_items_refusal schema.instance_type (items_of schema)
+    ∷ enum_conflict schema.const_value schema.enum_values
+    ∷ const_unsupported schema.const_value schema.instance_type schema.subschemas
     ∷ values_refusal schema.instance_type (unwrap_or schema.enum_values [])
     ∷ bounds_refusal schema.number
     ∷ kinds_refusal schema.instance_type schema.subschemas

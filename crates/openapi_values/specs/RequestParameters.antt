@@ -50,7 +50,7 @@ values_hold admitted required [] = not required
 values_hold admitted required (value ∷ []) = admitted value
 values_hold admitted required (value ∷ other ∷ values) = false
 
--- a parameter of a name, in a place: the path or the query; in no other place it holds
+-- a parameter of a name, in a place: the path or the query; in any other place it does not hold
 abbrev pub placed_holds : WireRequest → (List ℕ → Bool) → Bool → List ℕ → List ℕ → Bool
 placed_holds request admitted required name place =
     if bytes_eq (codes "path") place then is_some_and (get (slice_cmp nat_cmp) request.variables name) (variable_holds admitted) else

@@ -20,7 +20,7 @@ use Rattle.schema_values.specs.declared.schema.Subschemas.{Subschemas, Subschema
 use Rattle.schema_values.specs.Get.{first_named}
 use Rattle.openapi_values.specs.IfTrue.{if_true}
 use Rattle.openapi_values.specs.Keywords.{after}
-use Rattle.openapi_values.specs.Objects.{Entry, pair_member, object_of, reference_json, unless_empty}
+use Rattle.openapi_values.specs.Objects.{Entry, list_unless_empty, pair_member, object_of, reference_json, unless_empty}
 
 -- what a schema is written as: a schema under a title, where one is given; beside it the truth value that it is
 pub record Written : Type 0 where
@@ -68,8 +68,7 @@ property_step property = (property.name, untitled property.schema)
 
 -- names as a list, left out where there are none
 abbrev pub names_json : List (List ℕ) → Option Json
-names_json [] = None
-names_json (name ∷ names) = Some (ListOf (map Text (name ∷ names)))
+names_json names = list_unless_empty (map Text names)
 
 -- `additionalProperties` is a truth value where its schema is one
 abbrev pub additional_json : Written → Json

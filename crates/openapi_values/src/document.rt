@@ -10,6 +10,8 @@ use std::alloc::{AllocError, Global};
 /// What an API is: an OpenAPI 3.0.3 document.
 #[derive(Drop)]
 pub struct OpenApi {
+    /// The version of OpenAPI, `3.0.3`.
+    pub openapi: Text,
     pub info: Info,
     pub paths: List<(Text, PathItem)>,
     pub components: Components,
@@ -52,8 +54,8 @@ impl Part for OpenApi {
 
     fn to_json(&self, alloc: Global) -> Result<Json, AllocError> {
         let mut members = List::new(alloc);
-        let version = Json::Text(Text::from_ascii(alloc, "3.0.3")?);
-        add(alloc, &mut members, "openapi", Some(version))?;
+        let openapi = self.openapi.to_json(alloc)?;
+        add(alloc, &mut members, "openapi", Some(openapi))?;
         let info = self.info.to_json(alloc)?;
         add(alloc, &mut members, "info", Some(info))?;
         let paths = Json::Object(map_json(alloc, &self.paths)?);
@@ -67,6 +69,7 @@ impl Part for OpenApi {
 
     fn copy(&self, alloc: Global) -> Result<OpenApi, AllocError> {
         Ok(OpenApi {
+            openapi: self.openapi.copy(alloc)?,
             info: self.info.copy(alloc)?,
             paths: copy_map(alloc, &self.paths)?,
             components: self.components.copy(alloc)?,

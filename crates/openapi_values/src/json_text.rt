@@ -9,7 +9,8 @@ ghost use Rattle.openapi_values.specs.JsonAdmits.{schema_admits, members_admit, 
 ghost use Rattle.openapi_values.specs.Keywords.{keyword_of};
 ghost use Rattle.openapi_values.specs.Levels.{as_text};
 ghost use Rattle.openapi_values.specs.Options.{is_some_and};
-ghost use Rattle.openapi_values.specs.Rows.{row, members_hold, every_admits, some_admits, one_admits, is_listed};
+ghost use Rattle.openapi_values.specs.Rows.{row, members_hold, every_admits, some_admits};
+ghost use Rattle.openapi_values.specs.Rows.{one_admits, is_listed};
 ghost use Rattle.openapi_values.specs.Steps.{left};
 ghost use Rattle.openapi_values.specs.TextAdmitter.{value_of, level_of, steps_of, admits_of};
 ghost use Rattle.openapi_values.specs.TextAdmitter.{smaller_of};

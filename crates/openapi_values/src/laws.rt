@@ -42,9 +42,9 @@ pub fn definitions_stand()
         → definition (open_api_json document) name ≡ definition_in document name }
 {}
 
-/// Where an operation of a written document takes a body under `application/json`, and none of bytes, it admits
-/// the requests with the media type of JSON whose body the schema there admits, and of which each parameter of
-/// the operation holds; it does not answer in pages.
+/// Where an operation of a written document takes a body under `application/json`, and none of bytes, it
+/// admits the requests with the media type of JSON whose body the schema there admits, and of which each
+/// parameter of the operation holds; it does not answer in pages.
 pub fn bodies_admitted()
     ensures { (document : Document) (path method : List ℕ) (listed : Listed) (body : Body) (media : Media)
         (request : Request) → operation_in document path method ≡ Some listed

@@ -18,6 +18,8 @@ pub struct Parameter {
 #[derive(Drop)]
 pub struct HeaderObject {
     pub description: Option<Text>,
+    /// How its value is written, `simple`.
+    pub style: Text,
     pub required: bool,
     pub schema: Json,
 }
@@ -61,7 +63,7 @@ impl Part for HeaderObject {
         let mut members = List::new(alloc);
         let description = option_json(alloc, &self.description)?;
         add(alloc, &mut members, "description", description)?;
-        let style = Json::Text(Text::from_ascii(alloc, "simple")?);
+        let style = self.style.to_json(alloc)?;
         add(alloc, &mut members, "style", Some(style))?;
         add(alloc, &mut members, "required", true_json(self.required))?;
         let schema = self.schema.copy(alloc)?;
@@ -72,6 +74,7 @@ impl Part for HeaderObject {
     fn copy(&self, alloc: Global) -> Result<HeaderObject, AllocError> {
         Ok(HeaderObject {
             description: copy_option(alloc, &self.description)?,
+            style: self.style.copy(alloc)?,
             required: self.required,
             schema: self.schema.copy(alloc)?,
         })

@@ -3,11 +3,11 @@ ghost use Rattle.std.specs.Prelude.{unwrap_or, Some, None, if◌then◌else◌};
 ghost use Rattle.std.specs.List.{list_all};
 ghost use Rattle.schema_values.specs.declared.schema.SchemaObject.{out-SchemaObject};
 ghost use Rattle.openapi_values.specs.declared.j2oas.J2oasError.TheVariants.{TupleArray};
-ghost use Rattle.openapi_values.specs.Refusal.{first_of, values_beside, object_level, type_array};
-ghost use Rattle.openapi_values.specs.Refusal.{const_among, const_alone, is_bound_twice as has_both_forms};
+ghost use Rattle.openapi_values.specs.Refusal.{first_of, values_beside, object_level, types_refusal};
+ghost use Rattle.openapi_values.specs.Refusal.{enum_conflict, const_unsupported, is_bound_twice as has_both_forms};
 ghost use Rattle.openapi_values.specs.Refusal.{bounds_refusal as refusal_of_bounds};
 ghost use Rattle.openapi_values.specs.Refusal.{items_of as within_of, items_within, array_within};
-ghost use Rattle.openapi_values.specs.Refusal.{is_value_of as is_value, items_missing as missing_items};
+ghost use Rattle.openapi_values.specs.Refusal.{is_value_of as is_value, own_items_refusal as refusal_of_items};
 ghost use Rattle.openapi_values.specs.Refusal.{values_refusal as refusal_of_values};
 ghost use Rattle.openapi_values.specs.Refusal.{kinds_refusal as refusal_of_kinds};
 ghost use Rattle.openapi_values.specs.Refusal.{own_refusal as own_refusal_of};
@@ -52,7 +52,7 @@ fn own_refusal(schema: &SchemaObject) -> Option<J2oasError>
     ensures { result ≡ own_refusal_of (object_level schema.now) }
 {
     types_refusal(schema)
-        .or_else(|| items_missing(schema))
+        .or_else(|| own_items_refusal(schema))
         .or_else(|| enum_conflict(schema))
         .or_else(|| const_unsupported(schema))
         .or_else(|| values_refusal(schema))
@@ -61,7 +61,7 @@ fn own_refusal(schema: &SchemaObject) -> Option<J2oasError>
 }
 
 fn types_refusal(schema: &SchemaObject) -> Option<J2oasError>
-    ensures { result ≡ type_array (out-SchemaObject schema.now).instance_type }
+    ensures { result ≡ types_refusal (out-SchemaObject schema.now).instance_type }
 {
     match &schema.instance_type {
         Some(InstanceTypes::Several(_)) => Some(J2oasError::TypeArray),
@@ -70,8 +70,8 @@ fn types_refusal(schema: &SchemaObject) -> Option<J2oasError>
     }
 }
 
-fn items_missing(schema: &SchemaObject) -> Option<J2oasError>
-    ensures { result ≡ missing_items (out-SchemaObject schema.now).instance_type
+fn own_items_refusal(schema: &SchemaObject) -> Option<J2oasError>
+    ensures { result ≡ refusal_of_items (out-SchemaObject schema.now).instance_type
         (within_of (object_level schema.now)) }
 {
     match &schema.instance_type {
@@ -102,7 +102,7 @@ fn tuple_array(items: &Items) -> Option<J2oasError>
 }
 
 fn enum_conflict(schema: &SchemaObject) -> Option<J2oasError>
-    ensures { result ≡ const_among (out-SchemaObject schema.now).const_value
+    ensures { result ≡ enum_conflict (out-SchemaObject schema.now).const_value
         (out-SchemaObject schema.now).enum_values }
 {
     match (&schema.const_value, &schema.enum_values) {
@@ -114,7 +114,7 @@ fn enum_conflict(schema: &SchemaObject) -> Option<J2oasError>
 }
 
 fn const_unsupported(schema: &SchemaObject) -> Option<J2oasError>
-    ensures { result ≡ const_alone (out-SchemaObject schema.now).const_value
+    ensures { result ≡ const_unsupported (out-SchemaObject schema.now).const_value
         (out-SchemaObject schema.now).instance_type (object_level schema.now).subschemas }
 {
     match (

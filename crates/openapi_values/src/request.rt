@@ -1,10 +1,25 @@
+ghost use Rattle.std.specs.Prelude.{◌≡◌, IfOk};
+
 use schema_values::{List, Text, VariableSet};
+use std::alloc::{AllocError, Global};
 
 /// A header line: its name, and the bytes of its value.
 #[derive(Drop)]
 pub struct HeaderLine {
     pub name: Text,
     pub value: List<u8>,
+}
+
+impl HeaderLine {
+    /// A line equal to this one.
+    pub fn copy(&self, alloc: Global) -> Result<HeaderLine, AllocError>
+        ensures { IfOk result (λ copy. copy ≡ self.now) }
+    {
+        Ok(HeaderLine {
+            name: self.name.copy(alloc)?,
+            value: List::from_bytes(alloc, self.value.as_slice())?,
+        })
+    }
 }
 
 /// A request as it comes in.

@@ -10,13 +10,13 @@ ghost use Rattle.openapi_values.specs.SchemaJson.{number_entries, bound_entries,
 ghost use Rattle.openapi_values.specs.SchemaJson.{bound_json as json_of_bound, nothing_entries};
 ghost use Rattle.openapi_values.specs.SchemaJson.{enum_entries, const_values, null_values, values_of};
 ghost use Rattle.openapi_values.specs.SchemaJson.{values_json as json_of_values, without_values};
-ghost use Rattle.openapi_values.specs.SchemaJson.{count_json as count_of, names_json};
+ghost use Rattle.openapi_values.specs.SchemaJson.{count_json as count_of};
 ghost use Rattle.openapi_values.specs.SchemaJson.{truth_json as json_of_truth, type_name};
 
 use crate::find::find_word;
 use crate::keywords::text_after;
 use crate::objects::{add, true_json};
-use crate::part::{copy_option, list_json, option_json};
+use crate::part::{copy_option, option_json};
 use schema_values::{
     InstanceType, Json, LengthBounds, List, Member, NumberBounds, SchemaObject, Text,
 };
@@ -311,14 +311,4 @@ pub fn is_without_values(values: &Option<List<Json>>) -> bool
         Some(values) => values.is_empty(),
         None => false,
     }
-}
-
-/// The list of names, unless there is none.
-pub fn names(alloc: Global, names: &List<Text>) -> Result<Option<Json>, AllocError>
-    ensures { IfOk result (λ json. json ≡ names_json names.now) }
-{
-    if names.len() == 0 {
-        return Ok(None);
-    }
-    Ok(Some(Json::List(list_json(alloc, names)?)))
 }

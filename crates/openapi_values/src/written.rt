@@ -14,7 +14,7 @@ ghost use Rattle.openapi_values.specs.SchemaJson.{property_written, subschemas_w
 use crate::objects::{add, reference};
 use crate::schema_parts::{
     add_annotations, add_const, add_nothing, add_null, add_number, add_text, add_values,
-    count_json, is_without_values, names, truth_json, type_text,
+    count_json, is_without_values, truth_json, type_text,
 };
 use schema_values::{
     ArrayParts, InstanceType, InstanceTypes, Items, Json, List, Member, ObjectParts, Property,
@@ -184,7 +184,7 @@ fn add_object_parts(
 {
     let properties = properties_json(alloc, object)?;
     add(alloc, members, "properties", properties)?;
-    let required = names(alloc, &object.required)?;
+    let required = list_unless_empty(alloc, &object.required)?;
     add(alloc, members, "required", required)?;
     let additional = additional_json(alloc, object)?;
     add(alloc, members, "additionalProperties", additional)?;

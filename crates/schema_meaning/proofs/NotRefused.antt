@@ -16,7 +16,7 @@ use Rattle.schema_values.specs.declared.schema.NumberBounds.{NumberBounds}
 use Rattle.schema_values.specs.declared.schema.Schema.{Schema, out-Schema}
 use Rattle.schema_values.specs.declared.schema.SchemaObject.{SchemaObject, SchemaObject-F, out-SchemaObject}
 use Rattle.schema_values.specs.Parts.{Parts}
-use Rattle.openapi_values.specs.Refusal.{Within, Level, object_step, is_level_of, is_value_of, values_refusal, type_array, items_missing, bounds_refusal, items_of, own_refusal, inner_refusal, refusal_of, items_within, array_within, object_parts_refusal, subschemas_inner}
+use Rattle.openapi_values.specs.Refusal.{Within, Level, object_step, is_level_of, is_value_of, values_refusal, types_refusal, own_items_refusal, bounds_refusal, items_of, own_refusal, inner_refusal, refusal_of, items_within, array_within, object_parts_refusal, subschemas_inner}
 use Rattle.openapi_values.specs.declared.j2oas.J2oasError.TheVariants.{TupleArray, BadEnumValue, BadBounds}
 use Rattle.openapi_values.proofs.RefusalLevels as levels
 use Rattle.openapi_values.specs.SchemaJson.{without_values}
@@ -58,8 +58,8 @@ first_none (Some x) p h = absurd (cc h)
 
 -- the schema's own case, where it is no reference
 pub record Unrefused (p : Parts) : Type 0 where
-  pub one_type : type_array p.instance_type ≡ None
-  pub has_items : items_missing p.instance_type (items_of (level_of p)) ≡ None
+  pub one_type : types_refusal p.instance_type ≡ None
+  pub has_items : own_items_refusal p.instance_type (items_of (level_of p)) ≡ None
   pub values_right : values_refusal p.instance_type (unwrap_or p.enum_values []) ≡ None
   pub bounds_right : bounds_refusal p.number ≡ None
 
@@ -90,20 +90,20 @@ pub record HasOne (p : Parts) : Type 0 where
   pub schema : Schema
   pub one : out-Items items ≡ Items-F.One schema
 
-pub has_one : (p : Parts) → p.instance_type ≡ Some (Single Array) → items_missing p.instance_type (items_of (level_of p)) ≡ None → HasOne p
-has_one p e h = by_array p.array refl (ap (λ (t : Option InstanceTypes). items_missing t (items_of (level_of p))) (sym e) ∙ h)
+pub has_one : (p : Parts) → p.instance_type ≡ Some (Single Array) → own_items_refusal p.instance_type (items_of (level_of p)) ≡ None → HasOne p
+has_one p e h = by_array p.array refl (ap (λ (t : Option InstanceTypes). own_items_refusal t (items_of (level_of p))) (sym e) ∙ h)
   where
-    by_items : (a : ArrayParts) (i : Items) (z : ItemsLevel) → p.array ≡ Some a → a.items ≡ Some i → out-Items i ≡ z → items_missing (Some (Single Array)) (Some (items_within i)) ≡ None → HasOne p
+    by_items : (a : ArrayParts) (i : Items) (z : ItemsLevel) → p.array ≡ Some a → a.items ≡ Some i → out-Items i ≡ z → own_items_refusal (Some (Single Array)) (Some (items_within i)) ≡ None → HasOne p
     by_items a i (Items-F.One s) f g k h = record { array = a; is = f; items = i; stand = g; schema = s; one = k }
-    by_items a i (Items-F.Tuple ss) f g k h = absurd (let w : items_missing (Some (Single Array)) (Some (items_within i)) ≡ Some TupleArray = ap (λ (b : Bool). cond b (Some TupleArray) None) (by_place-is i ss k) in cc (w, h))
+    by_items a i (Items-F.Tuple ss) f g k h = absurd (let w : own_items_refusal (Some (Single Array)) (Some (items_within i)) ≡ Some TupleArray = ap (λ (b : Bool). cond b (Some TupleArray) None) (by_place-is i ss k) in cc (w, h))
 
-    by_option : (a : ArrayParts) (o : Option Items) → p.array ≡ Some a → a.items ≡ o → items_missing (Some (Single Array)) (option_map items_within o) ≡ None → HasOne p
+    by_option : (a : ArrayParts) (o : Option Items) → p.array ≡ Some a → a.items ≡ o → own_items_refusal (Some (Single Array)) (option_map items_within o) ≡ None → HasOne p
     by_option a None f g h = absurd (cc h)
     by_option a (Some i) f g h = by_items a i (out-Items i) f g refl h
 
-    by_array : (o : Option ArrayParts) → p.array ≡ o → items_missing (Some (Single Array)) (option_and_then (λ items. items) (option_map array_within o)) ≡ None → HasOne p
+    by_array : (o : Option ArrayParts) → p.array ≡ o → own_items_refusal (Some (Single Array)) (option_and_then (λ items. items) (option_map array_within o)) ≡ None → HasOne p
     by_array None f h = absurd (cc h)
-    by_array (Some a) f h = by_option a a.items f refl (ap (λ (o : Option Within). items_missing (Some (Single Array)) o) (sym (levels.array-is a)) ∙ h)
+    by_array (Some a) f h = by_option a a.items f refl (ap (λ (o : Option Within). own_items_refusal (Some (Single Array)) o) (sym (levels.array-is a)) ∙ h)
 
 -- ---- what its values and its bounds are
 

@@ -27,7 +27,7 @@ use Rattle.openapi_values.specs.Levels.{Level, is_null, as_text, as_list, as_obj
 use Rattle.openapi_values.specs.Lookup.{is_null_alone}
 use Rattle.openapi_values.specs.Objects.{Entry, object_of, reference_json}
 use Rattle.openapi_values.specs.Options.{is_none_or, is_some_and}
-use Rattle.openapi_values.specs.Refusal.{type_array, values_refusal}
+use Rattle.openapi_values.specs.Refusal.{types_refusal, values_refusal}
 use Rattle.openapi_values.specs.SchemaJson.{annotations, const_values, values_of, values_json, nothing_entries, without_values, entries_behind, object_step, type_entries, type_name}
 use Rattle.schema_meaning.specs.Accepted.{AreRead, AsksOfNoForm}
 use Rattle.schema_meaning.specs.Asked.{is_of, is_of_types, format_holds, number_holds, length_holds, array_holds, object_holds, is_string, form_holds, subschemas_hold, parts_hold}
@@ -201,8 +201,8 @@ module _ (given : Option (List ℕ)) (p : Parts) (read : AreRead p) (right : Unr
 
     by_type : (t : Option InstanceTypes) → p.instance_type ≡ t → (x : Level Json) → out-Json value ≡ x → without_values p.enum_values ≡ false → PartsOf (smaller_schemas t p) x → Outcome t x
     by_type None e x f some parts = without_any x e (no_values None p.enum_values without_type some (subst (λ (t : Option InstanceTypes). values_refusal t (unwrap_or p.enum_values []) ≡ None) e right.values_right))
-    by_type (Some (Several types)) e x f some parts = absurd (let w : type_array (Some (Several types)) ≡ None = subst (λ (t : Option InstanceTypes). type_array t ≡ None) e right.one_type in cc w)
-    by_type (Some (Single Number)) e x f some parts = absurd (let w : type_array (Some (Single Number)) ≡ None = subst (λ (t : Option InstanceTypes). type_array t ≡ None) e right.one_type in cc w)
+    by_type (Some (Several types)) e x f some parts = absurd (let w : types_refusal (Some (Several types)) ≡ None = subst (λ (t : Option InstanceTypes). types_refusal t ≡ None) e right.one_type in cc w)
+    by_type (Some (Single Number)) e x f some parts = absurd (let w : types_refusal (Some (Single Number)) ≡ None = subst (λ (t : Option InstanceTypes). types_refusal t ≡ None) e right.one_type in cc w)
     by_type (Some (Single Null)) e x f some parts = of_null x f e some (subst (λ (t : Option InstanceTypes). values_refusal t (unwrap_or p.enum_values []) ≡ None) e right.values_right)
     by_type (Some (Single Boolean)) e x f some parts = by_rows Boolean x (other_form Boolean refl) refl (boolean_means given p read value smaller next means no_truth truth_kept) parts
     by_type (Some (Single String)) e x f some parts = of_text x parts Null_alone refl

@@ -176,7 +176,7 @@ fn copy_text(alloc: Global, text: &Option<Text>) -> Result<Option<Text>, AllocEr
     }
 }
 
-fn copy_texts(alloc: Global, texts: &[Text]) -> Result<List<Text>, AllocError>
+pub(crate) fn copy_texts(alloc: Global, texts: &[Text]) -> Result<List<Text>, AllocError>
     ensures { IfOk result (λ copies. copies ≡ texts.now) }
 {
     let mut copies = List::new(alloc);

@@ -128,7 +128,8 @@ fn whole_number(number: &Number) -> Option<i128>
 #[cycle(to_value)]
 fn values_of_items(alloc: Global, items: &[Json]) -> Result<Vec<Value>, AllocError>
     requires sound { AllByRecursion IsSound items.now }
-    ensures { IfOk result (λ values. items_of (items_view values.items) ≡ Some (map sorted_members items.now)) }
+    ensures { IfOk result (λ values. items_of (items_view values.items)
+        ≡ Some (map sorted_members items.now)) }
 {
     let mut values = Vec::new(alloc);
     for item in items {

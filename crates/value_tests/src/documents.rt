@@ -273,6 +273,7 @@ fn document(alloc: Global, schema: &Json) -> Result<OpenApi, AllocError> {
         version,
     };
     Ok(OpenApi {
+        openapi: text(alloc, "3.0.3")?,
         info,
         paths,
         components,

@@ -57,6 +57,7 @@ fn tag(alloc: Global) -> Result<TagObject, AllocError> {
 fn response(alloc: Global) -> Result<ResponseObject, AllocError> {
     let header = HeaderObject {
         description: told(alloc, "h")?,
+        style: text(alloc, "simple")?,
         required: true,
         schema: anything(alloc),
     };
@@ -173,6 +174,7 @@ fn tagged(alloc: Global) -> Result<OpenApi, AllocError> {
     let mut tags = list(alloc, tag(alloc)?)?;
     tags.push(untold_tag(alloc)?)?;
     Ok(OpenApi {
+        openapi: text(alloc, "3.0.3")?,
         info: untold_info(alloc, None)?,
         paths: List::new(alloc),
         components: Components {
@@ -193,12 +195,13 @@ fn optional_parameter(alloc: Global) -> Result<Parameter, AllocError> {
     })
 }
 
-fn optional_header(alloc: Global) -> HeaderObject {
-    HeaderObject {
+fn optional_header(alloc: Global) -> Result<HeaderObject, AllocError> {
+    Ok(HeaderObject {
         description: None,
+        style: text(alloc, "simple")?,
         required: false,
         schema: anything(alloc),
-    }
+    })
 }
 
 fn no_body(alloc: Global) -> RequestBody {
@@ -280,7 +283,7 @@ fn members_are_left_out(rt: HostRuntime) -> Result<(), Fail> {
             r#"{"in":"header","name":"x-a","schema":{}}"#,
         ),
         (
-            written(alloc, &optional_header(alloc))?,
+            written(alloc, &optional_header(alloc)?)?,
             r#"{"style":"simple","schema":{}}"#,
         ),
         (written(alloc, &no_body(alloc))?, "{}"),

@@ -15,7 +15,7 @@ use Rattle.schema_values.specs.declared.schema.Schema.{Schema, Bool as Truth}
 use Rattle.schema_values.specs.declared.schema.SchemaObject.{SchemaObject-F, roll-SchemaObject, out-roll-SchemaObject}
 use Rattle.schema_values.specs.declared.schema.Subschemas.{Subschemas, roll-Subschemas}
 use Rattle.openapi_values.specs.declared.j2oas.J2oasError.TheVariants.{BadEnumValue, BadSubschema}
-use Rattle.openapi_values.specs.Refusal.{Refusal, Within, Level, first_of, items_missing, is_value_of, values_refusal, bounds_refusal, object_step, refusal_of, array_within, object_parts_refusal, property_refusal, subschemas_inner}
+use Rattle.openapi_values.specs.Refusal.{Refusal, Within, Level, first_of, own_items_refusal, is_value_of, values_refusal, bounds_refusal, object_step, refusal_of, array_within, object_parts_refusal, property_refusal, subschemas_inner}
 use Rattle.openapi_values.proofs.RefusalLevels.{truth-is, object-is, item-is, property-is, array-is, object_parts-are, one_kind-is, inner-is, parts-are}
 use Rattle.typed_values.specs.declared.desc.Desc.{Desc}
 use Rattle.typed_values.specs.declared.desc.Desc.TheOpen.{Desc-F}
@@ -107,7 +107,7 @@ list_taken : (p : Parts) (min max : Option ℕ) → Taken p → Taken (list_of (
 list_taken p min max h =
     let array = roll-ArrayParts (record { items = Some (One (object_of p)); min = min; max = max }) in
     by_parts (list_of (object_of p) min max)
-    ∙ ap (λ (items : Option Within). option_or (first_of (items_missing (Some (Single Array)) items ∷ [])) (option_or (option_and_then (λ items. items.refusal) items) None))
+    ∙ ap (λ (items : Option Within). option_or (first_of (own_items_refusal (Some (Single Array)) items ∷ [])) (option_or (option_and_then (λ items. items.refusal) items) None))
     (array-is array ∙ ap (λ (items : Within). Some items) (item-is (object_of p) ∙ ap (λ (r : Refusal). record { by_place = false; refusal = r }) h))
 
 -- an object of which neither a property nor the schema of other members is refused

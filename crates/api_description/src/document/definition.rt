@@ -78,6 +78,7 @@ impl OpenApiDefinition<'_> {
     {
         let endpoints = self.api.endpoints();
         let document = OpenApi {
+            openapi: Text::from_ascii(alloc, "3.0.3")?,
             info: Info {
                 title: self.title.copy(alloc)?,
                 description: None,

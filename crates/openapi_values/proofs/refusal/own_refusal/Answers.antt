@@ -1,7 +1,7 @@
 use Rattle.std.proofs.Common.{◌≡◌, List, [], ◌∷◌, ◌++◌, None, Some, unwrap_or, rules, refl, sym, ap, ◌∙◌}
 use Rattle.std.specs.Option.{option_or}
 use Rattle.schema_values.specs.declared.schema.SchemaObject.{out-SchemaObject}
-use Rattle.openapi_values.specs.Refusal.{Refusal, first_of, object_level, items_of, items_missing, const_among, const_alone, values_refusal, bounds_refusal, kinds_refusal}
+use Rattle.openapi_values.specs.Refusal.{Refusal, first_of, object_level, items_of, own_items_refusal, enum_conflict, const_unsupported, values_refusal, bounds_refusal, kinds_refusal}
 use Rattle.openapi_values.proofs.refusal.own_refusal.Goals as goal
 
 -- the answer is the first refusal of those that were asked
@@ -23,9 +23,9 @@ returns c =
     let level = object_level c.args.schema.now in
     let none : First [] None = record { is = refl } in
     let types = next none _ _ c.types_refusal.ensures in
-    let items = next types (items_missing schema.instance_type (items_of level)) c.or_else.result (search rules) in
-    let among = next items (const_among schema.const_value schema.enum_values) c.or_else-2.result (search rules) in
-    let alone = next among (const_alone schema.const_value schema.instance_type level.subschemas) c.or_else-3.result (search rules) in
+    let items = next types (own_items_refusal schema.instance_type (items_of level)) c.or_else.result (search rules) in
+    let among = next items (enum_conflict schema.const_value schema.enum_values) c.or_else-2.result (search rules) in
+    let alone = next among (const_unsupported schema.const_value schema.instance_type level.subschemas) c.or_else-3.result (search rules) in
     let values = next alone (values_refusal schema.instance_type (unwrap_or schema.enum_values [])) c.or_else-4.result (search rules) in
     let bounds = next values (bounds_refusal schema.number) c.or_else-5.result (search rules) in
     (next bounds (kinds_refusal schema.instance_type level.subschemas) c.or_else-6.result (search rules)).is

@@ -12,7 +12,7 @@ pub returns : goal.returns
 unfolding open_api_json
 returns c =
     let document = c.args.self.now in
-    let written_1 = first (codes "openapi") (Some (Text (codes "3.0.3"))) _ _ _ c.in_ok-add.ensures (ap (λ text. Some (Text text)) c.in_ok-from_ascii.ensures) in
+    let written_1 = first (codes "openapi") (Some (Text document.openapi)) _ _ _ c.in_ok-add.ensures (ap Some c.in_ok-openapi.ensures) in
     let written_2 = added written_1 (codes "info") (Some (info_json document.info)) _ _ c.in_ok-add-2.ensures (ap Some c.in_ok-info.ensures) in
     let written_3 = added written_2 (codes "paths") (Some (Object (map_members path_item_json document.paths))) _ _ c.in_ok-add-3.ensures (ap (λ ms. Some (Object ms)) c.in_ok-map_json.ensures) in
     let written_4 = added written_3 (codes "components") (Some (components_json document.components)) _ _ c.in_ok-add-4.ensures (ap Some c.in_ok-components.ensures) in
