@@ -1,6 +1,6 @@
 //! Questions about small schemas.
 
+mod forms;
 mod questions;
 mod scalar;
-mod schemas;
 mod struct_members;

@@ -77,6 +77,7 @@ impl OpenApiDefinition<'_> {
             self.now.title (parts_of self.now.version)) }
     {
         let endpoints = self.api.endpoints();
+        let tags = List::new(alloc);
         let document = OpenApi {
             openapi: Text::from_ascii(alloc, "3.0.3")?,
             info: Info {
@@ -89,7 +90,7 @@ impl OpenApiDefinition<'_> {
             },
             paths: paths(alloc, endpoints, &self.version)?,
             components: components(alloc, endpoints, &self.version)?,
-            tags: List::new(alloc),
+            tags,
         };
         document.to_json(alloc)
     }

@@ -1,134 +1,154 @@
 //! Which small schemas are those of scalar values, of texts and of lists of texts.
 
-use super::schemas::{
-    all_of, any_of, combined, define, list_of, not, one, one_of, reference, text, two, typed,
-};
+use super::forms::Form::{AllOf, AnyOf, ListByPlace, ListOf, Listed, Not, Of, OneOf, Struct};
+use super::forms::Inner::{Bare, Every, Texts, To, Typed};
+use super::forms::{Form, define, schema};
 use crate::{ScalarError, type_is_scalar, type_is_string, type_is_string_enum};
-use schema_values::{Definitions, InstanceType, List, Schema};
+use schema_values::InstanceType as Kind;
 use std::test::Fail;
+
+type Answer = Result<(), ScalarError<'static>>;
+
+const FITS: Answer = Ok(());
+
+const NO_SCALAR: Answer = Err(ScalarError::NotScalar);
+
+const NO_TEXT: Answer = Err(ScalarError::NotStringList);
+
+const TEXT: super::forms::Inner = Typed(Kind::String);
+
+const DEFINITIONS: [(&str, Form); 8] = [
+    ("T", Of(TEXT)),
+    ("L", ListOf(To("#/components/schemas/T"))),
+    ("A", Of(To("#/components/schemas/A"))),
+    ("All", AllOf(&[To("#/components/schemas/All")])),
+    ("Any", AnyOf(&[To("#/components/schemas/Any")])),
+    ("One", OneOf(&[TEXT, To("#/components/schemas/One")])),
+    ("Elsewhere", Of(To("#/definitions/T"))),
+    ("O", Of(Typed(Kind::Object))),
+];
+
+// A schema, whether it is that of scalar values, and whether it is that of texts.
+const TYPES: [(Form, Answer, Answer); 31] = [
+    (Of(TEXT), FITS, FITS),
+    (Of(Typed(Kind::Boolean)), FITS, NO_TEXT),
+    (Of(Typed(Kind::Number)), FITS, NO_TEXT),
+    (Of(Typed(Kind::Integer)), FITS, NO_TEXT),
+    (Listed, FITS, NO_TEXT),
+    (Of(Typed(Kind::Null)), NO_SCALAR, NO_TEXT),
+    (Of(Typed(Kind::Object)), NO_SCALAR, NO_TEXT),
+    (Of(Typed(Kind::Array)), NO_SCALAR, NO_TEXT),
+    (Struct(&["a"], &[]), NO_SCALAR, NO_TEXT),
+    (Of(Texts), NO_SCALAR, NO_TEXT),
+    (Of(Every), NO_SCALAR, NO_TEXT),
+    (Of(Bare), NO_SCALAR, NO_TEXT),
+    (AllOf(&[TEXT]), FITS, FITS),
+    (AnyOf(&[TEXT]), FITS, FITS),
+    (OneOf(&[TEXT, TEXT]), FITS, FITS),
+    (OneOf(&[TEXT, Typed(Kind::Boolean)]), FITS, NO_TEXT),
+    (OneOf(&[]), FITS, FITS),
+    (AllOf(&[]), NO_SCALAR, NO_TEXT),
+    (AnyOf(&[]), NO_SCALAR, NO_TEXT),
+    (AllOf(&[TEXT, TEXT]), NO_SCALAR, NO_TEXT),
+    (AnyOf(&[TEXT, TEXT]), NO_SCALAR, NO_TEXT),
+    (Not(TEXT), NO_SCALAR, NO_TEXT),
+    (Of(To("#/components/schemas/T")), FITS, FITS),
+    (
+        Of(To("#/components/schemas/N")),
+        Err(ScalarError::Dangling("N")),
+        Err(ScalarError::Dangling("N")),
+    ),
+    (
+        Of(To("#/components/schemas/Elsewhere")),
+        Err(ScalarError::Dangling("#/definitions/T")),
+        Err(ScalarError::Dangling("#/definitions/T")),
+    ),
+    (
+        AllOf(&[To("#/components/schemas/All")]),
+        Err(ScalarError::Cycle("All")),
+        Err(ScalarError::Cycle("All")),
+    ),
+    (
+        Of(To("#/components/schemas/All")),
+        Err(ScalarError::Cycle("All")),
+        Err(ScalarError::Cycle("All")),
+    ),
+    (
+        Of(To("#/components/schemas/Any")),
+        Err(ScalarError::Cycle("Any")),
+        Err(ScalarError::Cycle("Any")),
+    ),
+    (
+        Of(To("#/components/schemas/One")),
+        Err(ScalarError::Cycle("One")),
+        Err(ScalarError::Cycle("One")),
+    ),
+    (
+        Of(To("#/components/schemas/A")),
+        Err(ScalarError::Cycle("A")),
+        Err(ScalarError::Cycle("A")),
+    ),
+    (Of(To("#/components/schemas/O")), NO_SCALAR, NO_TEXT),
+];
+
+// A schema of two, and the first fault from the left.
+const FROM_THE_LEFT: [(Form, Answer); 4] = [
+    (
+        OneOf(&[To("#/components/schemas/A"), To("#/components/schemas/N")]),
+        Err(ScalarError::Cycle("A")),
+    ),
+    (
+        OneOf(&[To("#/components/schemas/N"), To("#/components/schemas/A")]),
+        Err(ScalarError::Dangling("N")),
+    ),
+    (
+        OneOf(&[To("#/components/schemas/T"), To("#/components/schemas/N")]),
+        Err(ScalarError::Dangling("N")),
+    ),
+    (
+        OneOf(&[Typed(Kind::Object), To("#/components/schemas/N")]),
+        NO_SCALAR,
+    ),
+];
+
+// A schema, and whether it is that of lists of texts.
+const LISTS: [(Form, Answer); 13] = [
+    (ListOf(TEXT), FITS),
+    (ListOf(To("#/components/schemas/T")), FITS),
+    (Of(To("#/components/schemas/L")), FITS),
+    (ListOf(Typed(Kind::Integer)), NO_TEXT),
+    (ListByPlace(TEXT), NO_TEXT),
+    (Of(To("#/components/schemas/T")), NO_TEXT),
+    (Of(Typed(Kind::Array)), NO_TEXT),
+    (Of(TEXT), NO_TEXT),
+    (AllOf(&[Texts]), NO_TEXT),
+    (
+        ListOf(To("#/components/schemas/N")),
+        Err(ScalarError::Dangling("N")),
+    ),
+    (
+        ListOf(To("#/components/schemas/A")),
+        Err(ScalarError::Cycle("A")),
+    ),
+    (
+        Of(To("#/components/schemas/A")),
+        Err(ScalarError::Cycle("A")),
+    ),
+    (Of(To("elsewhere")), Err(ScalarError::Dangling("elsewhere"))),
+];
 
 #[test]
 fn types_are_scalar_or_texts_or_neither(rt: HostRuntime) -> Result<(), Fail> {
     let alloc = rt.alloc();
-    let definitions = Definitions::new(alloc);
-    let fits = Ok(());
-    let no_scalar = Err(ScalarError::NotScalar);
-    let no_text = Err(ScalarError::NotStringList);
-    let rows = [
-        (text(alloc)?, fits, fits),
-        (typed(alloc, InstanceType::Boolean)?, fits, no_text),
-        (typed(alloc, InstanceType::Number)?, fits, no_text),
-        (typed(alloc, InstanceType::Integer)?, fits, no_text),
-        (typed(alloc, InstanceType::Null)?, no_scalar, no_text),
-        (typed(alloc, InstanceType::Object)?, no_scalar, no_text),
-        (typed(alloc, InstanceType::Array)?, no_scalar, no_text),
-        (list_of(alloc, text(alloc)?)?, no_scalar, no_text),
-        (Schema::Bool(true), no_scalar, no_text),
-    ];
-    for (schema, scalar, string) in rows {
-        assert_eq!(rt; type_is_scalar(&schema, &definitions), scalar);
-        assert_eq!(rt; type_is_string(&schema, &definitions), string);
-    }
-    Ok(())
-}
-
-#[test]
-fn one_schema_of_all_or_any_is_tested_and_each_of_one_of(rt: HostRuntime) -> Result<(), Fail> {
-    let alloc = rt.alloc();
-    let definitions = Definitions::new(alloc);
-    let fits = Ok(());
-    let differs = Err(ScalarError::NotStringList);
-    let rows = [
-        (all_of(one(alloc, text(alloc)?)?), fits),
-        (any_of(one(alloc, text(alloc)?)?), fits),
-        (one_of(two(alloc, text(alloc)?, text(alloc)?)?), fits),
-        (one_of(List::new(alloc)), fits),
-        (all_of(List::new(alloc)), differs),
-        (any_of(List::new(alloc)), differs),
-        (all_of(two(alloc, text(alloc)?, text(alloc)?)?), differs),
-        (any_of(two(alloc, text(alloc)?, text(alloc)?)?), differs),
-        (not(text(alloc)?), differs),
-    ];
-    for (subschemas, wanted) in rows {
-        let schema = combined(alloc, None, subschemas)?;
-        assert_eq!(rt; type_is_string(&schema, &definitions), wanted);
-        let scalar = type_is_scalar(&schema, &definitions);
-        assert_eq!(rt; scalar.is_ok(), wanted.is_ok());
-    }
-    Ok(())
-}
-
-#[test]
-fn lists_of_texts_or_not(rt: HostRuntime) -> Result<(), Fail> {
-    let alloc = rt.alloc();
-    let mut definitions = Definitions::new(alloc);
-    define(alloc, &mut definitions, "T", text(alloc)?)?;
-    let item = reference(alloc, "#/components/schemas/T")?;
-    define(alloc, &mut definitions, "L", list_of(alloc, item)?)?;
-    define(
-        alloc,
-        &mut definitions,
-        "A",
-        reference(alloc, "#/components/schemas/A")?,
-    )?;
-    let missing = reference(alloc, "#/components/schemas/N")?;
-    let around = reference(alloc, "#/components/schemas/A")?;
-    let wrapped = all_of(one(alloc, list_of(alloc, text(alloc)?)?)?);
-    let differs = Err(ScalarError::NotStringList);
-    let rows = [
-        (list_of(alloc, text(alloc)?)?, Ok(())),
-        (reference(alloc, "#/components/schemas/L")?, Ok(())),
-        (
-            list_of(alloc, typed(alloc, InstanceType::Integer)?)?,
-            differs,
-        ),
-        (reference(alloc, "#/components/schemas/T")?, differs),
-        (typed(alloc, InstanceType::Array)?, differs),
-        (text(alloc)?, differs),
-        (combined(alloc, None, wrapped)?, differs),
-        (list_of(alloc, missing)?, Err(ScalarError::Dangling("N"))),
-        (list_of(alloc, around)?, Err(ScalarError::Cycle("A"))),
-        (
-            reference(alloc, "#/components/schemas/A")?,
-            Err(ScalarError::Cycle("A")),
-        ),
-        (
-            reference(alloc, "elsewhere")?,
-            Err(ScalarError::Dangling("elsewhere")),
-        ),
-    ];
-    for (schema, wanted) in rows {
-        assert_eq!(rt; type_is_string_enum(&schema, &definitions), wanted);
-    }
-    Ok(())
-}
-
-#[test]
-fn a_type_test_ends_on_a_schema_of_itself(rt: HostRuntime) -> Result<(), Fail> {
-    let alloc = rt.alloc();
-    let mut definitions = Definitions::new(alloc);
-    let all = all_of(one(alloc, reference(alloc, "#/components/schemas/All")?)?);
-    define(alloc, &mut definitions, "All", combined(alloc, None, all)?)?;
-    let any = any_of(one(alloc, reference(alloc, "#/components/schemas/Any")?)?);
-    define(alloc, &mut definitions, "Any", combined(alloc, None, any)?)?;
-    let last = reference(alloc, "#/components/schemas/One")?;
-    let first = one_of(two(alloc, text(alloc)?, last)?);
-    define(
-        alloc,
-        &mut definitions,
-        "One",
-        combined(alloc, None, first)?,
-    )?;
-    let rows = [
-        ("#/components/schemas/All", "All"),
-        ("#/components/schemas/Any", "Any"),
-        ("#/components/schemas/One", "One"),
-    ];
-    for (to, name) in rows {
-        let schema = reference(alloc, to)?;
-        let cycle = Err(ScalarError::Cycle(name));
-        assert_eq!(rt; type_is_scalar(&schema, &definitions), cycle);
-        assert_eq!(rt; type_is_string(&schema, &definitions), cycle);
+    let definitions = define(alloc, &DEFINITIONS)?;
+    for (form, scalar, text) in &TYPES {
+        let asked = schema(alloc, *form)?;
+        assert_eq!(rt;
+            type_is_scalar(&asked, &definitions),
+            *scalar,
+            "at {form:?}"
+        );
+        assert_eq!(rt; type_is_string(&asked, &definitions), *text, "at {form:?}");
     }
     Ok(())
 }
@@ -136,43 +156,29 @@ fn a_type_test_ends_on_a_schema_of_itself(rt: HostRuntime) -> Result<(), Fail> {
 #[test]
 fn the_first_fault_is_told_from_the_left(rt: HostRuntime) -> Result<(), Fail> {
     let alloc = rt.alloc();
-    let mut definitions = Definitions::new(alloc);
-    define(
-        alloc,
-        &mut definitions,
-        "A",
-        reference(alloc, "#/components/schemas/A")?,
-    )?;
-    define(alloc, &mut definitions, "T", text(alloc)?)?;
-    let rows = [
-        (
-            "#/components/schemas/A",
-            "#/components/schemas/N",
-            Err(ScalarError::Cycle("A")),
-        ),
-        (
-            "#/components/schemas/N",
-            "#/components/schemas/A",
-            Err(ScalarError::Dangling("N")),
-        ),
-        (
-            "#/components/schemas/T",
-            "#/components/schemas/N",
-            Err(ScalarError::Dangling("N")),
-        ),
-        ("#/components/schemas/T", "#/components/schemas/T", Ok(())),
-    ];
-    for (left, right, wanted) in rows {
-        let members = two(alloc, reference(alloc, left)?, reference(alloc, right)?)?;
-        let schema = combined(alloc, None, one_of(members))?;
-        assert_eq!(rt; type_is_scalar(&schema, &definitions), wanted);
+    let definitions = define(alloc, &DEFINITIONS)?;
+    for (form, expected) in &FROM_THE_LEFT {
+        let asked = schema(alloc, *form)?;
+        assert_eq!(rt;
+            type_is_scalar(&asked, &definitions),
+            *expected,
+            "at {form:?}"
+        );
     }
-    let object = typed(alloc, InstanceType::Object)?;
-    let members = two(alloc, object, reference(alloc, "#/components/schemas/N")?)?;
-    let schema = combined(alloc, None, one_of(members))?;
-    assert_eq!(rt;
-        type_is_scalar(&schema, &definitions),
-        Err(ScalarError::NotScalar)
-    );
+    Ok(())
+}
+
+#[test]
+fn lists_of_texts_or_not(rt: HostRuntime) -> Result<(), Fail> {
+    let alloc = rt.alloc();
+    let definitions = define(alloc, &DEFINITIONS)?;
+    for (form, expected) in &LISTS {
+        let asked = schema(alloc, *form)?;
+        assert_eq!(rt;
+            type_is_string_enum(&asked, &definitions),
+            *expected,
+            "at {form:?}"
+        );
+    }
     Ok(())
 }
