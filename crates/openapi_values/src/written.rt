@@ -12,6 +12,7 @@ ghost use Rattle.openapi_values.specs.SchemaJson.{items_written, array_written, 
 ghost use Rattle.openapi_values.specs.SchemaJson.{property_written, subschemas_written};
 
 use crate::objects::{add, reference};
+use crate::part::list_unless_empty;
 use crate::schema_parts::{
     add_annotations, add_const, add_nothing, add_null, add_number, add_text, add_values,
     count_json, is_without_values, truth_json, type_text,
