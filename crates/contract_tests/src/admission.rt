@@ -7,7 +7,7 @@ use std::collections::BTreeMap;
 use std::test::Fail;
 
 // A path, a method and a body, and whether the document of the sample API admits such a request.
-const CASES: [(&str, &str, &str, bool); 5] = [
+const CASES: [(&str, &str, &str, bool); 6] = [
     ("/points", "POST", r#"{"label":"a","n":7,"on":true}"#, true),
     ("/points", "POST", r#"{"label":"","n":7,"on":true}"#, false),
     (
@@ -16,6 +16,7 @@ const CASES: [(&str, &str, &str, bool); 5] = [
         r#"{"label":"a","n":7,"on":true} x"#,
         false,
     ),
+    ("/points", "POST", r#"{"label":"a""#, false),
     ("/points", "GET", "", false),
     ("/circles", "POST", "{}", false),
 ];
@@ -29,13 +30,15 @@ fn request(alloc: Global, body: &str) -> Result<WireRequest, AllocError> {
     })
 }
 
+fn is_admitted(alloc: Global, path: &str, method: &str, body: &str) -> Result<bool, Fail> {
+    let doc = Json::read(alloc, document_and(alloc, &[])?.as_slice())?;
+    Ok(check_admits(alloc, &doc, path, method, &request(alloc, body)?)?)
+}
+
 #[test]
 fn the_document_admits_what_is_handled(rt: HostRuntime) -> Result<(), Fail> {
-    let alloc = rt.alloc();
-    let doc = Json::read(alloc, document_and(alloc, &[])?.as_slice())?;
     for (path, method, body, expected) in &CASES {
-        let sent = request(alloc, body)?;
-        let admitted = check_admits(alloc, &doc, path, method, &sent)?;
+        let admitted = is_admitted(rt.alloc(), path, method, body)?;
         assert_eq!(rt; admitted, *expected, "at {method} {path} {body}");
     }
     Ok(())
