@@ -18,6 +18,7 @@ use Rattle.typed_values.specs.Reached.{Mentions}
 use Rattle.openapi_values.specs.declared.document.OpenApi.{OpenApi}
 use Rattle.openapi_values.specs.declared.media.RequestBody.{RequestBody}
 use Rattle.openapi_values.specs.Admits.{Admits, operation_at as listed_at}
+use Rattle.openapi_values.specs.declared.request.WireRequest.{WireRequest}
 use Rattle.openapi_values.specs.Find.{value_at, operation_in}
 use Rattle.openapi_values.specs.Operation.{operation_json}
 use Rattle.openapi_values.proofs.Stands.{definition-stands, bodies-admitted}
@@ -34,7 +35,7 @@ use Rattle.api_description.specs.declared.api_extract.slot.Arg.TheVariants.{Tree
 use Rattle.api_description.specs.declared.api_extract.slot.Slot.{Slot}
 use Rattle.api_description.specs.declared.api_extract.slot.Slot.TheVariants.{TypedBody}
 use Rattle.api_description.specs.declared.endpoint.ApiEndpoint.{ApiEndpoint}
-use Rattle.api_description.specs.Agreement.{IsTaken}
+use Rattle.api_description.specs.Agreement.{IsAdmitted, IsTaken, SendsJson}
 use Rattle.api_description.specs.Documents.{text_order, media, body_of, operation_of, is_among, roots_of_slot, roots_of_content, roots_of_error, roots_of, open_api_of, document_of}
 use Rattle.api_description.specs.Endpoints.{Meanings, shape_at, served_path, serves, endpoint_for}
 use Rattle.api_description.specs.Exchanges.{named_by}
@@ -56,6 +57,9 @@ body_with kind table desc name = record { content = media (mime_of kind) (schema
 under_json : (kind : ApiEndpointBodyContentType) (table : List Definition) (desc : Desc) (name : List ℕ)
     → value_at (codes "application/json") (body_with kind table desc name).content ≡ Some (record { schema = schema_json_titled table name desc })
 under_json JsonBody table desc name = refl
+
+no_bytes : (kind : ApiEndpointBodyContentType) (table : List Definition) (desc : Desc) (name : List ℕ) → value_at (codes "application/octet-stream") (body_with kind table desc name).content ≡ None
+no_bytes JsonBody table desc name = refl
 
 -- one slot is given one argument
 one_given : (table : List Definition) (body : List ℕ) (desc : Desc) (name : List ℕ) (slots : List Slot) → slots ≡ TypedBody desc name ∷ []
@@ -107,15 +111,15 @@ module _ {X : Type 0} {F : X → Type 0} (m : Meanings X F) (e : ApiEndpoint X F
 
   module _ (path method : List ℕ) (listed : operation_in open_api path method ≡ Some (operation_of m e)) where
     -- the document admits a body exactly where it denotes a tree
-    body_agrees : (body : List ℕ) → Admits doc path method (record { body = body }) ↔ ((tree : Tree) × BodyDenotes table desc body tree)
-    body_agrees body =
-        let admitted = bodies-admitted open_api path method (operation_of m e) (body_with e.body_content_type table desc name) (record { schema = schema }) (record { body = body }) listed has_body (under_json e.body_content_type table desc name) in
+    body_agrees : (body : List ℕ) (sent : WireRequest) → SendsJson sent body → Admits doc path method sent ↔ ((tree : Tree) × BodyDenotes table desc body tree)
+    body_agrees body sent (typed, is) =
+        let admitted = bodies-admitted open_api path method (operation_of m e) (body_with e.body_content_type table desc name) (record { schema = schema }) sent listed has_body (under_json e.body_content_type table desc name) (no_bytes e.body_content_type table desc name) in
         let denoted = λ (json : Json) (reads : Reads body json). titled_agrees doc table desc written name json (reading_sound body json reads) in (
-          λ a. let read = admitted.0 a in let tree = (denoted read.0 read.1).0 read.2 in (tree.0, (read.0, read.1, tree.1)),
-          λ d. let (json, reads, denotes) = d.1 in admitted.1 (json, reads, (denoted json reads).1 (d.0, denotes)),
+          λ a. let read = admitted.0 a in let reads = subst (λ b. Reads b read.3) is read.4 in let tree = (denoted read.3 reads).0 read.5 in (tree.0, (read.3, reads, tree.1)),
+          λ d. let (json, reads, denotes) = d.1 in admitted.1 (refl, refl, typed, json, subst (λ b. Reads b json) (sym is) reads, (denoted json reads).1 (d.0, denotes)),
         )
 
-module _ {X : Type 0} {F : X → Type 0} (m : Meanings X F) (title : List ℕ) (version : Parts) (request : RequestParts) (body : List ℕ) (asked : parts_of request.version ≡ version) where
+module _ {X : Type 0} {F : X → Type 0} (m : Meanings X F) (title : List ℕ) (version : Parts) (request : RequestParts) (body : List ℕ) (sent : WireRequest) (sends : SendsJson sent body) (asked : parts_of request.version ≡ version) where
   abbrev method : List ℕ
   method = request.info.method
 
@@ -127,7 +131,7 @@ module _ {X : Type 0} {F : X → Type 0} (m : Meanings X F) (title : List ℕ) (
 
   -- what is said of one request
   abbrev pub Agrees : List (ApiEndpoint X F) → Type 0
-  Agrees es = Admits (document_of m es title version) path method (record { body = body }) ↔ IsTaken m es request body
+  Agrees es = IsAdmitted (document_of m es title version) request sent ↔ IsTaken m es request body
 
   same_named : (es : List (ApiEndpoint X F)) → endpoint_for version method (encode_utf8_all path) es ≡ named_by request es
   same_named es = ap (λ (path : List ℕ). endpoint_for version method path es) (sym (trimmed-encoded request.template)) ∙ ap (λ (v : Parts). endpoint_for v method template es) (sym asked)
@@ -147,7 +151,7 @@ module _ {X : Type 0} {F : X → Type 0} (m : Meanings X F) (title : List ℕ) (
   named e may held known is (TypedBody desc name) slots =
       let listed : operation_in (open_api_of m (e ∷ []) title version) path method ≡ Some (operation_of m e) =
       operation_listed m version (e ∷ []) title path method known ∙ ap (option_map (operation_of m)) (same_named (e ∷ []) ∙ is) in
-      let admitted = body_agrees m e title version may held desc name slots path method listed body in
+      let admitted = body_agrees m e title version may held desc name slots path method listed body sent sends in
       let given = one_given (shape_at m e).table body desc name (shape_at m e).slots slots in (
         λ a. let args = given.1 (admitted.0 a) in (e, is, args.0, args.1),
         λ t.

@@ -78,7 +78,7 @@ module _ {X : Type 0} {F : X → Type 0} (m : Meanings X F) (config : ServerConf
   -- and so exactly where a document admits it that agrees with the endpoints
   pub answers_follow : (version : Parts) (document : Json) → IsAgreed m version endpoints document → parts_of request.version ≡ version
       → (outcome : Result Exchange ExchangeError) → Answers m config endpoints request body before outcome after → FollowsDocument document request body outcome
-  answers_follow version document agreed asked outcome answers id told =
+  answers_follow version document agreed asked outcome answers id told sent sends =
       let taken = answers_taken outcome answers id told in
-      let admitted = agreed request body asked in
+      let admitted = agreed request body sent sends asked in
       (λ handled. admitted.1 (taken.0 handled), λ a. taken.1 (admitted.0 a))

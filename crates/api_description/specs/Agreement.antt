@@ -5,6 +5,8 @@ use Rattle.std.specs.declared.result.Result.TheVariants.{Ok, Err}
 use Rattle.std.specs.Str.{encode_utf8_all}
 use Rattle.schema_values.specs.declared.json_value.Json.{Json}
 use Rattle.openapi_values.specs.Admits.{operation_at as listed_at, Admits}
+use Rattle.openapi_values.specs.declared.request.WireRequest.{WireRequest}
+use Rattle.openapi_values.specs.MediaTypes.{HasJsonType}
 use Rattle.openapi_values.specs.Operation.{operation_json}
 use Rattle.semver.specs.Identifiers.{parts_of}
 use Rattle.semver.specs.Parse.{Parts}
@@ -31,14 +33,18 @@ abbrev pub IsTaken : {X : Type 0} {F : X → Type 0} → Meanings X F → List (
 IsTaken m endpoints request body = (e : ApiEndpoint _ _) × (named_by request endpoints ≡ Some e)
     × (args : List Arg) × ArgsDenoted (shape_at m e).table body (shape_at m e).slots args
 
--- the document admits this request with this body, at its template without a slash at the end
-abbrev pub IsAdmitted : Json → RequestParts → List ℕ → Type 0
-IsAdmitted document request body = Admits document (trimmed request.template) request.info.method (record { body = body })
+-- a request as it comes in has a media type of JSON, and this body
+abbrev pub SendsJson : WireRequest → List ℕ → Type 0
+SendsJson sent body = HasJsonType sent.headers × (sent.body ≡ body)
 
--- the document admits a request of the version exactly where an endpoint takes it
+-- the document admits what was sent for this request, at its template without a slash at the end
+abbrev pub IsAdmitted : Json → RequestParts → WireRequest → Type 0
+IsAdmitted document request sent = Admits document (trimmed request.template) request.info.method sent
+
+-- the document admits a request of the version, sent with a media type of JSON, exactly where an endpoint takes it
 abbrev pub IsAgreed : {X : Type 0} {F : X → Type 0} → Meanings X F → Parts → List (ApiEndpoint X F) → Json → Type 0
-IsAgreed m version endpoints document = (request : RequestParts) (body : List ℕ) → parts_of request.version ≡ version
-    → IsAdmitted document request body ↔ IsTaken m endpoints request body
+IsAgreed m version endpoints document = (request : RequestParts) (body : List ℕ) (sent : WireRequest) → SendsJson sent body → parts_of request.version ≡ version
+    → IsAdmitted document request sent ↔ IsTaken m endpoints request body
 
 -- the handler was called on the request
 abbrev pub IsHandled : Result Exchange ExchangeError → Type 0
@@ -46,6 +52,7 @@ IsHandled (Ok (Handled args reply response)) = ⊤
 IsHandled (Ok (Refused fault response)) = ⊥
 IsHandled (Err error) = ⊥
 
--- a request with a valid id that is answered, so not lost for want of memory, is handled exactly where the document admits it
+-- a request with a valid id that is answered, so not lost for want of memory, is handled exactly where the document admits what was sent for it, with a media type of JSON
 abbrev pub FollowsDocument : Json → RequestParts → List ℕ → Result Exchange ExchangeError → Type 0
-FollowsDocument document request body outcome = HasId request → outcome ≢ Err OutOfMemory → IsHandled outcome ↔ IsAdmitted document request body
+FollowsDocument document request body outcome = HasId request → outcome ≢ Err OutOfMemory
+    → (sent : WireRequest) → SendsJson sent body → IsHandled outcome ↔ IsAdmitted document request sent

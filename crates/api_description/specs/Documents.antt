@@ -1,5 +1,5 @@
 -- The document of endpoints at a version (OpenAPI 3.0.3, OpenAPI Object). It lists those whose ranges hold the version. Paths stand in the order of their characters, each once.
-use Rattle.std.specs.Prelude.{ℕ, suc, zero, Bool, true, List, [], ◌∷◌, ◌++◌, map, filter, length, fold, Option, Some, None, is_some, option_map, if◌then◌else◌, codes}
+use Rattle.std.specs.Prelude.{ℕ, suc, zero, Bool, true, false, List, [], ◌∷◌, ◌++◌, map, filter, length, fold, Option, Some, None, is_some, option_map, if◌then◌else◌, codes}
 use Rattle.std.specs.declared.cmp.Ordering.{Ordering}
 use Rattle.std.specs.BTreeMap.{insert_entry, is_at}
 use Rattle.std.specs.BTreeSet.{insert_key}
@@ -72,11 +72,11 @@ content_of table (JsonShape desc name) = media (codes "application/json") (schem
 
 -- the response of a success, in full
 abbrev pub response_of_success : List Definition → ApiEndpointResponse → ResponseObject
-response_of_success table response = record { description = Some response.description; content = content_of table response.content; reference = None }
+response_of_success table response = record { description = Some response.description; headers = []; content = content_of table response.content; reference = None }
 
 -- the response of an error, by reference to its component
 abbrev pub reference_to : ApiEndpointErrorResponse → ResponseObject
-reference_to error = record { description = None; content = []; reference = Some (codes "#/components/responses/" ++ error.name) }
+reference_to error = record { description = None; headers = []; content = []; reference = Some (codes "#/components/responses/" ++ error.name) }
 
 -- the error as the responses to `4XX` and `5XX`, where the shape names one
 abbrev pub error_references : Option ApiEndpointErrorResponse → List (List ℕ × ResponseObject)
@@ -91,9 +91,15 @@ responses_by (Some code) table response error = (decimal code, response_of_succe
 -- the operation that an endpoint is listed as
 abbrev pub operation_of : {X : Type 0} {F : X → Type 0} → Meanings X F → ApiEndpoint X F → Operation
 operation_of m e = record {
+  tags = [];
+  summary = None;
+  description = None;
   operation_id = e.operation_id;
+  parameters = [];
   request_body = body_of e.body_content_type (shape_at m e).table (shape_at m e).slots;
   responses = responses_by (shape_at m e).response.success (shape_at m e).table (shape_at m e).response (shape_at m e).error;
+  deprecated = false;
+  pagination = None;
 }
 
 -- the operation at a template and a method, of the endpoint that serves them at the version
@@ -213,6 +219,7 @@ schema_entries m = flat_map (λ e. map (schema_entry (shape_at m e).table) (reac
 abbrev pub error_object : List Definition → ApiEndpointErrorResponse → ResponseObject
 error_object table error = record {
   description = Some error.name;
+  headers = [];
   content = media (codes "application/json") (schema_json_titled table error.name error.desc) ∷ [];
   reference = None;
 }
@@ -244,9 +251,11 @@ components_of m version endpoints = record {
 -- the document of endpoints at a version, with a title
 abbrev pub open_api_of : {X : Type 0} {F : X → Type 0} → Meanings X F → List (ApiEndpoint X F) → List ℕ → Parts → OpenApi
 open_api_of m endpoints title version = record {
-  info = record { title = title; version = chars (parts_text version) };
+  openapi = codes "3.0.3";
+  info = record { title = title; description = None; terms_of_service = None; contact = None; license = None; version = chars (parts_text version) };
   paths = paths_of m version endpoints;
   components = components_of m version endpoints;
+  tags = [];
 }
 
 -- that document as JSON

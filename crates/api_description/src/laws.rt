@@ -18,9 +18,9 @@ use crate::api_respond::RouteHandler;
 use crate::description::ApiDescription;
 
 impl ApiDescription {
-    /// The document of an API at a version lists its endpoints, and admits exactly the requests of it that
-    /// one of them takes. What the endpoints answer follows it: a request with a valid id that is answered is
-    /// handled exactly where the document admits it.
+    /// The document of an API at a version lists its endpoints, and of the requests of it that are sent with
+    /// a media type of JSON it admits exactly those that one of them takes. What the endpoints answer follows
+    /// it: such a request with a valid id that is answered is handled exactly where the document admits it.
     pub fn agrees(&self)
         requires { AreAccepted (boxed ⟦<dyn RouteHandler as RouteHandler>⟧) [] self.now.endpoints.items }
         ensures listed { (title : List ℕ) (version : Parts)

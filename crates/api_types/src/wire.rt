@@ -55,10 +55,10 @@ pub fn json_value<T: ApiType>(
         (IsFaultOf (told table.now T.desc_of json.now T.desc_of))) }
     ensures refused { IfErr result (λ error. IfFault error
         (λ fault. (tree : Value) → JsonDenotes table.now T.desc_of json.now tree → ⊥)) }
-    ensures admitted { (doc : JsonValue) → IsWritten doc table.now T.desc_of
+    ensures plain { (doc : JsonValue) → IsWritten doc table.now T.desc_of
         → JsonAdmits doc (schema_json table.now T.desc_of) json.now
         → IfErr result (λ error. IfFault error (λ _. ⊥)) }
-    ensures admitted_titled { (doc : JsonValue) → IsWritten doc table.now T.desc_of
+    ensures titled { (doc : JsonValue) → IsWritten doc table.now T.desc_of
         → JsonAdmits doc (schema_json_titled table.now T.name_of T.desc_of) json.now
         → IfErr result (λ error. IfFault error (λ _. ⊥)) }
 {

@@ -92,9 +92,9 @@ module _ {X : Type 0} {F : X → Type 0} (m : Meanings X F) where
     accepted = accepted;
     listed = listed;
     agreed = agreed;
-    followed = λ before line reply after x id.
+    followed = λ before line reply after x id sent sends.
         subst (λ (v : Parts). FollowsDocument (document_of m es config.title v) x.request x.body x.outcome) x.asks_for.at_version
-        (follow x.request x.body before x.outcome after x.answers) id (told-is-answer x.outcome x.told x.tells);
+        (follow x.request x.body before x.outcome after x.answers) id (told-is-answer x.outcome x.told x.tells) sent sends;
   }
 
   -- what was served, of endpoints and a front that are equal

@@ -6,8 +6,9 @@ use Rattle.line_session.specs.Session.{IsAnswered}
 use Rattle.line_session.specs.declared.serving.SessionEnd.{SessionEnd}
 use Rattle.line_session.specs.declared.serving.SessionEnd.TheVariants as ended
 use Rattle.semver.specs.Parse.{Parts}
+use Rattle.openapi_values.specs.declared.request.WireRequest.{WireRequest}
 use Rattle.api_description.specs.declared.endpoint.ApiEndpoint.{ApiEndpoint}
-use Rattle.api_description.specs.Agreement.{IsAdmitted, IsAgreed, IsHandled, IsListed}
+use Rattle.api_description.specs.Agreement.{IsAdmitted, IsAgreed, IsHandled, IsListed, SendsJson}
 use Rattle.api_description.specs.Documents.{document_of, document_text}
 use Rattle.api_description.specs.Endpoints.{Meanings}
 use Rattle.api_description.specs.Exchanges.{HasId}
@@ -25,13 +26,15 @@ use Rattle.contract_tool.specs.Words.{AskForSession}
 abbrev pub front_of : {X : Type 0} {F : X → Type 0} → Meanings X F → ToolConfig → Parts → List (ApiEndpoint X F) → List ℕ
 front_of m config version endpoints = encode_utf8_all (document_text m endpoints config.title version)
 
--- whatever line is answered, from whatever store: a request with a valid id is handled exactly where the endpoints' document admits it
+-- whatever line is answered, from whatever store: a request with a valid id is handled exactly where the endpoints' document admits what was sent for it, with a media type of JSON
 abbrev pub LinesFollowDocument : {X : Type 0} {F : X → Type 0} → Meanings X F → ToolConfig → Parts → List (ApiEndpoint X F) → Type 0
 LinesFollowDocument m config version endpoints = (before : Tables) (line reply : List ℕ) (after : Tables) (exchanged : IsExchanged m config version endpoints before line reply after)
-    → HasId exchanged.request → IsHandled exchanged.outcome ↔ IsAdmitted (document_of m endpoints config.title version) exchanged.request exchanged.body
+    → HasId exchanged.request → (sent : WireRequest) → SendsJson sent exchanged.body
+    → IsHandled exchanged.outcome ↔ IsAdmitted (document_of m endpoints config.title version) exchanged.request sent
 
--- The words ask for a session of a version, and the endpoints are accepted. Their document lists them, and admits
--- exactly the requests of the version that one of them takes; and a request that is answered is handled exactly where it admits it.
+-- The words ask for a session of a version, and the endpoints are accepted. Their document lists them, and of the
+-- requests of the version that are sent with a media type of JSON it admits exactly those that one of them takes; and
+-- such a request that is answered is handled exactly where it admits it.
 pub record IsOpened {X : Type 0} {F : X → Type 0} (m : Meanings X F) (config : ToolConfig) (version : Parts) (endpoints : List (ApiEndpoint X F)) (words : List (String Global)) : Type 0 where
   pub asked : AskForSession words version
   pub accepted : AreAccepted m [] endpoints

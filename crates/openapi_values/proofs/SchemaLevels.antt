@@ -1,17 +1,16 @@
 -- One level of a schema, as it is written.
 use Rattle.std.proofs.Common.{◌≡◌, ℕ, List, [], ◌∷◌, ◌++◌, Bool, Option, Some, None, option_map, map, codes, refl, ◌∙◌, ap}
 use Rattle.std.specs.Option.{option_map_or}
-use Rattle.schema_values.specs.declared.json_value.Json.{Json}
+use Rattle.schema_values.specs.declared.json_value.Json.{Json, List as ListOf}
 use Rattle.schema_values.specs.declared.schema.ArrayParts.{ArrayParts, fold_out-ArrayParts}
-use Rattle.schema_values.specs.declared.schema.Items.{Items, One, fold_out-Items}
+use Rattle.schema_values.specs.declared.schema.Items.{One, Tuple, fold_out-Items}
 use Rattle.schema_values.specs.declared.schema.ObjectParts.{ObjectParts, out-ObjectParts, fold_out-ObjectParts}
 use Rattle.schema_values.specs.declared.schema.Property.{Property, fold_out-Property}
 use Rattle.schema_values.specs.declared.schema.Schema.{Schema, Bool as Truth, Object, fold_out-Schema}
-use Rattle.schema_values.specs.declared.schema.Items.TheViews.{outs-One, outs-Bool, outs-Object}
+use Rattle.schema_values.specs.declared.schema.Items.TheViews.{outs-One, outs-Tuple, outs-Bool, outs-Object}
 use Rattle.schema_values.specs.declared.schema.SchemaObject.{SchemaObject, out-SchemaObject, fold_out-SchemaObject}
 use Rattle.schema_values.specs.declared.schema.Subschemas.{Subschemas, fold_out-Subschemas}
 use Rattle.openapi_values.specs.Objects.{Entry, pair_member, object_of, reference_json, unless_empty}
-use Rattle.openapi_values.proofs.OneVariant.{schema_in}
 use Rattle.openapi_values.proofs.PartMaps.{items-map, additional-map, array-map, object-map, subschemas-map, all_of-map}
 use Rattle.openapi_values.specs.SchemaJson.{Written, untitled, truth_json, additional_json, names_json, schemas_json, annotations, entries_behind, object_level, schema_step, items_step, array_step, property_step, object_parts_step, subschemas_step, object_step, schema_written, items_written, array_written, object_parts_written, property_written, object_written, subschemas_written, count_json}
 
@@ -23,12 +22,13 @@ pub object-under : (object : SchemaObject) → schema_written (Object object) �
 unfolding schema_written object_written
 object-under object = fold_out-Schema Json Written (List Entry) (List Entry) (List ℕ × Json) (Option (List ℕ) → Json) (List Entry) items_step schema_step array_step object_parts_step property_step object_step subschemas_step (Object object) ∙ rw (outs-Object object) refl
 
-item-is : (schema : Schema) → items_written (One schema) ≡ untitled (schema_written schema)
+pub item-is : (schema : Schema) → items_written (One schema) ≡ untitled (schema_written schema)
 unfolding schema_written items_written
 item-is schema = fold_out-Items Json Written (List Entry) (List Entry) (List ℕ × Json) (Option (List ℕ) → Json) (List Entry) items_step schema_step array_step object_parts_step property_step object_step subschemas_step (One schema) ∙ rw (outs-One schema) refl
 
-pub items-are : (items : Items) → items_written items ≡ untitled (schema_written (schema_in items))
-items-are (One schema) = item-is schema
+pub tuple-is : (schemas : List Schema) → items_written (Tuple schemas) ≡ ListOf (map untitled (map schema_written schemas))
+unfolding schema_written items_written
+tuple-is schemas = fold_out-Items Json Written (List Entry) (List Entry) (List ℕ × Json) (Option (List ℕ) → Json) (List Entry) items_step schema_step array_step object_parts_step property_step object_step subschemas_step (Tuple schemas) ∙ rw (outs-Tuple schemas) refl
 
 pub property-is : (property : Property) → property_written property ≡ (property.name, untitled (schema_written property.schema))
 unfolding schema_written property_written
@@ -53,6 +53,8 @@ pub object_parts-are : (object : ObjectParts) → object_parts_written object �
     (codes "properties", unless_empty (map pair_member (map property_written (out-ObjectParts object).properties)))
     ∷ (codes "required", names_json (out-ObjectParts object).required)
     ∷ (codes "additionalProperties", option_map additional_json (option_map schema_written (out-ObjectParts object).additional))
+    ∷ (codes "minProperties", count_json (out-ObjectParts object).min)
+    ∷ (codes "maxProperties", count_json (out-ObjectParts object).max)
     ∷ []
 unfolding object_parts_written schema_written property_written
 object_parts-are object = fold_out-ObjectParts Json Written (List Entry) (List Entry) (List ℕ × Json) (Option (List ℕ) → Json) (List Entry) items_step schema_step array_step object_parts_step property_step object_step subschemas_step object
@@ -60,6 +62,8 @@ object_parts-are object = fold_out-ObjectParts Json Written (List Entry) (List E
     (codes "properties", unless_empty (map pair_member (map property_written (out-ObjectParts object).properties)))
     ∷ (codes "required", names_json (out-ObjectParts object).required)
     ∷ (codes "additionalProperties", option_map additional_json o)
+    ∷ (codes "minProperties", count_json (out-ObjectParts object).min)
+    ∷ (codes "maxProperties", count_json (out-ObjectParts object).max)
     ∷ []) (additional-map schema_written (out-ObjectParts object).additional)
 
 pub object-is : (schema : SchemaObject) (given : Option (List ℕ)) → object_written schema given ≡ object_step (object_level schema) given

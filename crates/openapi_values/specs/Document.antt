@@ -1,15 +1,12 @@
 -- How the document is written (OpenAPI 3.0.3, OpenAPI Object). `paths` and `components` always stand.
-use Rattle.std.specs.Prelude.{List, [], ◌∷◌, Some, codes}
+use Rattle.std.specs.Prelude.{List, [], ◌∷◌, map, Some, codes}
 use Rattle.schema_values.specs.declared.json_value.Json.{Json, Text, Object}
 use Rattle.openapi_values.specs.declared.document.Components.{Components}
-use Rattle.openapi_values.specs.declared.document.Info.{Info}
 use Rattle.openapi_values.specs.declared.document.OpenApi.{OpenApi}
-use Rattle.openapi_values.specs.Objects.{Entry, object_of, map_members, unless_empty}
+use Rattle.openapi_values.specs.Info.{info_json}
+use Rattle.openapi_values.specs.Objects.{Entry, object_of, list_unless_empty, map_members, unless_empty}
 use Rattle.openapi_values.specs.Operation.{response_json, path_item_json}
-
--- title and version, always (OpenAPI 3.0.3, Info Object)
-abbrev pub info_json : Info → Json
-info_json info = object_of ((codes "title", Some (Text info.title)) ∷ (codes "version", Some (Text info.version)) ∷ [])
+use Rattle.openapi_values.specs.Tags.{tag_json}
 
 -- responses and schemas by name, each map left out where it is empty
 abbrev pub components_entries : Components → List Entry
@@ -25,10 +22,11 @@ components_json components = object_of (components_entries components)
 -- the members of a document, in their order
 abbrev pub open_api_entries : OpenApi → List Entry
 open_api_entries document =
-    (codes "openapi", Some (Text (codes "3.0.3")))
+    (codes "openapi", Some (Text document.openapi))
     ∷ (codes "info", Some (info_json document.info))
     ∷ (codes "paths", Some (Object (map_members path_item_json document.paths)))
     ∷ (codes "components", Some (components_json document.components))
+    ∷ (codes "tags", list_unless_empty (map tag_json document.tags))
     ∷ []
 
 -- the document as JSON

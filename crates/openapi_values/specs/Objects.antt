@@ -1,6 +1,6 @@
 -- JSON objects as they are written: the members whose values are there.
 use Rattle.std.specs.Prelude.{ℕ, List, [], ◌∷◌, map, Option, Some, None, codes}
-use Rattle.schema_values.specs.declared.json_value.Json.{Json, Text, Object}
+use Rattle.schema_values.specs.declared.json_value.Json.{Json, Text, List as ListOf, Object}
 use Rattle.schema_values.specs.declared.json_value.Member.{Member}
 use Rattle.schema_values.specs.Member.{member}
 
@@ -38,3 +38,8 @@ map_members json = map (λ pair. member pair.0 (json pair.1))
 abbrev pub unless_empty : List Member → Option Json
 unless_empty [] = None
 unless_empty (m ∷ ms) = Some (Object (m ∷ ms))
+
+-- some values as a list, left out where there are none
+abbrev pub list_unless_empty : List Json → Option Json
+list_unless_empty [] = None
+list_unless_empty (j ∷ js) = Some (ListOf (j ∷ js))

@@ -1,14 +1,15 @@
 -- How an operation and its parts are written (OpenAPI 3.0.3, from Path Item Object on).
-use Rattle.std.specs.Prelude.{ℕ, List, [], ◌∷◌, Option, Some, option_map, codes}
+use Rattle.std.specs.Prelude.{ℕ, List, [], ◌∷◌, map, Option, Some, option_map, codes}
 use Rattle.std.specs.Option.{option_map_or}
-use Rattle.schema_values.specs.declared.json_value.Json.{Json, Text}
+use Rattle.schema_values.specs.declared.json_value.Json.{Json, Text, List as ListOf}
 use Rattle.openapi_values.specs.declared.media.MediaType.{MediaType}
 use Rattle.openapi_values.specs.declared.media.RequestBody.{RequestBody}
 use Rattle.openapi_values.specs.declared.media.ResponseObject.{ResponseObject}
 use Rattle.openapi_values.specs.declared.operation.Operation.{Operation}
 use Rattle.openapi_values.specs.declared.operation.PathItem.{PathItem}
 use Rattle.openapi_values.specs.IfTrue.{if_true}
-use Rattle.openapi_values.specs.Objects.{Entry, object_of, reference_json, map_members, unless_empty}
+use Rattle.openapi_values.specs.Objects.{Entry, object_of, reference_json, list_unless_empty, map_members, unless_empty}
+use Rattle.openapi_values.specs.Parameters.{parameter_json, header_json}
 
 -- the schema, always
 abbrev pub media_type_entries : MediaType → List Entry
@@ -30,20 +31,31 @@ request_body_entries body = (codes "content", content_json body.content) ∷ (co
 unfoldable pub request_body_json : RequestBody → Json
 request_body_json body = object_of (request_body_entries body)
 
--- a response in full: its description and its contents, where it has them
+-- a response in full: its description, its headers and its contents, where it has them
 unfoldable pub described_json : ResponseObject → Json
-described_json response = object_of ((codes "description", option_map Text response.description) ∷ (codes "content", content_json response.content) ∷ [])
+described_json response =
+    object_of ((codes "description", option_map Text response.description) ∷ (codes "headers", unless_empty (map_members header_json response.headers)) ∷ (codes "content", content_json response.content) ∷ [])
 
 -- a reference stands alone
 abbrev pub response_json : ResponseObject → Json
 response_json response = option_map_or reference_json response.reference (described_json response)
 
--- the id, the request body where there is one, and the responses unless there are none
+-- the names that the first request for a page must have, as a list that always stands
+abbrev pub pagination_json : List (List ℕ) → Json
+pagination_json names = object_of ((codes "required", Some (ListOf (map Text names))) ∷ [])
+
+-- the members of an operation, in their order; the id stands always, a truth value where it is true, a list or a map where it is not empty
 abbrev pub operation_entries : Operation → List Entry
 operation_entries operation =
-    (codes "operationId", Some (Text operation.operation_id))
+    (codes "tags", list_unless_empty (map Text operation.tags))
+    ∷ (codes "summary", option_map Text operation.summary)
+    ∷ (codes "description", option_map Text operation.description)
+    ∷ (codes "operationId", Some (Text operation.operation_id))
+    ∷ (codes "parameters", list_unless_empty (map parameter_json operation.parameters))
     ∷ (codes "requestBody", option_map request_body_json operation.request_body)
     ∷ (codes "responses", unless_empty (map_members response_json operation.responses))
+    ∷ (codes "deprecated", if_true operation.deprecated)
+    ∷ (codes "x-dropshot-pagination", option_map pagination_json operation.pagination)
     ∷ []
 
 -- one operation (OpenAPI 3.0.3, Operation Object)

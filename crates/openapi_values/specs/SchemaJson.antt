@@ -1,13 +1,13 @@
 -- How a schema is written (OpenAPI 3.0.3, Schema Object).
-use Rattle.std.specs.Prelude.{ℕ, pos, Bool, true, false, List, [], ◌∷◌, ◌++◌, map, filter, Option, Some, None, is_some, option_map, option_and_then, unwrap_or, if◌then◌else◌, codes}
+use Rattle.std.specs.Prelude.{ℕ, ℤ, pos, Bool, true, false, List, [], ◌∷◌, ◌++◌, map, filter, Option, Some, None, is_some, option_map, option_and_then, unwrap_or, if◌then◌else◌, codes}
 use Rattle.std.specs.Option.{option_map_or, option_or}
 use Rattle.schema_values.specs.declared.json_value.Json.{Json, Null as NullJson, Bool as Truth, Int, Text, List as ListOf}
 use Rattle.schema_values.specs.declared.json_value.Member.{Member}
 use Rattle.schema_values.specs.declared.schema.ArrayParts.{ArrayParts, ArrayParts-F, fold-ArrayParts}
 use Rattle.schema_values.specs.declared.schema.InstanceType.{InstanceType}
-use Rattle.schema_values.specs.declared.schema.InstanceType.TheVariants.{Null, Boolean, Object, Array, String, Integer}
+use Rattle.schema_values.specs.declared.schema.InstanceType.TheVariants.{Null, Boolean, Object, Array, Number, String, Integer}
 use Rattle.schema_values.specs.declared.schema.InstanceTypes.{InstanceTypes}
-use Rattle.schema_values.specs.declared.schema.InstanceTypes.TheVariants.{Single}
+use Rattle.schema_values.specs.declared.schema.InstanceTypes.TheVariants.{Single, Several}
 use Rattle.schema_values.specs.declared.schema.Items.{Items, Items-F, fold-Items}
 use Rattle.schema_values.specs.declared.schema.Items.TheOpen as open_types
 use Rattle.schema_values.specs.declared.schema.LengthBounds.{LengthBounds}
@@ -17,9 +17,10 @@ use Rattle.schema_values.specs.declared.schema.Property.{Property, Property-F, f
 use Rattle.schema_values.specs.declared.schema.Schema.{Schema, Schema-F, fold-Schema}
 use Rattle.schema_values.specs.declared.schema.SchemaObject.{SchemaObject, SchemaObject-F, fold-SchemaObject, out-SchemaObject}
 use Rattle.schema_values.specs.declared.schema.Subschemas.{Subschemas, Subschemas-F, fold-Subschemas}
+use Rattle.schema_values.specs.Get.{first_named}
 use Rattle.openapi_values.specs.IfTrue.{if_true}
 use Rattle.openapi_values.specs.Keywords.{after}
-use Rattle.openapi_values.specs.Objects.{Entry, pair_member, object_of, reference_json, unless_empty}
+use Rattle.openapi_values.specs.Objects.{Entry, list_unless_empty, pair_member, object_of, reference_json, unless_empty}
 
 -- what a schema is written as: a schema under a title, where one is given; beside it the truth value that it is
 pub record Written : Type 0 where
@@ -48,9 +49,10 @@ abbrev pub schema_step : Level Schema-F → Written
 schema_step (open_types.Bool truth) = record { truth = Some truth; under = λ title. truth_json truth }
 schema_step (open_types.Object under) = record { truth = None; under = under }
 
--- the schema of each item, without a title
+-- the schema of each item, without a title; schemas of items by place are a list, which `j2oas_schema` refuses
 abbrev pub items_step : Level Items-F → Json
 items_step (open_types.One written) = untitled written
+items_step (open_types.Tuple written) = ListOf (map untitled written)
 
 -- a count, left out where there is none
 abbrev pub count_json : Option ℕ → Option Json
@@ -66,19 +68,20 @@ property_step property = (property.name, untitled property.schema)
 
 -- names as a list, left out where there are none
 abbrev pub names_json : List (List ℕ) → Option Json
-names_json [] = None
-names_json (name ∷ names) = Some (ListOf (map Text (name ∷ names)))
+names_json names = list_unless_empty (map Text names)
 
 -- `additionalProperties` is a truth value where its schema is one
 abbrev pub additional_json : Written → Json
 additional_json written = option_map_or Truth written.truth (untitled written)
 
--- the properties in their order, the names that are required, and what other properties may be
+-- the properties in their order, the names that are required, what other properties may be, and how many stand
 abbrev pub object_parts_step : Level ObjectParts-F → List Entry
 object_parts_step object =
     (codes "properties", unless_empty (map pair_member object.properties))
     ∷ (codes "required", names_json object.required)
     ∷ (codes "additionalProperties", option_map additional_json object.additional)
+    ∷ (codes "minProperties", count_json object.min)
+    ∷ (codes "maxProperties", count_json object.max)
     ∷ []
 
 -- some schemas as a list, left out where none is given, and not where the list is empty
@@ -100,6 +103,7 @@ type_name Null = codes "string"
 type_name Boolean = codes "boolean"
 type_name Object = codes "object"
 type_name Array = codes "array"
+type_name Number = codes "number"
 type_name String = codes "string"
 type_name Integer = codes "integer"
 
@@ -115,10 +119,14 @@ extension_entry m = (m.name, Some m.value)
 abbrev pub extension_entries : List Member → List Entry
 extension_entries ms = map extension_entry (filter is_extension ms)
 
--- `nullable` where it is true, the given title or else the schema's own, the description, the default, and then the extensions
+-- `nullable`, `readOnly`, `writeOnly` and `deprecated` where they are true, the extension `example`, the given title or else the schema's own, the description, the default, and then the other extensions
 abbrev pub annotations : {A B C D E F G : Type 0} → Option (List ℕ) → SchemaObject-F A B C D E F G → List Entry
 annotations given schema =
     (codes "nullable", if_true schema.nullable)
+    ∷ (codes "readOnly", if_true schema.read_only)
+    ∷ (codes "writeOnly", if_true schema.write_only)
+    ∷ (codes "deprecated", if_true schema.deprecated)
+    ∷ (codes "example", first_named (codes "example") schema.extensions)
     ∷ (codes "title", option_map Text (option_or given schema.title))
     ∷ (codes "description", option_map Text schema.description)
     ∷ (codes "default", schema.default)
@@ -128,22 +136,38 @@ annotations given schema =
 abbrev pub values_json : Option (List Json) → Option Json
 values_json = option_map ListOf
 
--- null as the one value
-abbrev pub null_entries : List Entry
-null_entries = (codes "enum", Some (ListOf (NullJson ∷ []))) ∷ []
+-- the one value of a const, where it is given
+abbrev pub const_values : Option Json → Option (List Json)
+const_values = option_map (λ value. value ∷ [])
 
--- the values of a boolean
-abbrev pub boolean_entries : Option (List Json) → List Entry
-boolean_entries values = (codes "enum", values_json values) ∷ []
+-- the values: that of a const alone, else those that are given
+abbrev pub values_of : Option Json → Option (List Json) → Option (List Json)
+values_of const values = option_or (const_values const) values
+
+-- the values of the type of null: that of a const alone, else null
+abbrev pub null_values : Option Json → List Json
+null_values const = unwrap_or (const_values const) (NullJson ∷ [])
+
+-- some values as `enum`
+abbrev pub enum_entries : Option (List Json) → List Entry
+enum_entries values = (codes "enum", values_json values) ∷ []
+
+-- a bound: the one that is included, else the one that is not
+abbrev pub bound_json : Option ℤ → Option ℤ → Option Json
+bound_json included excluded = option_map Int (option_or included excluded)
+
+-- the bounds of a number, of which each is excluded where a truth value says so
+abbrev pub bound_entries : NumberBounds → List Entry
+bound_entries b =
+    (codes "exclusiveMinimum", if_true (is_some b.exclusive_minimum))
+    ∷ (codes "exclusiveMaximum", if_true (is_some b.exclusive_maximum))
+    ∷ (codes "minimum", bound_json b.minimum b.exclusive_minimum)
+    ∷ (codes "maximum", bound_json b.maximum b.exclusive_maximum)
+    ∷ []
 
 -- the format, the bounds and the values of a number
 abbrev pub number_entries : Option (List ℕ) → Option NumberBounds → Option (List Json) → List Entry
-number_entries format bounds values =
-    (codes "format", option_map Text format)
-    ∷ (codes "minimum", option_map Int (option_and_then (λ b. b.minimum) bounds))
-    ∷ (codes "maximum", option_map Int (option_and_then (λ b. b.maximum) bounds))
-    ∷ (codes "enum", values_json values)
-    ∷ []
+number_entries format bounds values = (codes "format", option_map Text format) ∷ (option_map_or bound_entries bounds [] ++ enum_entries values)
 
 -- the format of a text, its values and the bounds of its length
 abbrev pub text_entries : Option (List ℕ) → Option LengthBounds → Option (List Json) → List Entry
@@ -154,18 +178,20 @@ text_entries format bounds values =
     ∷ (codes "maxLength", count_json (option_and_then (λ b. b.max) bounds))
     ∷ []
 
--- the members that a type has beside its name; the type of null has null as its one value
+-- the members that a type has beside its name; the type of null has null as its one value, unless a const is given
 abbrev pub kind_entries : InstanceType → Level SchemaObject-F → List Entry
-kind_entries Null schema = null_entries
-kind_entries Boolean schema = boolean_entries schema.enum_values
-kind_entries Object schema = unwrap_or schema.object []
-kind_entries Array schema = unwrap_or schema.array []
-kind_entries String schema = text_entries schema.format schema.string schema.enum_values
-kind_entries Integer schema = number_entries schema.format schema.number schema.enum_values
+kind_entries Null schema = enum_entries (Some (null_values schema.const_value))
+kind_entries Boolean schema = enum_entries (values_of schema.const_value schema.enum_values)
+kind_entries Object schema = enum_entries (const_values schema.const_value) ++ unwrap_or schema.object []
+kind_entries Array schema = enum_entries (const_values schema.const_value) ++ unwrap_or schema.array []
+kind_entries Number schema = number_entries schema.format schema.number (values_of schema.const_value schema.enum_values)
+kind_entries String schema = text_entries schema.format schema.string (values_of schema.const_value schema.enum_values)
+kind_entries Integer schema = number_entries schema.format schema.number (values_of schema.const_value schema.enum_values)
 
--- the name of a type and what it has beside; nothing without a type
+-- the name of a type and what it has beside; nothing without a type, and nothing of several, which `j2oas_schema` refuses
 abbrev pub type_entries : Option InstanceTypes → Level SchemaObject-F → List Entry
 type_entries None schema = []
+type_entries (Some (Several types)) schema = []
 type_entries (Some (Single type)) schema = (codes "type", Some (Text (type_name type))) ∷ kind_entries type schema
 
 -- the members of the type, and then the subschemas
@@ -221,10 +247,14 @@ object_level schema = record {
   title = (out-SchemaObject schema).title;
   description = (out-SchemaObject schema).description;
   default = (out-SchemaObject schema).default;
+  deprecated = (out-SchemaObject schema).deprecated;
+  read_only = (out-SchemaObject schema).read_only;
+  write_only = (out-SchemaObject schema).write_only;
   nullable = (out-SchemaObject schema).nullable;
   instance_type = (out-SchemaObject schema).instance_type;
   format = (out-SchemaObject schema).format;
   enum_values = (out-SchemaObject schema).enum_values;
+  const_value = (out-SchemaObject schema).const_value;
   subschemas = option_map subschemas_written (out-SchemaObject schema).subschemas;
   number = (out-SchemaObject schema).number;
   string = (out-SchemaObject schema).string;

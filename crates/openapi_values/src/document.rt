@@ -1,23 +1,21 @@
+use crate::info::Info;
 use crate::media::ResponseObject;
 use crate::objects::add;
 use crate::operation::PathItem;
-use crate::part::{Part, copy_map, map_json, map_unless_empty};
+use crate::part::{Part, copy_list, copy_map, list_unless_empty, map_json, map_unless_empty};
+use crate::tags::TagObject;
 use schema_values::{Json, List, Text};
 use std::alloc::{AllocError, Global};
 
 /// What an API is: an OpenAPI 3.0.3 document.
 #[derive(Drop)]
 pub struct OpenApi {
+    /// The version of OpenAPI, `3.0.3`.
+    pub openapi: Text,
     pub info: Info,
     pub paths: List<(Text, PathItem)>,
     pub components: Components,
-}
-
-/// The title and the version of an API.
-#[derive(Drop)]
-pub struct Info {
-    pub title: Text,
-    pub version: Text,
+    pub tags: List<TagObject>,
 }
 
 /// What other parts refer to by names: responses and schemas.
@@ -25,28 +23,6 @@ pub struct Info {
 pub struct Components {
     pub responses: List<(Text, ResponseObject)>,
     pub schemas: List<(Text, Json)>,
-}
-
-impl Part for Info {
-    ghost use Rattle.openapi_values.specs.Document.{info_json};
-
-    ghost json = { info_json };
-
-    fn to_json(&self, alloc: Global) -> Result<Json, AllocError> {
-        let mut members = List::new(alloc);
-        let title = self.title.to_json(alloc)?;
-        add(alloc, &mut members, "title", Some(title))?;
-        let version = self.version.to_json(alloc)?;
-        add(alloc, &mut members, "version", Some(version))?;
-        Ok(Json::Object(members))
-    }
-
-    fn copy(&self, alloc: Global) -> Result<Info, AllocError> {
-        Ok(Info {
-            title: self.title.copy(alloc)?,
-            version: self.version.copy(alloc)?,
-        })
-    }
 }
 
 impl Part for Components {
@@ -78,22 +54,26 @@ impl Part for OpenApi {
 
     fn to_json(&self, alloc: Global) -> Result<Json, AllocError> {
         let mut members = List::new(alloc);
-        let version = Json::Text(Text::from_ascii(alloc, "3.0.3")?);
-        add(alloc, &mut members, "openapi", Some(version))?;
+        let openapi = self.openapi.to_json(alloc)?;
+        add(alloc, &mut members, "openapi", Some(openapi))?;
         let info = self.info.to_json(alloc)?;
         add(alloc, &mut members, "info", Some(info))?;
         let paths = Json::Object(map_json(alloc, &self.paths)?);
         add(alloc, &mut members, "paths", Some(paths))?;
         let components = self.components.to_json(alloc)?;
         add(alloc, &mut members, "components", Some(components))?;
+        let tags = list_unless_empty(alloc, &self.tags)?;
+        add(alloc, &mut members, "tags", tags)?;
         Ok(Json::Object(members))
     }
 
     fn copy(&self, alloc: Global) -> Result<OpenApi, AllocError> {
         Ok(OpenApi {
+            openapi: self.openapi.copy(alloc)?,
             info: self.info.copy(alloc)?,
             paths: copy_map(alloc, &self.paths)?,
             components: self.components.copy(alloc)?,
+            tags: copy_list(alloc, &self.tags)?,
         })
     }
 }

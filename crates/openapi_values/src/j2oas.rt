@@ -11,12 +11,24 @@ use std::alloc::{AllocError, Global};
 /// Why a schema is not written in OpenAPI 3.0.3.
 #[derive(Debug, Drop, Clone, Copy)]
 pub enum J2oasError {
+    /// A schema has several types.
+    TypeArray,
+    /// A schema has the type of all numbers.
+    FloatSchema,
+    /// Each item of an array has a schema of its own.
+    TupleArray,
     /// An array has no schema of its items.
     NoItems,
+    /// A const is none of the values that stand beside it.
+    EnumConflict,
+    /// A const stands where type and subschemas do not stand together.
+    ConstUnsupported,
     /// Values are given without a type, or beside an object or an array.
     EnumWithoutType,
     /// A value that is neither null nor of the type.
     BadEnumValue,
+    /// A bound stands beside its exclusive form.
+    BadBounds,
     /// A schema without a type has subschemas of no kind, or of more than one.
     BadSubschema,
     OutOfMemory,

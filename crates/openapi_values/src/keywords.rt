@@ -48,7 +48,24 @@ pub fn text_after<'a>(text: &'a Text, prefix: &str) -> Option<&'a str>
     requires { IsTrue (all_ascii prefix.now) }
     ensures { option_map (λ rest. chars rest.now) result ≡ after prefix.now text.now }
 {
-    text.as_str().strip_prefix(prefix)
+    str_after(text.as_str(), prefix)
+}
+
+/// What follows an ASCII prefix of a string.
+pub fn str_after<'a>(text: &'a str, prefix: &str) -> Option<&'a str>
+    requires { IsTrue (all_ascii prefix.now) }
+    ensures { option_map (λ rest. chars rest.now) result ≡ after prefix.now (chars text.now) }
+{
+    text.strip_prefix(prefix)
+}
+
+/// Whether a string is an ASCII word.
+#[tactic(auto, using(crate::proofs::DigitLemmas::word_in_bytes))]
+pub fn is_str_word(text: &str, word: &str) -> bool
+    requires { IsTrue (all_ascii word.now) }
+    ensures { result ≡ bytes_eq word.now (chars text.now) }
+{
+    text == word
 }
 
 #[tactic(auto, unfolding(crate::specs::Keywords::is_annotation))]

@@ -1,4 +1,6 @@
-ghost use Rattle.std.specs.Prelude.{◌≡◌, ◌↔◌, ℕ, suc, false, List, Some, option_map, codes};
+ghost use Rattle.std.specs.Prelude.{◌≡◌, ◌↔◌, ℕ, suc, false, List, map, Some, None, option_map, codes};
+ghost use Rattle.std.specs.Prelude.{IsTrue};
+ghost use Rattle.std.specs.List.{list_all};
 ghost use Rattle.schema_values.specs.declared.json_value.Json.{Json as JsonValue, out-Json};
 ghost use Rattle.schema_values.specs.Reading.{Reads};
 ghost use Rattle.openapi_values.specs.declared.document.OpenApi.{OpenApi as Document};
@@ -11,7 +13,10 @@ ghost use Rattle.openapi_values.specs.Document.{open_api_json};
 ghost use Rattle.openapi_values.specs.Find.{value_at, operation_in, definition_in};
 ghost use Rattle.openapi_values.specs.JsonAdmits.{admits_within, schema_admits, JsonAdmits};
 ghost use Rattle.openapi_values.specs.Lookup.{definition};
+ghost use Rattle.openapi_values.specs.MediaTypes.{HasJsonType};
 ghost use Rattle.openapi_values.specs.Operation.{operation_json};
+ghost use Rattle.openapi_values.specs.Parameters.{parameter_json};
+ghost use Rattle.openapi_values.specs.RequestParameters.{parameter_holds};
 ghost use Rattle.openapi_values.specs.Smaller.{smaller_admits};
 
 /// With no step left nothing is admitted. One step asks a schema of the value, and of smaller values with all
@@ -37,12 +42,18 @@ pub fn definitions_stand()
         → definition (open_api_json document) name ≡ definition_in document name }
 {}
 
-/// A written document admits the bodies that the schema of the operation's body admits.
+/// Where an operation of a written document takes a body under `application/json`, and none of bytes, it
+/// admits the requests with the media type of JSON whose body the schema there admits, and of which each
+/// parameter of the operation holds; it does not answer in pages.
 pub fn bodies_admitted()
     ensures { (document : Document) (path method : List ℕ) (listed : Listed) (body : Body) (media : Media)
         (request : Request) → operation_in document path method ≡ Some listed
         → listed.request_body ≡ Some body → value_at (codes "application/json") body.content ≡ Some media
+        → value_at (codes "application/octet-stream") body.content ≡ None
         → Admits (open_api_json document) path method request
-        ↔ ((json : JsonValue) × Reads request.body json
+        ↔ ((listed.pagination ≡ None)
+        × IsTrue (list_all (parameter_holds (open_api_json document) request)
+        (map parameter_json listed.parameters))
+        × HasJsonType request.headers × (json : JsonValue) × Reads request.body json
         × JsonAdmits (open_api_json document) media.schema json) }
 {}

@@ -1,7 +1,7 @@
 ghost use Rattle.std.specs.Prelude.{◌≡◌, IfOk};
-ghost use Rattle.openapi_values.specs.IfTrue.{if_true};
 
-use crate::objects::{add, reference};
+use crate::objects::{add, reference, true_json};
+use crate::parameter::HeaderObject;
 use crate::part::{Part, copy_map, copy_option, map_unless_empty, option_json};
 use schema_values::{Json, List, Text};
 use std::alloc::{AllocError, Global};
@@ -19,10 +19,11 @@ pub struct RequestBody {
     pub required: bool,
 }
 
-/// A response: its description and its bodies by media types, or a reference alone.
+/// A response: its description, its headers by names and its bodies by media types, or a reference alone.
 #[derive(Drop)]
 pub struct ResponseObject {
     pub description: Option<Text>,
+    pub headers: List<(Text, HeaderObject)>,
     pub content: List<(Text, MediaType)>,
     pub reference: Option<Text>,
 }
@@ -69,12 +70,6 @@ impl Part for RequestBody {
     }
 }
 
-pub(crate) fn true_json(truth: bool) -> Option<Json>
-    ensures { result ≡ if_true truth }
-{
-    if truth { Some(Json::Bool(true)) } else { None }
-}
-
 impl ResponseObject {
     ghost use Rattle.openapi_values.specs.Operation.{described_json};
 
@@ -84,6 +79,8 @@ impl ResponseObject {
         let mut members = List::new(alloc);
         let description = option_json(alloc, &self.description)?;
         add(alloc, &mut members, "description", description)?;
+        let headers = map_unless_empty(alloc, &self.headers)?;
+        add(alloc, &mut members, "headers", headers)?;
         let content = map_unless_empty(alloc, &self.content)?;
         add(alloc, &mut members, "content", content)?;
         Ok(Json::Object(members))
@@ -105,6 +102,7 @@ impl Part for ResponseObject {
     fn copy(&self, alloc: Global) -> Result<ResponseObject, AllocError> {
         Ok(ResponseObject {
             description: copy_option(alloc, &self.description)?,
+            headers: copy_map(alloc, &self.headers)?,
             content: copy_map(alloc, &self.content)?,
             reference: copy_option(alloc, &self.reference)?,
         })

@@ -1,5 +1,6 @@
 ghost use Rattle.std.specs.Prelude.{◌≡◌, IfOk, OnOk, IsTrue, [], ◌++◌};
 ghost use Rattle.schema_values.specs.Ascii.{all_ascii};
+ghost use Rattle.openapi_values.specs.IfTrue.{if_true};
 ghost use Rattle.openapi_values.specs.Objects.{present, reference_json};
 
 use schema_values::{Json, List, Member, Text};
@@ -22,6 +23,13 @@ pub fn add(
         }
         None => Ok(()),
     }
+}
+
+/// The truth value true, or nothing.
+pub fn true_json(truth: bool) -> Option<Json>
+    ensures { result ≡ if_true truth }
+{
+    if truth { Some(Json::Bool(true)) } else { None }
 }
 
 /// A reference alone.

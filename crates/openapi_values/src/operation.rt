@@ -1,15 +1,30 @@
+ghost use Rattle.std.specs.Prelude.{◌≡◌, IfOk, option_map};
+ghost use Rattle.openapi_values.specs.Operation.{pagination_json};
+
 use crate::media::{RequestBody, ResponseObject};
-use crate::objects::add;
-use crate::part::{Part, copy_map, copy_option, map_unless_empty, option_json};
+use crate::objects::{add, true_json};
+use crate::parameter::Parameter;
+use crate::part::{
+    Part, copy_list, copy_map, copy_option, list_json, list_unless_empty, map_unless_empty,
+    option_json,
+};
 use schema_values::{Json, List, Text};
 use std::alloc::{AllocError, Global};
 
 /// An operation: a method on a path.
 #[derive(Drop)]
 pub struct Operation {
+    pub tags: List<Text>,
+    pub summary: Option<Text>,
+    pub description: Option<Text>,
     pub operation_id: Text,
+    pub parameters: List<Parameter>,
     pub request_body: Option<RequestBody>,
     pub responses: List<(Text, ResponseObject)>,
+    pub deprecated: bool,
+    /// Of an operation that answers in pages: the names that its first request must have. The extension
+    /// `x-dropshot-pagination`.
+    pub pagination: Option<List<Text>>,
 }
 
 /// The operations of a path, by methods.
@@ -32,21 +47,65 @@ impl Part for Operation {
 
     fn to_json(&self, alloc: Global) -> Result<Json, AllocError> {
         let mut members = List::new(alloc);
+        let tags = list_unless_empty(alloc, &self.tags)?;
+        add(alloc, &mut members, "tags", tags)?;
+        let summary = option_json(alloc, &self.summary)?;
+        add(alloc, &mut members, "summary", summary)?;
+        let description = option_json(alloc, &self.description)?;
+        add(alloc, &mut members, "description", description)?;
         let id = self.operation_id.to_json(alloc)?;
         add(alloc, &mut members, "operationId", Some(id))?;
+        let parameters = list_unless_empty(alloc, &self.parameters)?;
+        add(alloc, &mut members, "parameters", parameters)?;
         let body = option_json(alloc, &self.request_body)?;
         add(alloc, &mut members, "requestBody", body)?;
         let responses = map_unless_empty(alloc, &self.responses)?;
         add(alloc, &mut members, "responses", responses)?;
+        add(
+            alloc,
+            &mut members,
+            "deprecated",
+            true_json(self.deprecated),
+        )?;
+        let pagination = pagination(alloc, &self.pagination)?;
+        add(alloc, &mut members, "x-dropshot-pagination", pagination)?;
         Ok(Json::Object(members))
     }
 
     fn copy(&self, alloc: Global) -> Result<Operation, AllocError> {
         Ok(Operation {
+            tags: copy_list(alloc, &self.tags)?,
+            summary: copy_option(alloc, &self.summary)?,
+            description: copy_option(alloc, &self.description)?,
             operation_id: self.operation_id.copy(alloc)?,
+            parameters: copy_list(alloc, &self.parameters)?,
             request_body: copy_option(alloc, &self.request_body)?,
             responses: copy_map(alloc, &self.responses)?,
+            deprecated: self.deprecated,
+            pagination: copy_names(alloc, &self.pagination)?,
         })
+    }
+}
+
+/// The names that a first page asks for, which stand also where there are none.
+fn pagination(alloc: Global, names: &Option<List<Text>>) -> Result<Option<Json>, AllocError>
+    ensures { IfOk result (λ json. json ≡ option_map pagination_json names.now) }
+{
+    let Some(names) = names else {
+        return Ok(None);
+    };
+    let mut members = List::new(alloc);
+    let names = Json::List(list_json(alloc, names)?);
+    add(alloc, &mut members, "required", Some(names))?;
+    Ok(Some(Json::Object(members)))
+}
+
+fn copy_names(alloc: Global, names: &Option<List<Text>>) -> Result<Option<List<Text>>, AllocError>
+    ensures { IfOk result (λ copy. copy ≡ names.now) }
+{
+    match names {
+        Some(names) => Ok(Some(copy_list(alloc, names)?)),
+        None => Ok(None),
     }
 }
 
@@ -89,15 +148,30 @@ impl Part for PathItem {
     }
 
     fn copy(&self, alloc: Global) -> Result<PathItem, AllocError> {
+        let (get, put) = copy_pair(alloc, &self.get, &self.put)?;
+        let (post, delete) = copy_pair(alloc, &self.post, &self.delete)?;
+        let (options, head) = copy_pair(alloc, &self.options, &self.head)?;
+        let (patch, trace) = copy_pair(alloc, &self.patch, &self.trace)?;
         Ok(PathItem {
-            get: copy_option(alloc, &self.get)?,
-            put: copy_option(alloc, &self.put)?,
-            post: copy_option(alloc, &self.post)?,
-            delete: copy_option(alloc, &self.delete)?,
-            options: copy_option(alloc, &self.options)?,
-            head: copy_option(alloc, &self.head)?,
-            patch: copy_option(alloc, &self.patch)?,
-            trace: copy_option(alloc, &self.trace)?,
+            get,
+            put,
+            post,
+            delete,
+            options,
+            head,
+            patch,
+            trace,
         })
     }
+}
+
+/// Copies of the operations of two methods.
+fn copy_pair(
+    alloc: Global,
+    first: &Option<Operation>,
+    second: &Option<Operation>,
+) -> Result<(Option<Operation>, Option<Operation>), AllocError>
+    ensures { IfOk result (λ copies. copies ≡ (first.now, second.now)) }
+{
+    Ok((copy_option(alloc, first)?, copy_option(alloc, second)?))
 }

@@ -1,5 +1,5 @@
 ghost use Rattle.std.specs.Prelude.{◌≡◌, IfOk, map, option_map};
-ghost use Rattle.openapi_values.specs.Objects.{map_members, unless_empty};
+ghost use Rattle.openapi_values.specs.Objects.{list_unless_empty as listed, map_members, unless_empty};
 
 use schema_values::{Json, List, Member, Text};
 use std::alloc::{AllocError, Global};
@@ -104,6 +104,43 @@ pub(crate) fn copy_map<T: Part + Drop>(
     let mut copies = List::new(alloc);
     for entry in map.as_slice() {
         copies.push((entry.0.copy(alloc)?, entry.1.copy(alloc)?))?;
+    }
+    Ok(copies)
+}
+
+/// What each part is written as.
+pub(crate) fn list_json<T: Part>(alloc: Global, parts: &List<T>) -> Result<List<Json>, AllocError>
+    ensures { IfOk result (λ items. items ≡ map T.json parts.now) }
+{
+    let mut items = List::new(alloc);
+    for part in parts.as_slice() {
+        items.push(part.to_json(alloc)?)?;
+    }
+    Ok(items)
+}
+
+/// Some parts as a list, unless there are none.
+pub(crate) fn list_unless_empty<T: Part>(
+    alloc: Global,
+    parts: &List<T>,
+) -> Result<Option<Json>, AllocError>
+    ensures { IfOk result (λ json. json ≡ listed (map T.json parts.now)) }
+{
+    if parts.len() == 0 {
+        return Ok(None);
+    }
+    Ok(Some(Json::List(list_json(alloc, parts)?)))
+}
+
+pub(crate) fn copy_list<T: Part + Drop>(
+    alloc: Global,
+    parts: &List<T>,
+) -> Result<List<T>, AllocError>
+    ensures { IfOk result (λ copy. copy ≡ parts.now) }
+{
+    let mut copies = List::new(alloc);
+    for part in parts.as_slice() {
+        copies.push(part.copy(alloc)?)?;
     }
     Ok(copies)
 }

@@ -1,23 +1,27 @@
-ghost use Rattle.std.specs.Prelude.{◌≡◌, [], is_some, map, option_map, unwrap_or, None};
+ghost use Rattle.std.specs.Prelude.{◌≡◌, [], map, option_map, option_and_then};
+ghost use Rattle.std.specs.Prelude.{unwrap_or, Some, None, if◌then◌else◌};
 ghost use Rattle.std.specs.List.{list_all};
 ghost use Rattle.schema_values.specs.declared.schema.SchemaObject.{out-SchemaObject};
-ghost use Rattle.openapi_values.specs.Refusal.{first_of, items_of, values_beside, object_level};
-ghost use Rattle.openapi_values.specs.Refusal.{is_value_of as is_value, items_missing as missing_items};
+ghost use Rattle.openapi_values.specs.declared.j2oas.J2oasError.TheVariants.{TupleArray};
+ghost use Rattle.openapi_values.specs.Refusal.{first_of, values_beside, object_level, types_refusal};
+ghost use Rattle.openapi_values.specs.Refusal.{enum_conflict, const_unsupported, is_bound_twice as has_both_forms};
+ghost use Rattle.openapi_values.specs.Refusal.{bounds_refusal as refusal_of_bounds};
+ghost use Rattle.openapi_values.specs.Refusal.{items_of as within_of, items_within, array_within};
+ghost use Rattle.openapi_values.specs.Refusal.{is_value_of as is_value, own_items_refusal as refusal_of_items};
 ghost use Rattle.openapi_values.specs.Refusal.{values_refusal as refusal_of_values};
 ghost use Rattle.openapi_values.specs.Refusal.{kinds_refusal as refusal_of_kinds};
 ghost use Rattle.openapi_values.specs.Refusal.{own_refusal as own_refusal_of};
 ghost use Rattle.openapi_values.specs.Refusal.{type_refusal as refusal_of_type};
 ghost use Rattle.openapi_values.specs.Refusal.{inner_refusal as inner_refusal_of, refusal_of};
-ghost use Rattle.openapi_values.specs.Refusal.{items_refusal as refusal_of_items};
-ghost use Rattle.openapi_values.specs.Refusal.{array_refusal as refusal_of_array};
 ghost use Rattle.openapi_values.specs.Refusal.{object_parts_refusal as refusal_of_parts};
 ghost use Rattle.openapi_values.specs.Refusal.{property_refusal as refusal_of_property};
 ghost use Rattle.openapi_values.specs.Refusal.{object_refusal as refusal_of_object, subschemas_inner};
 
 use crate::j2oas::J2oasError;
+use crate::rows::is_one_of;
 use schema_values::{
-    ArrayParts, InstanceType, InstanceTypes, Items, Json, List, ObjectParts, Property, Schema,
-    SchemaObject, Subschemas,
+    ArrayParts, InstanceType, InstanceTypes, Items, Json, List, NumberBounds, ObjectParts,
+    Property, Schema, SchemaObject, Subschemas,
 };
 
 /// Why a schema is not written: its own case, or else the first inside it.
@@ -47,29 +51,79 @@ fn object_refusal(schema: &SchemaObject) -> Option<J2oasError>
 fn own_refusal(schema: &SchemaObject) -> Option<J2oasError>
     ensures { result ≡ own_refusal_of (object_level schema.now) }
 {
-    items_missing(schema)
+    types_refusal(schema)
+        .or_else(|| own_items_refusal(schema))
+        .or_else(|| enum_conflict(schema))
+        .or_else(|| const_unsupported(schema))
         .or_else(|| values_refusal(schema))
+        .or_else(|| bounds_refusal(schema))
         .or_else(|| kinds_refusal(schema))
 }
 
-fn items_missing(schema: &SchemaObject) -> Option<J2oasError>
-    ensures { result ≡ missing_items (out-SchemaObject schema.now).instance_type
-        (items_of (object_level schema.now)) }
+fn types_refusal(schema: &SchemaObject) -> Option<J2oasError>
+    ensures { result ≡ types_refusal (out-SchemaObject schema.now).instance_type }
 {
     match &schema.instance_type {
-        Some(InstanceTypes::Single(InstanceType::Array)) if !has_items(schema) => {
-            Some(J2oasError::NoItems)
+        Some(InstanceTypes::Several(_)) => Some(J2oasError::TypeArray),
+        Some(InstanceTypes::Single(InstanceType::Number)) => Some(J2oasError::FloatSchema),
+        _ => None,
+    }
+}
+
+fn own_items_refusal(schema: &SchemaObject) -> Option<J2oasError>
+    ensures { result ≡ refusal_of_items (out-SchemaObject schema.now).instance_type
+        (within_of (object_level schema.now)) }
+{
+    match &schema.instance_type {
+        Some(InstanceTypes::Single(InstanceType::Array)) => match items_of(schema) {
+            Some(items) => tuple_array(items),
+            None => Some(J2oasError::NoItems),
+        },
+        _ => None,
+    }
+}
+
+fn items_of(schema: &SchemaObject) -> Option<&Items>
+    ensures { option_map (λ items. items_within items.now) result ≡ within_of (object_level schema.now) }
+{
+    match &schema.array {
+        Some(array) => array.items.as_ref(),
+        None => None,
+    }
+}
+
+fn tuple_array(items: &Items) -> Option<J2oasError>
+    ensures { result ≡ (if (items_within items.now).by_place then Some TupleArray else None) }
+{
+    match items {
+        Items::One(_) => None,
+        Items::Tuple(_) => Some(J2oasError::TupleArray),
+    }
+}
+
+fn enum_conflict(schema: &SchemaObject) -> Option<J2oasError>
+    ensures { result ≡ enum_conflict (out-SchemaObject schema.now).const_value
+        (out-SchemaObject schema.now).enum_values }
+{
+    match (&schema.const_value, &schema.enum_values) {
+        (Some(value), Some(values)) if !is_one_of(values.as_slice(), value) => {
+            Some(J2oasError::EnumConflict)
         }
         _ => None,
     }
 }
 
-fn has_items(schema: &SchemaObject) -> bool
-    ensures { result ≡ is_some (items_of (object_level schema.now)) }
+fn const_unsupported(schema: &SchemaObject) -> Option<J2oasError>
+    ensures { result ≡ const_unsupported (out-SchemaObject schema.now).const_value
+        (out-SchemaObject schema.now).instance_type (object_level schema.now).subschemas }
 {
-    match &schema.array {
-        Some(array) => array.items.is_some(),
-        None => false,
+    match (
+        &schema.const_value,
+        &schema.instance_type,
+        &schema.subschemas,
+    ) {
+        (None, _, _) | (Some(_), Some(_), Some(_)) => None,
+        _ => Some(J2oasError::ConstUnsupported),
     }
 }
 
@@ -91,6 +145,7 @@ fn refusal_beside(types: &Option<InstanceTypes>, values: &[Json]) -> Option<J2oa
     }
     match types {
         Some(InstanceTypes::Single(kind)) => refusal_beside_type(*kind, values),
+        Some(InstanceTypes::Several(_)) => None,
         None => Some(J2oasError::EnumWithoutType),
     }
 }
@@ -121,6 +176,22 @@ fn is_value_of(kind: InstanceType, value: &Json) -> bool
         Json::Text(_) => matches!(kind, InstanceType::String),
         Json::List(_) | Json::Object(_) => false,
     }
+}
+
+fn bounds_refusal(schema: &SchemaObject) -> Option<J2oasError>
+    ensures { result ≡ refusal_of_bounds (out-SchemaObject schema.now).number }
+{
+    match &schema.number {
+        Some(bounds) if is_bound_twice(bounds) => Some(J2oasError::BadBounds),
+        _ => None,
+    }
+}
+
+fn is_bound_twice(bounds: &NumberBounds) -> bool
+    ensures { result ≡ has_both_forms bounds.now }
+{
+    bounds.minimum.is_some() && bounds.exclusive_minimum.is_some()
+        || bounds.maximum.is_some() && bounds.exclusive_maximum.is_some()
 }
 
 fn kinds_refusal(schema: &SchemaObject) -> Option<J2oasError>
@@ -161,7 +232,7 @@ fn inner_refusal(schema: &SchemaObject) -> Option<J2oasError>
 #[cycle(refusal)]
 fn type_refusal(schema: &SchemaObject) -> Option<J2oasError>
     ensures { result ≡ refusal_of_type (out-SchemaObject schema.now).instance_type
-        (items_of (object_level schema.now)) (object_level schema.now).object }
+        (within_of (object_level schema.now)) (object_level schema.now).object }
 {
     match &schema.instance_type {
         Some(InstanceTypes::Single(InstanceType::Array)) => match &schema.array {
@@ -178,7 +249,7 @@ fn type_refusal(schema: &SchemaObject) -> Option<J2oasError>
 
 #[cycle(refusal)]
 fn array_refusal(array: &ArrayParts) -> Option<J2oasError>
-    ensures { result ≡ unwrap_or (refusal_of_array array.now) None }
+    ensures { result ≡ option_and_then (λ items. items.refusal) (array_within array.now) }
 {
     match &array.items {
         Some(items) => items_refusal(items),
@@ -188,10 +259,11 @@ fn array_refusal(array: &ArrayParts) -> Option<J2oasError>
 
 #[cycle(refusal)]
 fn items_refusal(items: &Items) -> Option<J2oasError>
-    ensures { result ≡ refusal_of_items items.now }
+    ensures { result ≡ (items_within items.now).refusal }
 {
     match items {
         Items::One(schema) => refusal(schema),
+        Items::Tuple(schemas) => list_refusal(schemas.as_slice()),
     }
 }
 

@@ -178,7 +178,8 @@ pub fn is_in_list(values: &Json, value: &Json) -> bool
     }
 }
 
-fn is_one_of(values: &[Json], value: &Json) -> bool
+/// Whether a value is one of some values.
+pub fn is_one_of(values: &[Json], value: &Json) -> bool
     ensures { result ≡ list_any (same_json value.now) values.now }
 {
     for listed in values {
@@ -238,13 +239,13 @@ fn lies_under(strictly: bool, low: &i128, high: &i128) -> bool
     }
 }
 
-fn has_enough(count: usize, least: &Json) -> bool
+pub fn has_enough(count: usize, least: &Json) -> bool
     ensures { result ≡ is_enough count least.now }
 {
     not_below(false, least, &(count as i128))
 }
 
-fn has_not_too_many(count: usize, greatest: &Json) -> bool
+pub fn has_not_too_many(count: usize, greatest: &Json) -> bool
     ensures { result ≡ is_not_too_many count greatest.now }
 {
     not_above(false, greatest, &(count as i128))

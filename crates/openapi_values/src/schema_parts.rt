@@ -1,19 +1,22 @@
-ghost use Rattle.std.specs.Prelude.{◌≡◌, ◌++◌, IfOk, OnOk, map, option_map, option_and_then};
-ghost use Rattle.std.specs.Option.{option_or};
-ghost use Rattle.schema_values.specs.declared.json_value.Json.{Text as TextOf, Int as IntOf};
+ghost use Rattle.std.specs.Prelude.{◌≡◌, ◌++◌, ◌∷◌, [], IfOk, OnOk, Some, codes, map, option_map};
+ghost use Rattle.std.specs.Prelude.{option_and_then};
+ghost use Rattle.std.specs.Option.{option_or, option_map_or};
+ghost use Rattle.schema_values.specs.Get.{first_named};
+ghost use Rattle.schema_values.specs.declared.json_value.Json.{Text as TextOf};
 ghost use Rattle.schema_values.specs.declared.schema.SchemaObject.{out-SchemaObject};
 ghost use Rattle.openapi_values.specs.Objects.{members_of};
 ghost use Rattle.openapi_values.specs.SchemaJson.{annotations, extension_entries};
-ghost use Rattle.openapi_values.specs.SchemaJson.{number_entries, text_entries};
-ghost use Rattle.openapi_values.specs.SchemaJson.{nothing_entries, null_entries, boolean_entries};
+ghost use Rattle.openapi_values.specs.SchemaJson.{number_entries, bound_entries, text_entries};
+ghost use Rattle.openapi_values.specs.SchemaJson.{bound_json as json_of_bound, nothing_entries};
+ghost use Rattle.openapi_values.specs.SchemaJson.{enum_entries, const_values, null_values, values_of};
 ghost use Rattle.openapi_values.specs.SchemaJson.{values_json as json_of_values, without_values};
-ghost use Rattle.openapi_values.specs.SchemaJson.{count_json as count_of, names_json};
+ghost use Rattle.openapi_values.specs.SchemaJson.{count_json as count_of};
 ghost use Rattle.openapi_values.specs.SchemaJson.{truth_json as json_of_truth, type_name};
 
+use crate::find::find_word;
 use crate::keywords::text_after;
-use crate::media::true_json;
-use crate::objects::add;
-use crate::part::option_json;
+use crate::objects::{add, true_json};
+use crate::part::{copy_option, option_json};
 use schema_values::{
     InstanceType, Json, LengthBounds, List, Member, NumberBounds, SchemaObject, Text,
 };
@@ -47,6 +50,7 @@ pub fn type_text(alloc: Global, kind: InstanceType) -> Result<Json, AllocError>
         InstanceType::Boolean => Text::from_ascii(alloc, "boolean")?,
         InstanceType::Object => Text::from_ascii(alloc, "object")?,
         InstanceType::Array => Text::from_ascii(alloc, "array")?,
+        InstanceType::Number => Text::from_ascii(alloc, "number")?,
         InstanceType::String => Text::from_ascii(alloc, "string")?,
         InstanceType::Integer => Text::from_ascii(alloc, "integer")?,
     };
@@ -76,11 +80,11 @@ fn title_json(
     }
 }
 
-/// A value as it stands, where there is one.
-fn value_json(alloc: Global, value: &Option<Json>) -> Result<Option<Json>, AllocError>
-    ensures { IfOk result (λ json. json ≡ value.now) }
+/// The extension `example`, which is written as the annotation of that name.
+fn example_json(alloc: Global, extensions: &[Member]) -> Result<Option<Json>, AllocError>
+    ensures { IfOk result (λ json. json ≡ first_named (codes "example") extensions.now) }
 {
-    match value {
+    match find_word(extensions, "example") {
         Some(value) => Ok(Some(value.copy(alloc)?)),
         None => Ok(None),
     }
@@ -113,44 +117,65 @@ pub fn add_annotations(
         (annotations given.now (out-SchemaObject schema.now))) }
 {
     add(alloc, members, "nullable", true_json(schema.nullable))?;
+    add(alloc, members, "readOnly", true_json(schema.read_only))?;
+    add(alloc, members, "writeOnly", true_json(schema.write_only))?;
+    add(alloc, members, "deprecated", true_json(schema.deprecated))?;
+    let example = example_json(alloc, schema.extensions.as_slice())?;
+    add(alloc, members, "example", example)?;
     let title = title_json(alloc, given, &schema.title)?;
     add(alloc, members, "title", title)?;
     let description = option_json(alloc, &schema.description)?;
     add(alloc, members, "description", description)?;
-    let default = value_json(alloc, &schema.default)?;
+    let default = copy_option(alloc, &schema.default)?;
     add(alloc, members, "default", default)?;
     add_extensions(alloc, members, schema.extensions.as_slice())?;
     Ok(())
 }
 
-fn bound_json(bound: Option<i128>) -> Option<Json>
-    ensures { result ≡ option_map IntOf bound }
+/// Of two forms of a bound the included one, or else the other.
+fn bound_json(included: Option<i128>, excluded: Option<i128>) -> Option<Json>
+    ensures { result ≡ json_of_bound included excluded }
 {
-    match bound {
+    match included.or(excluded) {
         Some(bound) => Some(Json::Int(bound)),
         None => None,
     }
 }
 
-fn least(bounds: &Option<NumberBounds>) -> Option<i128>
-    ensures { result ≡ option_and_then (λ b. b.minimum) bounds.now }
+/// Adds the bounds of a number, where they are given.
+fn add_bounds(
+    alloc: Global,
+    members: &mut List<Member>,
+    bounds: &Option<NumberBounds>,
+) -> Result<(), AllocError>
+    ensures { OnOk result (members.new ≡ members.old ++ members_of
+        (option_map_or bound_entries bounds.now [])) }
 {
     match bounds {
-        Some(bounds) => bounds.minimum,
-        None => None,
+        Some(bounds) => add_given_bounds(alloc, members, bounds),
+        None => Ok(()),
     }
 }
 
-fn greatest(bounds: &Option<NumberBounds>) -> Option<i128>
-    ensures { result ≡ option_and_then (λ b. b.maximum) bounds.now }
+fn add_given_bounds(
+    alloc: Global,
+    members: &mut List<Member>,
+    bounds: &NumberBounds,
+) -> Result<(), AllocError>
+    ensures { OnOk result (members.new ≡ members.old ++ members_of (bound_entries bounds.now)) }
 {
-    match bounds {
-        Some(bounds) => bounds.maximum,
-        None => None,
-    }
+    let is_above = true_json(bounds.exclusive_minimum.is_some());
+    add(alloc, members, "exclusiveMinimum", is_above)?;
+    let is_below = true_json(bounds.exclusive_maximum.is_some());
+    add(alloc, members, "exclusiveMaximum", is_below)?;
+    let least = bound_json(bounds.minimum, bounds.exclusive_minimum);
+    add(alloc, members, "minimum", least)?;
+    let greatest = bound_json(bounds.maximum, bounds.exclusive_maximum);
+    add(alloc, members, "maximum", greatest)?;
+    Ok(())
 }
 
-/// Adds the members of an integer.
+/// Adds the members of a number.
 pub fn add_number(
     alloc: Global,
     members: &mut List<Member>,
@@ -158,19 +183,12 @@ pub fn add_number(
 ) -> Result<(), AllocError>
     ensures { OnOk result (members.new ≡ members.old ++ members_of
         (number_entries (out-SchemaObject schema.now).format (out-SchemaObject schema.now).number
-        (out-SchemaObject schema.now).enum_values)) }
+        (values_of (out-SchemaObject schema.now).const_value (out-SchemaObject schema.now).enum_values))) }
 {
     let format = option_json(alloc, &schema.format)?;
     add(alloc, members, "format", format)?;
-    add(alloc, members, "minimum", bound_json(least(&schema.number)))?;
-    add(
-        alloc,
-        members,
-        "maximum",
-        bound_json(greatest(&schema.number)),
-    )?;
-    let values = values_json(alloc, &schema.enum_values)?;
-    add(alloc, members, "enum", values)?;
+    add_bounds(alloc, members, &schema.number)?;
+    add_values(alloc, members, schema)?;
     Ok(())
 }
 
@@ -200,12 +218,11 @@ pub fn add_text(
 ) -> Result<(), AllocError>
     ensures { OnOk result (members.new ≡ members.old ++ members_of
         (text_entries (out-SchemaObject schema.now).format (out-SchemaObject schema.now).string
-        (out-SchemaObject schema.now).enum_values)) }
+        (values_of (out-SchemaObject schema.now).const_value (out-SchemaObject schema.now).enum_values))) }
 {
     let format = option_json(alloc, &schema.format)?;
     add(alloc, members, "format", format)?;
-    let values = values_json(alloc, &schema.enum_values)?;
-    add(alloc, members, "enum", values)?;
+    add_values(alloc, members, schema)?;
     add(
         alloc,
         members,
@@ -221,26 +238,22 @@ pub fn add_text(
     Ok(())
 }
 
-/// Adds the members of a boolean.
-pub fn add_boolean(
+/// Adds the values: that of a const alone, or else those that are given.
+pub fn add_values(
     alloc: Global,
     members: &mut List<Member>,
     schema: &SchemaObject,
 ) -> Result<(), AllocError>
-    ensures { OnOk result (members.new ≡ members.old ++ members_of
-        (boolean_entries (out-SchemaObject schema.now).enum_values)) }
+    ensures { OnOk result (members.new ≡ members.old ++ members_of (enum_entries
+        (values_of (out-SchemaObject schema.now).const_value (out-SchemaObject schema.now).enum_values))) }
 {
-    let values = values_json(alloc, &schema.enum_values)?;
-    add(alloc, members, "enum", values)
-}
-
-/// Adds null as the one value.
-pub fn add_null(alloc: Global, members: &mut List<Member>) -> Result<(), AllocError>
-    ensures { OnOk result (members.new ≡ members.old ++ members_of null_entries) }
-{
-    let mut values = List::new(alloc);
-    values.push(Json::Null)?;
-    add(alloc, members, "enum", Some(Json::List(values)))
+    match &schema.const_value {
+        Some(value) => add_one_value(alloc, members, value.copy(alloc)?),
+        None => {
+            let values = values_json(alloc, &schema.enum_values)?;
+            add(alloc, members, "enum", values)
+        }
+    }
 }
 
 fn values_json(alloc: Global, values: &Option<List<Json>>) -> Result<Option<Json>, AllocError>
@@ -252,6 +265,44 @@ fn values_json(alloc: Global, values: &Option<List<Json>>) -> Result<Option<Json
     }
 }
 
+/// Adds the value of a const, where it is given.
+pub fn add_const(
+    alloc: Global,
+    members: &mut List<Member>,
+    schema: &SchemaObject,
+) -> Result<(), AllocError>
+    ensures { OnOk result (members.new ≡ members.old ++ members_of
+        (enum_entries (const_values (out-SchemaObject schema.now).const_value))) }
+{
+    match &schema.const_value {
+        Some(value) => add_one_value(alloc, members, value.copy(alloc)?),
+        None => Ok(()),
+    }
+}
+
+/// Adds null as the one value, or that of a const.
+pub fn add_null(
+    alloc: Global,
+    members: &mut List<Member>,
+    schema: &SchemaObject,
+) -> Result<(), AllocError>
+    ensures { OnOk result (members.new ≡ members.old ++ members_of
+        (enum_entries (Some (null_values (out-SchemaObject schema.now).const_value)))) }
+{
+    match &schema.const_value {
+        Some(value) => add_one_value(alloc, members, value.copy(alloc)?),
+        None => add_one_value(alloc, members, Json::Null),
+    }
+}
+
+fn add_one_value(alloc: Global, members: &mut List<Member>, value: Json) -> Result<(), AllocError>
+    ensures { OnOk result (members.new ≡ members.old ++ members_of (enum_entries (Some (value ∷ [])))) }
+{
+    let mut values = List::new(alloc);
+    values.push(value)?;
+    add(alloc, members, "enum", Some(Json::List(values)))
+}
+
 /// Whether the values are given and there are none.
 pub fn is_without_values(values: &Option<List<Json>>) -> bool
     ensures { result ≡ without_values values.now }
@@ -260,24 +311,4 @@ pub fn is_without_values(values: &Option<List<Json>>) -> bool
         Some(values) => values.is_empty(),
         None => false,
     }
-}
-
-/// The list of names, unless there is none.
-pub fn names(alloc: Global, names: &List<Text>) -> Result<Option<Json>, AllocError>
-    ensures { IfOk result (λ json. json ≡ names_json names.now) }
-{
-    if names.len() == 0 {
-        return Ok(None);
-    }
-    Ok(Some(Json::List(texts(alloc, names.as_slice())?)))
-}
-
-fn texts(alloc: Global, texts: &[Text]) -> Result<List<Json>, AllocError>
-    ensures { IfOk result (λ list. list ≡ map TextOf texts.now) }
-{
-    let mut list = List::new(alloc);
-    for text in texts {
-        list.push(Json::Text(text.copy(alloc)?))?;
-    }
-    Ok(list)
 }

@@ -1,6 +1,8 @@
 ghost use Rattle.std.specs.Prelude.{◌≡◌, ◌++◌, IfOk, OnOk, [], map, option_map, unwrap_or};
 ghost use Rattle.schema_values.specs.declared.schema.ObjectParts.{out-ObjectParts};
 ghost use Rattle.schema_values.specs.declared.schema.SchemaObject.{out-SchemaObject};
+ghost use Rattle.schema_values.specs.declared.schema.InstanceType.TheVariants.{Object as ObjectType};
+ghost use Rattle.schema_values.specs.declared.schema.InstanceType.TheVariants.{Array as ArrayType};
 ghost use Rattle.openapi_values.specs.Objects.{members_of, unless_empty, pair_member};
 ghost use Rattle.openapi_values.specs.SchemaJson.{untitled, additional_json as json_of_additional};
 ghost use Rattle.openapi_values.specs.SchemaJson.{schemas_json as json_of_schemas, kind_entries};
@@ -10,9 +12,10 @@ ghost use Rattle.openapi_values.specs.SchemaJson.{items_written, array_written, 
 ghost use Rattle.openapi_values.specs.SchemaJson.{property_written, subschemas_written};
 
 use crate::objects::{add, reference};
+use crate::part::list_unless_empty;
 use crate::schema_parts::{
-    add_annotations, add_boolean, add_nothing, add_null, add_number, add_text, count_json,
-    is_without_values, names, truth_json, type_text,
+    add_annotations, add_const, add_nothing, add_null, add_number, add_text, add_values,
+    count_json, is_without_values, truth_json, type_text,
 };
 use schema_values::{
     ArrayParts, InstanceType, InstanceTypes, Items, Json, List, Member, ObjectParts, Property,
@@ -75,7 +78,7 @@ fn add_type(
         (type_entries (out-SchemaObject schema.now).instance_type (object_level schema.now))) }
 {
     match &schema.instance_type {
-        None => Ok(()),
+        None | Some(InstanceTypes::Several(_)) => Ok(()),
         Some(InstanceTypes::Single(kind)) => {
             let name = type_text(alloc, *kind)?;
             add(alloc, members, "type", Some(name))?;
@@ -96,23 +99,49 @@ fn add_kind(
         (kind_entries kind (object_level schema.now))) }
 {
     match kind {
-        InstanceType::Null => add_null(alloc, members),
-        InstanceType::Boolean => add_boolean(alloc, members, schema),
-        InstanceType::Object => match &schema.object {
-            Some(object) => add_object_parts(alloc, members, object),
-            None => Ok(()),
-        },
-        InstanceType::Array => match &schema.array {
-            Some(array) => add_array(alloc, members, array),
-            None => Ok(()),
-        },
+        InstanceType::Null => add_null(alloc, members, schema),
+        InstanceType::Boolean => add_values(alloc, members, schema),
+        InstanceType::Object => add_object(alloc, members, schema),
+        InstanceType::Array => add_array(alloc, members, schema),
         InstanceType::String => add_text(alloc, members, schema),
-        InstanceType::Integer => add_number(alloc, members, schema),
+        InstanceType::Number | InstanceType::Integer => add_number(alloc, members, schema),
+    }
+}
+
+#[cycle(written)]
+fn add_object(
+    alloc: Global,
+    members: &mut List<Member>,
+    schema: &SchemaObject,
+) -> Result<(), AllocError>
+    ensures { OnOk result (members.new ≡ members.old ++ members_of
+        (kind_entries ObjectType (object_level schema.now))) }
+{
+    add_const(alloc, members, schema)?;
+    match &schema.object {
+        Some(object) => add_object_parts(alloc, members, object),
+        None => Ok(()),
     }
 }
 
 #[cycle(written)]
 fn add_array(
+    alloc: Global,
+    members: &mut List<Member>,
+    schema: &SchemaObject,
+) -> Result<(), AllocError>
+    ensures { OnOk result (members.new ≡ members.old ++ members_of
+        (kind_entries ArrayType (object_level schema.now))) }
+{
+    add_const(alloc, members, schema)?;
+    match &schema.array {
+        Some(array) => add_array_parts(alloc, members, array),
+        None => Ok(()),
+    }
+}
+
+#[cycle(written)]
+fn add_array_parts(
     alloc: Global,
     members: &mut List<Member>,
     array: &ArrayParts,
@@ -142,6 +171,7 @@ fn item_json(alloc: Global, items: &Items) -> Result<Json, AllocError>
 {
     match items {
         Items::One(schema) => written(alloc, &None, schema),
+        Items::Tuple(schemas) => Ok(Json::List(list_json(alloc, schemas.as_slice())?)),
     }
 }
 
@@ -155,10 +185,12 @@ fn add_object_parts(
 {
     let properties = properties_json(alloc, object)?;
     add(alloc, members, "properties", properties)?;
-    let required = names(alloc, &object.required)?;
+    let required = list_unless_empty(alloc, &object.required)?;
     add(alloc, members, "required", required)?;
     let additional = additional_json(alloc, object)?;
     add(alloc, members, "additionalProperties", additional)?;
+    add(alloc, members, "minProperties", count_json(object.min))?;
+    add(alloc, members, "maxProperties", count_json(object.max))?;
     Ok(())
 }
 

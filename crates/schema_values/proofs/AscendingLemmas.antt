@@ -13,7 +13,7 @@ use Rattle.schema_values.specs.declared.json_value.Json.TheVariants.{rolls-Null,
 use Rattle.schema_values.specs.declared.json_value.Member.{Member}
 use Rattle.schema_values.specs.Ascending.{IsAscending, AreAscending, HaveAscending}
 use Rattle.schema_values.specs.Member.{name_of}
-use Rattle.schema_values.specs.SortedMembers.{placed, in_order_after, sorted_members, sorted_items, sorted_values}
+use Rattle.schema_values.specs.SortedMembers.{placed, in_order_after, sorted_members, sorted_member, sorted_items, sorted_values}
 use Rattle.schema_values.proofs.Rows.{items_row, items_of_row, members_row, members_of_row, names-items}
 use Rattle.schema_values.proofs.DistinctLemmas.{Below, below_all}
 use Rattle.schema_values.proofs.Utf8Order.{reversed, cmp-chars}
@@ -50,9 +50,6 @@ in_order-sorted found (m ∷ ms) h =
 
 -- ---- level by level
 
-abbrev sorted_member : Member → Member
-sorted_member m = record { name = m.name; value = sorted_members m.value }
-
 items : (n : _) (row : Row_of-Json n) → sorted_items row ≡ map sorted_members (items-the_row-Json n row)
 items n end_of-Json = refl
 items n (more_of-Json item rest) = ap (λ js. sorted_members item ∷ js) (items _ rest)
@@ -61,10 +58,10 @@ members : (n : _) (row : Row_of-Member n) → sorted_values row ≡ map sorted_m
 members n end_of-Member = refl
 members n (more_of-Member name value rest) = ap (λ ms. record { name = name; value = sorted_members value } ∷ ms) (members _ rest)
 
-sorted-List : (xs : List Json) → sorted_members (ListOf xs) ≡ ListOf (map sorted_members xs)
+pub sorted-List : (xs : List Json) → sorted_members (ListOf xs) ≡ ListOf (map sorted_members xs)
 sorted-List xs = let row = items_row (ListOf xs) in ap ListOf (items row.0 row.1 ∙ ap (map sorted_members) (items_of_row xs))
 
-sorted-Object : (xs : List Member) → sorted_members (Object xs) ≡ Object (in_order_after [] (map sorted_member xs))
+pub sorted-Object : (xs : List Member) → sorted_members (Object xs) ≡ Object (in_order_after [] (map sorted_member xs))
 sorted-Object xs = let row = members_row (Object xs) in ap (λ ms. Object (in_order_after [] ms)) (members row.0 row.1 ∙ ap (map sorted_member) (members_of_row xs))
 
 of_row : (n : _) (row : Row_of-Json n) → AreAscending row → AllByRecursion IsAscending (items-the_row-Json n row)

@@ -21,6 +21,7 @@ pub mod DepthLemmas
 pub mod ReadTexts
 pub mod ReadTokens
 pub mod ReadNumbers
+pub mod OneReading
 pub mod SoundReadings
 pub mod AscendingReadings
 pub mod SameLemmas

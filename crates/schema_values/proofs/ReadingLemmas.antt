@@ -17,11 +17,13 @@ items-collected : (vs : List Value) → items_of (items_view vs) ≡ collected (
 items-collected [] = refl
 items-collected (v ∷ vs) = ap (λ r. option_and_then (λ j. option_map (λ js. j ∷ js) r) (json_of_value v)) (items-collected vs)
 
+pub items-after : (vs : List Value) (v : Value) (js : List Json) (j : Json) → items_of (items_view vs) ≡ Some js → json_of (view v) ≡ Some j → items_of (items_view (vs ++ v ∷ [])) ≡ Some (js ++ j ∷ [])
+items-after vs v js j e f = items-collected (vs ++ v ∷ []) ∙ collected-more json_of_value vs v js j (sym (items-collected vs) ∙ e) f
+
 pub items-more : (vs : List Value) (k : ℕ) (v : Value) (js : List Json) (j : Json) → k < length vs → v ≡ get_or vs k v → items_of (items_view (take k vs)) ≡ Some js → json_of (view v) ≡ Some j
     → items_of (items_view (take (k + 1) vs)) ≡ Some (js ++ j ∷ [])
 items-more vs k v js j h is e f =
-    ap (λ xs. items_of (items_view xs)) (take_more vs k v h ∙ ap (λ x. take k vs ++ x ∷ []) (sym is)) ∙ items-collected (take k vs ++ v ∷ [])
-    ∙ collected-more json_of_value (take k vs) v js j (sym (items-collected (take k vs)) ∙ e) f
+    ap (λ xs. items_of (items_view xs)) (take_more vs k v h ∙ ap (λ x. take k vs ++ x ∷ []) (sym is)) ∙ items-after (take k vs) v js j e f
 
 pub items-none : (vs : List Value) (k : ℕ) (v : Value) → k < length vs → v ≡ get_or vs k v → json_of (view v) ≡ None → items_of (items_view vs) ≡ None
 items-none vs k v h is e = items-collected vs ∙ collected-at json_of_value vs k v h is e

@@ -52,3 +52,10 @@ AreDistinct-cons m ms = (λ h. (members_of_new (name_of m) ms h.0, h.1), λ h. (
 pub all-push : {X : Type 0} (P : X → Type 0) (xs : List X) (x : X) → AllByRecursion P xs → P x → AllByRecursion P (xs ++ x ∷ [])
 all-push P [] x h p = (p, tt)
 all-push P (y ∷ ys) x h p = (h.0, all-push P ys x h.1 p)
+
+-- the items of a sound list, and the members of a sound object, are sound
+pub items_sound : (j : Json) (items xs : List Json) → j ≡ ListOf items → xs ≡ items → IsSound j → AllByRecursion IsSound xs
+items_sound j items xs is same h = subst (AllByRecursion IsSound) (sym same) ((IsSound-List items).0 (subst IsSound is h))
+
+pub members_sound : (j : Json) (members xs : List Member) → j ≡ Object members → xs ≡ members → IsSound j → AllByRecursion HasSoundValue xs
+members_sound j members xs is same h = subst (AllByRecursion HasSoundValue) (sym same) ((IsSound-Object members).0 (subst IsSound is h)).0

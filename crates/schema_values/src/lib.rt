@@ -17,6 +17,7 @@ mod schema_copy;
 mod tests;
 mod text;
 mod value;
+mod variables;
 
 pub use boxed::Boxed;
 pub use json_value::{Json, Member, names_ascend};
@@ -32,3 +33,4 @@ pub use schema::{
 };
 pub use text::Text;
 pub use value::ValueError;
+pub use variables::{VariableSet, VariableValue};

@@ -1,11 +1,16 @@
+ghost use Rattle.std.specs.Prelude.{◌≡◌};
+ghost use Rattle.schema_values.specs.declared.schema.SchemaObject.{out-SchemaObject};
+ghost use Rattle.schema_values.specs.Parts.{no_parts};
+
 use crate::boxed::Boxed;
 use crate::json_value::{Json, Member};
 use crate::list::List;
 use crate::text::Text;
 use indexmap::IndexMap;
+use std::alloc::Global;
 
 /// Schemas by name, in the order in which they came. A reference means one of them.
-pub type Definitions = IndexMap<Text, Schema>;
+pub type Definitions = IndexMap<String, Schema>;
 
 /// A schema of JSON values.
 #[derive(Drop)]
@@ -28,6 +33,12 @@ pub struct SchemaObject {
     pub description: Option<Text>,
     /// The value that stands for an absent one. An annotation: it admits nothing and refuses nothing.
     pub default: Option<Json>,
+    /// An annotation: the value is still taken, and may be gone later.
+    pub deprecated: bool,
+    /// An annotation: the value stands in responses alone.
+    pub read_only: bool,
+    /// An annotation: the value stands in requests alone.
+    pub write_only: bool,
     /// Whether null is a value too, whatever the instance type.
     pub nullable: bool,
     pub instance_type: Option<InstanceTypes>,
@@ -35,6 +46,8 @@ pub struct SchemaObject {
     pub format: Option<Text>,
     /// The only values, where they are given.
     pub enum_values: Option<List<Json>>,
+    /// The only value, where it is given. OpenAPI 3.0.3 has no such part.
+    pub const_value: Option<Json>,
     pub subschemas: Option<Subschemas>,
     pub number: Option<NumberBounds>,
     pub string: Option<LengthBounds>,
@@ -46,11 +59,41 @@ pub struct SchemaObject {
     pub extensions: List<Member>,
 }
 
+impl SchemaObject {
+    /// A schema without any part, which every value meets.
+    pub fn new(alloc: Global) -> SchemaObject
+        ensures { out-SchemaObject result ≡ no_parts }
+    {
+        SchemaObject {
+            title: None,
+            description: None,
+            default: None,
+            deprecated: false,
+            read_only: false,
+            write_only: false,
+            nullable: false,
+            instance_type: None,
+            format: None,
+            enum_values: None,
+            const_value: None,
+            subschemas: None,
+            number: None,
+            string: None,
+            array: None,
+            object: None,
+            reference: None,
+            extensions: List::new(alloc),
+        }
+    }
+}
+
 /// The types that a value may have.
 #[derive(Drop)]
 pub enum InstanceTypes {
     /// This type alone.
     Single(InstanceType),
+    /// Any of these. OpenAPI 3.0.3 has no such part.
+    Several(List<InstanceType>),
 }
 
 /// A type of JSON values.
@@ -61,6 +104,8 @@ pub enum InstanceType {
     Boolean,
     Object,
     Array,
+    /// The type of all numbers, whole or not.
+    Number,
     String,
     Integer,
 }
@@ -79,11 +124,17 @@ pub struct Subschemas {
     pub not: Option<Schema>,
 }
 
-/// The least and the greatest number, both included.
+/// The bounds of a number. `j2oas_schema` refuses a bound that stands in both its forms.
 #[derive(Drop)]
 pub struct NumberBounds {
+    /// The least number.
     pub minimum: Option<i128>,
+    /// Each value is above it.
+    pub exclusive_minimum: Option<i128>,
+    /// The greatest number.
     pub maximum: Option<i128>,
+    /// Each value is below it.
+    pub exclusive_maximum: Option<i128>,
 }
 
 /// The least and the greatest number of characters of a text.
@@ -108,6 +159,8 @@ pub struct ArrayParts {
 pub enum Items {
     /// One schema for each item.
     One(Schema),
+    /// A schema for the item at each place. OpenAPI 3.0.3 has no such part.
+    Tuple(List<Schema>),
 }
 
 /// The members of an object. Properties and required names are written in the order in which they stand;
@@ -119,6 +172,10 @@ pub struct ObjectParts {
     pub required: List<Text>,
     /// The schema of the members that are no properties. Any value where it is absent.
     pub additional: Option<Schema>,
+    /// The least number of members.
+    pub min: Option<u32>,
+    /// The greatest number of members.
+    pub max: Option<u32>,
 }
 
 /// A named member of an object, and its schema.

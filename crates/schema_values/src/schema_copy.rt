@@ -5,8 +5,8 @@ use crate::copy::copy_members;
 use crate::json_value::Json;
 use crate::list::List;
 use crate::schema::{
-    ArrayParts, InstanceTypes, Items, LengthBounds, NumberBounds, ObjectParts, Property, Schema,
-    SchemaObject, Subschemas,
+    ArrayParts, InstanceType, InstanceTypes, Items, LengthBounds, NumberBounds, ObjectParts,
+    Property, Schema, SchemaObject, Subschemas,
 };
 use crate::text::Text;
 use std::alloc::{AllocError, Global};
@@ -37,10 +37,14 @@ impl SchemaObject {
             title: copy_text(alloc, &self.title)?,
             description: copy_text(alloc, &self.description)?,
             default: copy_value(alloc, &self.default)?,
+            deprecated: self.deprecated,
+            read_only: self.read_only,
+            write_only: self.write_only,
             nullable: self.nullable,
             instance_type: copy_types(alloc, &self.instance_type)?,
             format: copy_text(alloc, &self.format)?,
             enum_values: copy_values(alloc, &self.enum_values)?,
+            const_value: copy_value(alloc, &self.const_value)?,
             subschemas: copy_subschemas(alloc, &self.subschemas)?,
             number: copy_numbers(alloc, &self.number)?,
             string: copy_lengths(alloc, &self.string)?,
@@ -54,11 +58,14 @@ impl SchemaObject {
 
 impl InstanceTypes {
     /// Types equal to these.
-    pub fn copy(&self, _alloc: Global) -> Result<InstanceTypes, AllocError>
+    pub fn copy(&self, alloc: Global) -> Result<InstanceTypes, AllocError>
         ensures { IfOk result (λ copy. copy ≡ self.now) }
     {
         match self {
             InstanceTypes::Single(single) => Ok(InstanceTypes::Single(*single)),
+            InstanceTypes::Several(several) => {
+                Ok(InstanceTypes::Several(copy_kinds(alloc, several.as_slice())?))
+            }
         }
     }
 }
@@ -85,7 +92,9 @@ impl NumberBounds {
     {
         Ok(NumberBounds {
             minimum: self.minimum,
+            exclusive_minimum: self.exclusive_minimum,
             maximum: self.maximum,
+            exclusive_maximum: self.exclusive_maximum,
         })
     }
 }
@@ -124,6 +133,7 @@ impl Items {
     {
         match self {
             Items::One(schema) => Ok(Items::One(schema.copy(alloc)?)),
+            Items::Tuple(schemas) => Ok(Items::Tuple(copy_list(alloc, schemas.as_slice())?)),
         }
     }
 }
@@ -138,6 +148,8 @@ impl ObjectParts {
             properties: copy_properties(alloc, self.properties.as_slice())?,
             required: copy_texts(alloc, self.required.as_slice())?,
             additional: copy_schema(alloc, &self.additional)?,
+            min: self.min,
+            max: self.max,
         })
     }
 }
@@ -164,12 +176,22 @@ fn copy_text(alloc: Global, text: &Option<Text>) -> Result<Option<Text>, AllocEr
     }
 }
 
-fn copy_texts(alloc: Global, texts: &[Text]) -> Result<List<Text>, AllocError>
+pub(crate) fn copy_texts(alloc: Global, texts: &[Text]) -> Result<List<Text>, AllocError>
     ensures { IfOk result (λ copies. copies ≡ texts.now) }
 {
     let mut copies = List::new(alloc);
     for text in texts {
         copies.push(text.copy(alloc)?)?;
+    }
+    Ok(copies)
+}
+
+fn copy_kinds(alloc: Global, kinds: &[InstanceType]) -> Result<List<InstanceType>, AllocError>
+    ensures { IfOk result (λ copies. copies ≡ kinds.now) }
+{
+    let mut copies = List::new(alloc);
+    for kind in kinds {
+        copies.push(*kind)?;
     }
     Ok(copies)
 }
@@ -291,14 +313,21 @@ fn copy_schemas(
 ) -> Result<Option<List<Schema>>, AllocError>
     ensures { IfOk result (λ copy. copy ≡ schemas.now) }
 {
-    let Some(schemas) = schemas else {
-        return Ok(None);
-    };
+    match schemas {
+        None => Ok(None),
+        Some(schemas) => Ok(Some(copy_list(alloc, schemas.as_slice())?)),
+    }
+}
+
+#[cycle(schema_copy)]
+fn copy_list(alloc: Global, schemas: &[Schema]) -> Result<List<Schema>, AllocError>
+    ensures { IfOk result (λ copies. copies ≡ schemas.now) }
+{
     let mut copies = List::new(alloc);
-    for schema in schemas.as_slice() {
+    for schema in schemas {
         copies.push(schema.copy(alloc)?)?;
     }
-    Ok(Some(copies))
+    Ok(copies)
 }
 
 #[cycle(schema_copy)]

@@ -105,6 +105,22 @@ fn a_float_of_the_pack_is_told(rt: HostRuntime) -> Result<(), Fail> {
 }
 
 #[test]
+fn values_go_to_the_pack_and_come_back(rt: HostRuntime) -> Result<(), Fail> {
+    let alloc = rt.alloc();
+    let value = Json::read(alloc, b"[true]")?.to_value(alloc)?;
+    assert_eq!(rt; value.to_string(alloc)?.as_str(), "[true]");
+    assert_eq!(rt;
+        Json::of_value(alloc, &value)?.compact(alloc)?.as_str(),
+        "[true]"
+    );
+    let unsorted = object_of(alloc, &["b", "a"])?;
+    assert!(rt; unsorted.sound());
+    let value = unsorted.to_value(alloc)?;
+    assert_eq!(rt; value.to_string(alloc)?.as_str(), "{\"a\":1,\"b\":1}");
+    Ok(())
+}
+
+#[test]
 fn lists_and_texts_show_what_they_hold(rt: HostRuntime) -> Result<(), Fail> {
     let bytes = List::from_bytes(rt.alloc(), b"abc")?;
     assert_eq!(rt; bytes.get(2).copied(), Some(b'c'));
@@ -125,26 +141,18 @@ fn schema_of(alloc: Global) -> Result<Schema, AllocError> {
         name: Text::from_str(alloc, "n")?,
         schema: Schema::Bool(false),
     })?;
-    let object = SchemaObject {
-        title: None,
-        description: Some(Text::from_str(alloc, "a thing")?),
-        default: Some(Json::Int(7)),
-        nullable: true,
-        instance_type: Some(InstanceTypes::Single(InstanceType::Object)),
-        format: None,
-        enum_values: None,
-        subschemas: None,
-        number: None,
-        string: None,
-        array: None,
-        object: Some(ObjectParts {
-            properties,
-            required: List::new(alloc),
-            additional: Some(Schema::Bool(true)),
-        }),
-        reference: None,
-        extensions: List::new(alloc),
-    };
+    let mut object = SchemaObject::new(alloc);
+    object.description = Some(Text::from_str(alloc, "a thing")?);
+    object.default = Some(Json::Int(7));
+    object.nullable = true;
+    object.instance_type = Some(InstanceTypes::Single(InstanceType::Object));
+    object.object = Some(ObjectParts {
+        properties,
+        required: List::new(alloc),
+        additional: Some(Schema::Bool(true)),
+        min: Some(1),
+        max: None,
+    });
     Ok(Schema::Object(Boxed::new(alloc, object)?))
 }
 
@@ -152,11 +160,10 @@ fn schema_of(alloc: Global) -> Result<Schema, AllocError> {
 fn a_copy_of_a_schema_is_defined(rt: HostRuntime) -> Result<(), Fail> {
     let mut definitions = Definitions::new(rt.alloc());
     definitions.insert(
-        Text::from_str(rt.alloc(), "T")?,
+        String::from_str(rt.alloc(), "T")?,
         schema_of(rt.alloc())?.copy(rt.alloc())?,
     )?;
-    let name = Text::from_str(rt.alloc(), "T")?;
-    let Some(Schema::Object(object)) = definitions.get(&name) else {
+    let Some(Schema::Object(object)) = definitions.get("T") else {
         return Err("no schema".into());
     };
     let object = object.get();

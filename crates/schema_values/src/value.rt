@@ -1,9 +1,10 @@
-ghost use Rattle.std.specs.Prelude.{◌≡◌, IfOk, IfErr, IfSome, None, Some};
+ghost use Rattle.std.specs.Prelude.{◌≡◌, IfOk, IfErr, IfSome, None, Some, [], map};
 ghost use Rattle.std.specs.List.{AllByRecursion};
 ghost use Rattle.schema_values.specs.Ascending.{IsAscending};
 ghost use Rattle.schema_values.specs.AscendingMembers.{HasAscendingMembers};
 ghost use Rattle.schema_values.specs.Sound.{IsSound, IsWhole};
-ghost use Rattle.schema_values.specs.SoundMembers.{HasSoundMembers};
+ghost use Rattle.schema_values.specs.SoundMembers.{HasSoundMembers, HasSoundValue};
+ghost use Rattle.schema_values.specs.SortedMembers.{in_order_after, sorted_member, sorted_members};
 ghost use Rattle.serde_json.specs.View.{view, number_view, items_view, members_view};
 ghost use Rattle.schema_values.specs.Reading.{json_of, items_of, members_of, whole_of};
 
@@ -58,6 +59,25 @@ impl Json {
             Value::Object(members) => Ok(Json::Object(members_of_map(alloc, members)?)),
         }
     }
+
+    /// The same value as one of `serde_json`, whose objects have their members in ascending order of names.
+    #[cycle(to_value)]
+    pub fn to_value(&self, alloc: Global) -> Result<Value, AllocError>
+        requires sound { IsSound self.now }
+        ensures { IfOk result (λ value. json_of (view value) ≡ Some (sorted_members self.now)) }
+    {
+        match self {
+            Json::Null => Ok(Value::Null),
+            Json::Bool(truth) => Ok(Value::Bool(*truth)),
+            Json::Int(number) => match Number::from_i128(*number) {
+                Some(number) => Ok(Value::Number(number)),
+                None => unreachable!(),
+            },
+            Json::Text(text) => Ok(Value::String(String::from_str(alloc, text.as_str())?)),
+            Json::List(items) => Ok(Value::Array(values_of_items(alloc, items.as_slice())?)),
+            Json::Object(members) => Ok(Value::Object(map_of_members(alloc, members.as_slice())?)),
+        }
+    }
 }
 
 #[cycle(of_value)]
@@ -103,4 +123,31 @@ fn whole_number(number: &Number) -> Option<i128>
             None => None,
         },
     }
+}
+
+#[cycle(to_value)]
+fn values_of_items(alloc: Global, items: &[Json]) -> Result<Vec<Value>, AllocError>
+    requires sound { AllByRecursion IsSound items.now }
+    ensures { IfOk result (λ values. items_of (items_view values.items)
+        ≡ Some (map sorted_members items.now)) }
+{
+    let mut values = Vec::new(alloc);
+    for item in items {
+        values.push(item.to_value(alloc)?)?;
+    }
+    Ok(values)
+}
+
+#[cycle(to_value)]
+fn map_of_members(alloc: Global, members: &[Member]) -> Result<Map<String, Value>, AllocError>
+    requires sound { AllByRecursion HasSoundValue members.now }
+    ensures { IfOk result (λ entries. members_of (members_view entries.entries)
+        ≡ Some (in_order_after [] (map sorted_member members.now))) }
+{
+    let mut entries = Map::new(alloc);
+    for member in members {
+        let value = member.value.to_value(alloc)?;
+        serde_json::put(&mut entries, alloc, member.name.as_str(), value)?;
+    }
+    Ok(entries)
 }

@@ -4,7 +4,7 @@ use Rattle.std.specs.List.{list_any}
 use Rattle.std.specs.Option.{option_map_or}
 use Rattle.schema_values.specs.declared.json_value.Json.{Json, Text as Words}
 use Rattle.schema_values.specs.declared.schema.Schema.{Schema, Bool as Truth, Object}
-use Rattle.schema_values.specs.declared.schema.SchemaObject.{SchemaObject, SchemaObject-F, roll-SchemaObject}
+use Rattle.schema_values.specs.declared.schema.SchemaObject.{SchemaObject, roll-SchemaObject}
 use Rattle.schema_values.specs.declared.schema.Subschemas.{Subschemas, Subschemas-F, roll-Subschemas}
 use Rattle.schema_values.specs.declared.schema.ArrayParts.{ArrayParts, roll-ArrayParts}
 use Rattle.schema_values.specs.declared.schema.ObjectParts.{ObjectParts, roll-ObjectParts}
@@ -15,6 +15,7 @@ use Rattle.schema_values.specs.declared.schema.InstanceTypes.TheVariants.{Single
 use Rattle.schema_values.specs.declared.schema.NumberBounds.{NumberBounds}
 use Rattle.schema_values.specs.declared.schema.LengthBounds.{LengthBounds}
 use Rattle.schema_values.specs.declared.schema.Items.{Items, One}
+use Rattle.schema_values.specs.Parts.{Parts, no_parts}
 use Rattle.typed_values.specs.declared.desc.Desc.{Desc, out-Desc}
 use Rattle.typed_values.specs.declared.desc.Desc.TheOpen.{Desc-F}
 use Rattle.typed_values.specs.declared.desc.Field.{Field}
@@ -30,32 +31,9 @@ use Rattle.typed_values.specs.Order.{sorted_by}
 use Rattle.typed_values.specs.SchemaTable.{bare_names, default_of, format_of, least_shown, same_name, is_described}
 use Rattle.typed_values.specs.Levels.{DescLevel}
 
--- the parts of a schema object
-abbrev pub Parts : Type 0
-Parts = SchemaObject-F Items Schema ArrayParts ObjectParts Property SchemaObject Subschemas
-
 -- the schema of some parts
 abbrev pub object_of : Parts → Schema
 object_of parts = Object (roll-SchemaObject parts)
-
--- a schema object without any part
-abbrev pub no_parts : Parts
-no_parts = record {
-  title = None;
-  description = None;
-  default = None;
-  nullable = false;
-  instance_type = None;
-  format = None;
-  enum_values = None;
-  subschemas = None;
-  number = None;
-  string = None;
-  array = None;
-  object = None;
-  reference = None;
-  extensions = [];
-}
 
 -- a schema object of one type
 abbrev pub of_single : InstanceType → Parts
@@ -89,7 +67,7 @@ with_default (Some json) s = record (annotatable s) { default = Some json }
 -- the bounds of numbers, none where neither is given
 abbrev pub number_bounds : Option ℤ → Option ℤ → Option NumberBounds
 number_bounds None None = None
-number_bounds min max = Some (record { minimum = min; maximum = max })
+number_bounds min max = Some (record { minimum = min; exclusive_minimum = None; maximum = max; exclusive_maximum = None })
 
 -- the bounds of lengths or counts, none where neither is given
 abbrev pub length_bounds : Option ℕ → Option ℕ → Option LengthBounds
@@ -152,7 +130,7 @@ list_of item min max =
 -- an object of these properties, of which some are required
 abbrev pub struct_of : List Property → List (List ℕ) → Bool → Parts
 struct_of properties required deny = record (of_single types.Object) {
-  object = Some (roll-ObjectParts (record { properties = properties; required = required; additional = nothing_more deny }));
+  object = Some (roll-ObjectParts (record { properties = properties; required = required; additional = nothing_more deny; min = None; max = None }));
 }
 
 -- an object of these properties, of which some are required, both in order
@@ -212,7 +190,7 @@ other_members s = option_map_or Truth s.truth (object_of s.parts)
 -- an object without properties, each of whose members has such a value
 abbrev pub map_of : Schema → Parts
 map_of values = record (of_single types.Object) {
-  object = Some (roll-ObjectParts (record { properties = []; required = []; additional = Some values }));
+  object = Some (roll-ObjectParts (record { properties = []; required = []; additional = Some values; min = None; max = None }));
 }
 
 -- the variants with payload: each an object of the one property, and of no other

@@ -6,7 +6,7 @@ ghost use Rattle.typed_values.specs.SchemaTable.{is_described};
 ghost use Rattle.typed_values.specs.Schemas as meant;
 
 use crate::desc::Named;
-use crate::schema_parts::{no_parts, no_subschemas, object_of, of_single, with_description};
+use crate::schema_parts::{no_subschemas, object_of, of_single, with_description};
 use schema_values::{InstanceType, Json, List, Schema, SchemaObject};
 use std::alloc::{AllocError, Global};
 
@@ -39,7 +39,7 @@ pub(crate) fn one_of(alloc: Global, choices: List<Schema>) -> SchemaObject
 {
     let mut subschemas = no_subschemas();
     subschemas.one_of = Some(choices);
-    let mut parts = no_parts(alloc);
+    let mut parts = SchemaObject::new(alloc);
     parts.subschemas = Some(subschemas);
     parts
 }

@@ -16,27 +16,6 @@ pub(crate) fn object_of(alloc: Global, parts: SchemaObject) -> Result<Schema, Al
     Ok(Schema::Object(Boxed::new(alloc, parts)?))
 }
 
-pub(crate) fn no_parts(alloc: Global) -> SchemaObject
-    ensures { out-SchemaObject result ≡ meant.no_parts }
-{
-    SchemaObject {
-        title: None,
-        description: None,
-        default: None,
-        nullable: false,
-        instance_type: None,
-        format: None,
-        enum_values: None,
-        subschemas: None,
-        number: None,
-        string: None,
-        array: None,
-        object: None,
-        reference: None,
-        extensions: List::new(alloc),
-    }
-}
-
 pub(crate) fn no_subschemas() -> Subschemas
     ensures { out-Subschemas result ≡ meant.no_subschemas }
 {
@@ -51,7 +30,7 @@ pub(crate) fn no_subschemas() -> Subschemas
 pub(crate) fn of_single(alloc: Global, instance_type: InstanceType) -> SchemaObject
     ensures { out-SchemaObject result ≡ meant.of_single instance_type }
 {
-    let mut parts = no_parts(alloc);
+    let mut parts = SchemaObject::new(alloc);
     parts.instance_type = Some(InstanceTypes::Single(instance_type));
     parts
 }
@@ -66,7 +45,7 @@ fn annotatable(alloc: Global, parts: SchemaObject) -> Result<SchemaObject, Alloc
     }
     let mut all_of = List::new(alloc);
     all_of.push(object_of(alloc, parts)?)?;
-    let mut annotated = no_parts(alloc);
+    let mut annotated = SchemaObject::new(alloc);
     let mut subschemas = no_subschemas();
     subschemas.all_of = Some(all_of);
     annotated.subschemas = Some(subschemas);
@@ -125,7 +104,9 @@ pub(crate) fn number_bounds(min: Option<i128>, max: Option<i128>) -> Option<Numb
     }
     Some(NumberBounds {
         minimum: min,
+        exclusive_minimum: None,
         maximum: max,
+        exclusive_maximum: None,
     })
 }
 

@@ -4,7 +4,7 @@ ghost use Rattle.typed_values.specs.SchemaTable as table;
 ghost use Rattle.typed_values.specs.Schemas as meant;
 
 use crate::desc::{IntKind, copy_text};
-use crate::schema_parts::{length_bounds, no_parts, no_subschemas, number_bounds, of_single};
+use crate::schema_parts::{length_bounds, no_subschemas, number_bounds, of_single};
 use schema_values::{
     ArrayParts, InstanceType, Items, List, ObjectParts, Property, Schema, SchemaObject, Text,
 };
@@ -44,7 +44,7 @@ pub(crate) fn never_parts(alloc: Global) -> SchemaObject
 {
     let mut subschemas = no_subschemas();
     subschemas.not = Some(Schema::Bool(true));
-    let mut parts = no_parts(alloc);
+    let mut parts = SchemaObject::new(alloc);
     parts.subschemas = Some(subschemas);
     parts
 }
@@ -67,6 +67,8 @@ pub(crate) fn map_parts(alloc: Global, values: Schema) -> SchemaObject
         properties: List::new(alloc),
         required: List::new(alloc),
         additional: Some(values),
+        min: None,
+        max: None,
     });
     parts
 }
@@ -137,6 +139,8 @@ pub(crate) fn struct_parts(
         } else {
             None
         },
+        min: None,
+        max: None,
     });
     parts
 }
@@ -144,7 +148,7 @@ pub(crate) fn struct_parts(
 pub(crate) fn choice_parts(alloc: Global, alternatives: List<Schema>) -> SchemaObject
     ensures { out-SchemaObject result ≡ meant.choice_of alternatives }
 {
-    let mut parts = no_parts(alloc);
+    let mut parts = SchemaObject::new(alloc);
     let mut subschemas = no_subschemas();
     subschemas.any_of = Some(alternatives);
     parts.subschemas = Some(subschemas);
@@ -158,7 +162,7 @@ pub(crate) fn ref_parts(alloc: Global, name: &Text) -> Result<SchemaObject, Allo
     let mut reference = Text::new(alloc);
     reference.push_ascii("#/components/schemas/")?;
     reference.push_text(name)?;
-    let mut parts = no_parts(alloc);
+    let mut parts = SchemaObject::new(alloc);
     parts.reference = Some(reference);
     Ok(parts)
 }

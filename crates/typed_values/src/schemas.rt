@@ -13,9 +13,7 @@ use crate::desc::{Desc, Field, Presence};
 use crate::encode::written;
 use crate::order::sort_by_name;
 use crate::schema_names::enumeration_parts;
-use crate::schema_parts::{
-    no_parts, object_of, of_single, with_default, with_description, with_null,
-};
+use crate::schema_parts::{object_of, of_single, with_default, with_description, with_null};
 use crate::schema_rows::{
     char_parts, choice_parts, int_parts, list_parts, map_parts, never_parts, ref_parts,
     struct_parts, text_parts,
@@ -86,7 +84,7 @@ pub(crate) fn parts_of(
     ensures { IfOk result (λ parts. out-SchemaObject parts ≡ schema_parts table.now desc.now) }
 {
     match desc {
-        Desc::Any => Ok(no_parts(alloc)),
+        Desc::Any => Ok(SchemaObject::new(alloc)),
         Desc::Never => Ok(never_parts(alloc)),
         Desc::Null => Ok(of_single(alloc, InstanceType::Null)),
         Desc::Bool => Ok(of_single(alloc, InstanceType::Boolean)),

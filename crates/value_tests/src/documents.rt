@@ -201,6 +201,7 @@ fn described(alloc: Global, schema: Json) -> Result<ResponseObject, AllocError> 
     let reference = None;
     Ok(ResponseObject {
         description,
+        headers: List::new(alloc),
         content,
         reference,
     })
@@ -212,6 +213,7 @@ fn referred(alloc: Global) -> Result<ResponseObject, AllocError> {
     let description = None;
     Ok(ResponseObject {
         description,
+        headers: List::new(alloc),
         content,
         reference,
     })
@@ -226,9 +228,15 @@ fn taking(alloc: Global, schema: Json) -> Result<Operation, AllocError> {
         required: true,
     });
     Ok(Operation {
+        tags: List::new(alloc),
+        summary: None,
+        description: None,
         operation_id,
+        parameters: List::new(alloc),
         request_body,
         responses,
+        deprecated: false,
+        pagination: None,
     })
 }
 
@@ -256,11 +264,20 @@ fn document(alloc: Global, schema: &Json) -> Result<OpenApi, AllocError> {
     let components = components(alloc, schema)?;
     let title = text(alloc, "sample")?;
     let version = text(alloc, "1.0.0")?;
-    let info = Info { title, version };
+    let info = Info {
+        title,
+        description: None,
+        terms_of_service: None,
+        contact: None,
+        license: None,
+        version,
+    };
     Ok(OpenApi {
+        openapi: text(alloc, "3.0.3")?,
         info,
         paths,
         components,
+        tags: List::new(alloc),
     })
 }
 

@@ -6,12 +6,20 @@ mod documents;
 #[cfg(test)]
 mod errors;
 #[cfg(test)]
+mod given;
+#[cfg(test)]
+mod parts;
+#[cfg(test)]
 mod refusals;
 #[cfg(test)]
 mod schemas;
 #[cfg(test)]
 mod tables;
 #[cfg(test)]
+mod texts;
+#[cfg(test)]
 mod trees;
+#[cfg(test)]
+mod unwritten;
 #[cfg(test)]
 mod written;

@@ -1,374 +1,333 @@
-use openapi_values::{J2oasError, j2oas_schema};
-use schema_values::{
-    ArrayParts, Boxed, InstanceType, InstanceTypes, Items, Json, LengthBounds, List, Member,
-    NumberBounds, ObjectParts, ReadError, Schema, SchemaObject, Subschemas, Text,
+//! What schemas are written as.
+use crate::given::Given::{
+    Additional, AllOf, AnyOf, Const, Default, Deprecated, Description, ExclusiveMaximum,
+    ExclusiveMinimum, Extension, Format, ItemCounts, Items, Lengths, Maximum, MemberCounts,
+    Minimum, Not, Nullable, OneOf, Property, ReadOnly, Reference, Required, SeveralTypes, Title,
+    Type, Values, WriteOnly,
 };
-use std::alloc::{AllocError, Global};
+use crate::given::Inner::{Every, Flag, Floats, Foo, Nothing};
+use crate::given::{Given, written};
+use openapi_values::j2oas_schema;
+use schema_values::{InstanceType as Kind, Schema};
 use std::test::Fail;
 
-// A type, its format, its values or null where none are given, and the schema that is written.
-const WITH_VALUES: [(InstanceType, &str, &str, &str); 8] = [
+const EVERY_ANNOTATION: &str = concat!(
+    r#"{"nullable":true,"readOnly":true,"writeOnly":true,"deprecated":true,"example":[1],"#,
+    r#""title":"T","description":"D","default":null,"x-b":{"y":1},"x-a":2,"type":"boolean"}"#
+);
+
+// Annotations stand in their order, in whatever order they are given.
+const ANNOTATED: [(&[Given], &str); 11] = [
+    (&[], "{}"),
+    (&[Nullable], r#"{"nullable":true}"#),
+    (&[ReadOnly], r#"{"readOnly":true}"#),
+    (&[WriteOnly], r#"{"writeOnly":true}"#),
+    (&[Deprecated], r#"{"deprecated":true}"#),
     (
-        InstanceType::String,
-        "uuid",
-        r#"["a","b"]"#,
-        r#"{"type":"string","format":"uuid","enum":["a","b"],"minLength":1}"#,
+        &[Extension("example", r#"{"a":1}"#)],
+        r#"{"example":{"a":1}}"#,
+    ),
+    (&[Title("T")], r#"{"title":"T"}"#),
+    (
+        &[Default("7"), Description("D")],
+        r#"{"description":"D","default":7}"#,
     ),
     (
-        InstanceType::Integer,
-        "int32",
-        "[1,null]",
-        r#"{"type":"integer","format":"int32","maximum":2,"enum":[1,null]}"#,
+        &[
+            Type(Kind::Object),
+            Extension("x-stuff", r#"{"hello":"there","least":[1,null]}"#),
+            Extension("stuff", "true"),
+        ],
+        r#"{"x-stuff":{"hello":"there","least":[1,null]},"type":"object"}"#,
     ),
     (
-        InstanceType::Boolean,
-        "flag",
-        "[true]",
+        &[
+            Type(Kind::Boolean),
+            Extension("x-b", r#"{"y":1}"#),
+            Extension("example", "[1]"),
+            Extension("x-a", "2"),
+            Default("null"),
+            Description("D"),
+            Title("T"),
+            Deprecated,
+            WriteOnly,
+            ReadOnly,
+            Nullable,
+        ],
+        EVERY_ANNOTATION,
+    ),
+    (
+        &[
+            Nullable,
+            Description("None"),
+            Type(Kind::Integer),
+            Values("[]"),
+        ],
+        r#"{"nullable":true,"description":"None","not":{}}"#,
+    ),
+];
+
+const EVERY_MEMBER: &str = concat!(
+    r#"{"type":"object","properties":{"a":{"type":"boolean"},"b":{"not":{}}},"#,
+    r##""required":["b"],"additionalProperties":{"$ref":"#/components/schemas/Foo"},"##,
+    r#""minProperties":1,"maxProperties":2}"#
+);
+
+// The members of each type.
+const OF_TYPES: [(&[Given], &str); 21] = [
+    (&[Type(Kind::Boolean)], r#"{"type":"boolean"}"#),
+    (
+        &[
+            Type(Kind::Integer),
+            Maximum(18_446_744_073_709_551_615),
+            Values("[9223372036854775808]"),
+        ],
+        r#"{"type":"integer","maximum":18446744073709551615,"enum":[9223372036854775808]}"#,
+    ),
+    (
+        &[
+            Type(Kind::Object),
+            Property("b", Flag),
+            Property("a", Every),
+            Required("b"),
+            Required("a"),
+        ],
+        r#"{"type":"object","properties":{"b":{"type":"boolean"},"a":{}},"required":["b","a"]}"#,
+    ),
+    (
+        &[
+            Type(Kind::Boolean),
+            Values("[true]"),
+            Format("flag"),
+            Maximum(2),
+        ],
         r#"{"type":"boolean","enum":[true]}"#,
     ),
     (
-        InstanceType::Boolean,
-        "flag",
-        "null",
-        r#"{"type":"boolean"}"#,
-    ),
-    (
-        InstanceType::Null,
-        "none",
-        "null",
+        &[Type(Kind::Null), Format("none")],
         r#"{"type":"string","enum":[null]}"#,
     ),
     (
-        InstanceType::Null,
-        "none",
-        "[null,null]",
+        &[Type(Kind::Null), Values("[null,null]")],
         r#"{"type":"string","enum":[null]}"#,
     ),
-    (InstanceType::Integer, "int32", "[]", r#"{"not":{}}"#),
-    (InstanceType::Array, "list", "[]", r#"{"not":{}}"#),
+    (
+        &[
+            Type(Kind::String),
+            Format("uuid"),
+            Values(r#"["a","b"]"#),
+            Lengths(1, 2),
+        ],
+        r#"{"type":"string","format":"uuid","enum":["a","b"],"minLength":1,"maxLength":2}"#,
+    ),
+    (&[Type(Kind::String), Items(Flag)], r#"{"type":"string"}"#),
+    (
+        &[
+            Type(Kind::Integer),
+            Format("int32"),
+            Maximum(2),
+            Values("[1,null]"),
+        ],
+        r#"{"type":"integer","format":"int32","maximum":2,"enum":[1,null]}"#,
+    ),
+    (
+        &[Type(Kind::Integer), Minimum(-1), Maximum(9)],
+        r#"{"type":"integer","minimum":-1,"maximum":9}"#,
+    ),
+    (
+        &[Type(Kind::Integer), ExclusiveMinimum(0), Maximum(9)],
+        r#"{"type":"integer","exclusiveMinimum":true,"minimum":0,"maximum":9}"#,
+    ),
+    (
+        &[Type(Kind::Integer), Minimum(0), ExclusiveMaximum(9)],
+        r#"{"type":"integer","exclusiveMaximum":true,"minimum":0,"maximum":9}"#,
+    ),
+    (
+        &[
+            Type(Kind::Integer),
+            ExclusiveMinimum(0),
+            ExclusiveMaximum(9),
+        ],
+        r#"{"type":"integer","exclusiveMinimum":true,"exclusiveMaximum":true,"minimum":0,"maximum":9}"#,
+    ),
+    (&[Type(Kind::Integer), Values("[]")], r#"{"not":{}}"#),
+    (
+        &[Type(Kind::Array), Items(Flag), Values("[]")],
+        r#"{"not":{}}"#,
+    ),
+    (
+        &[Type(Kind::Array), Items(Every), ItemCounts(1, 2)],
+        r#"{"type":"array","items":{},"minItems":1,"maxItems":2}"#,
+    ),
+    (
+        &[Type(Kind::Object), MemberCounts(1, 2)],
+        r#"{"type":"object","minProperties":1,"maxProperties":2}"#,
+    ),
+    (
+        &[Type(Kind::Object), Additional(Every)],
+        r#"{"type":"object","additionalProperties":true}"#,
+    ),
+    (
+        &[Type(Kind::Object), Additional(Nothing)],
+        r#"{"type":"object","additionalProperties":false}"#,
+    ),
+    (
+        &[
+            Type(Kind::Object),
+            MemberCounts(1, 2),
+            Additional(Foo),
+            Required("b"),
+            Property("a", Flag),
+            Property("b", Nothing),
+        ],
+        EVERY_MEMBER,
+    ),
+    (
+        &[Format("int32"), Maximum(9), Lengths(1, 2), Items(Floats)],
+        "{}",
+    ),
 ];
 
-// A type, if there is one, its values, and why they are refused.
-const BAD_VALUES: [(Option<InstanceType>, &str, &str); 7] = [
-    (None, "[1]", "EnumWithoutType"),
-    (Some(InstanceType::Array), "[[]]", "EnumWithoutType"),
-    (Some(InstanceType::Object), "[null]", "EnumWithoutType"),
-    (Some(InstanceType::Integer), r#"[1,"a"]"#, "BadEnumValue"),
-    (Some(InstanceType::String), "[1]", "BadEnumValue"),
-    (Some(InstanceType::Boolean), "[[true]]", "BadEnumValue"),
-    (Some(InstanceType::Null), "[null,false]", "BadEnumValue"),
-];
-
-// An object without other members as it is written: annotations come before the members of its kind.
-const ANNOTATED: &str = concat!(
-    r#"{"description":"Seven","default":7,"#,
-    r#""x-stuff":{"hello":"there","least":[1,null]},"#,
-    r#""type":"object","additionalProperties":false}"#
+const EVERY_KIND: &str = concat!(
+    r##"{"type":"string","allOf":[{"$ref":"#/components/schemas/Foo"}],"anyOf":[{}],"##,
+    r#""oneOf":[{"not":{}}],"not":{"type":"boolean"}}"#
 );
 
-fn no_parts(alloc: Global) -> SchemaObject {
-    SchemaObject {
-        title: None,
-        description: None,
-        default: None,
-        nullable: false,
-        instance_type: None,
-        format: None,
-        enum_values: None,
-        subschemas: None,
-        number: None,
-        string: None,
-        array: None,
-        object: None,
-        reference: None,
-        extensions: List::new(alloc),
+// Subschemas stand behind the members of the type, and a const beside both as the one value.
+const WITH_SUBSCHEMAS: [(&[Given], &str); 15] = [
+    (
+        &[
+            Type(Kind::Boolean),
+            Format("flag"),
+            Maximum(2),
+            AllOf(Every),
+        ],
+        r#"{"type":"boolean","allOf":[{}]}"#,
+    ),
+    (&[AllOf(Flag)], r#"{"allOf":[{"type":"boolean"}]}"#),
+    (&[AnyOf(Every)], r#"{"anyOf":[{}]}"#),
+    (&[OneOf(Nothing)], r#"{"oneOf":[{"not":{}}]}"#),
+    (&[Not(Every)], r#"{"not":{}}"#),
+    (
+        &[
+            Type(Kind::String),
+            Not(Flag),
+            OneOf(Nothing),
+            AnyOf(Every),
+            AllOf(Foo),
+        ],
+        EVERY_KIND,
+    ),
+    (
+        &[Type(Kind::Integer), Const("1"), AllOf(Every)],
+        r#"{"type":"integer","enum":[1],"allOf":[{}]}"#,
+    ),
+    (
+        &[
+            Type(Kind::Integer),
+            Const("2"),
+            Values("[1,2]"),
+            Maximum(9),
+            AllOf(Every),
+        ],
+        r#"{"type":"integer","maximum":9,"enum":[2],"allOf":[{}]}"#,
+    ),
+    (
+        &[
+            Type(Kind::String),
+            Format("uuid"),
+            Const(r#""a""#),
+            Lengths(1, 2),
+            AnyOf(Every),
+        ],
+        r#"{"type":"string","format":"uuid","enum":["a"],"minLength":1,"maxLength":2,"anyOf":[{}]}"#,
+    ),
+    (
+        &[Type(Kind::Boolean), Const("true"), OneOf(Every)],
+        r#"{"type":"boolean","enum":[true],"oneOf":[{}]}"#,
+    ),
+    (
+        &[Type(Kind::Object), Const(r#"{"a":1}"#), Not(Nothing)],
+        r#"{"type":"object","enum":[{"a":1}],"not":{"not":{}}}"#,
+    ),
+    (
+        &[Type(Kind::Array), Const("[1]"), Items(Every), AllOf(Every)],
+        r#"{"type":"array","enum":[[1]],"items":{},"allOf":[{}]}"#,
+    ),
+    (
+        &[Type(Kind::Null), Const("null"), AllOf(Every)],
+        r#"{"type":"string","enum":[null],"allOf":[{}]}"#,
+    ),
+    (
+        &[Type(Kind::Null), Const("1"), AllOf(Every)],
+        r#"{"type":"string","enum":[1],"allOf":[{}]}"#,
+    ),
+    (
+        &[Nullable, Title("Nullable_Foo"), AllOf(Foo)],
+        r##"{"nullable":true,"title":"Nullable_Foo","allOf":[{"$ref":"#/components/schemas/Foo"}]}"##,
+    ),
+];
+
+const FOO: &str = r##"{"$ref":"#/components/schemas/Foo"}"##;
+
+// A reference stands alone, also beside what would be refused.
+const REFERRING: [(&[Given], &str); 4] = [
+    (&[Reference], FOO),
+    (
+        &[Reference, Nullable, Title("T"), Extension("x-a", "1")],
+        FOO,
+    ),
+    (
+        &[Reference, Type(Kind::Integer), Maximum(9), AllOf(Flag)],
+        FOO,
+    ),
+    (&[Reference, SeveralTypes, AllOf(Floats)], FOO),
+];
+
+#[test]
+fn each_member_stands_in_its_order(rt: HostRuntime) -> Result<(), Fail> {
+    for (parts, expected) in ANNOTATED.iter().chain(&OF_TYPES).chain(&WITH_SUBSCHEMAS) {
+        let found = written(rt.alloc(), None, parts)?;
+        assert_eq!(rt; found.as_str(), *expected, "at {parts:?}");
     }
+    Ok(())
 }
 
-fn no_kinds() -> Subschemas {
-    Subschemas {
-        all_of: None,
-        any_of: None,
-        one_of: None,
-        not: None,
+#[test]
+fn a_reference_stands_alone(rt: HostRuntime) -> Result<(), Fail> {
+    for (parts, expected) in &REFERRING {
+        let found = written(rt.alloc(), Some("Named"), parts)?;
+        assert_eq!(rt; found.as_str(), *expected, "at {parts:?}");
     }
-}
-
-fn of_type(alloc: Global, kind: InstanceType, number: Option<NumberBounds>) -> SchemaObject {
-    let mut schema = no_parts(alloc);
-    schema.instance_type = Some(InstanceTypes::Single(kind));
-    schema.number = number;
-    schema
-}
-
-// The values of a list, and none of what is no list.
-fn values_of(alloc: Global, values: &str) -> Result<Option<List<Json>>, ReadError> {
-    match Json::read(alloc, values.as_bytes())? {
-        Json::List(values) => Ok(Some(values)),
-        _ => Ok(None),
-    }
-}
-
-// A schema with values, if there are any, with bounds, and in which an array has items.
-fn with_values(alloc: Global, values: &str) -> Result<SchemaObject, ReadError> {
-    let mut schema = no_parts(alloc);
-    schema.number = Some(NumberBounds {
-        minimum: None,
-        maximum: Some(2),
-    });
-    schema.string = Some(LengthBounds {
-        min: Some(1),
-        max: None,
-    });
-    schema.array = Some(ArrayParts {
-        items: Some(Items::One(Schema::Bool(true))),
-        min: None,
-        max: None,
-    });
-    schema.enum_values = values_of(alloc, values)?;
-    Ok(schema)
-}
-
-fn nullable_all_of(alloc: Global, reference: &str) -> Result<SchemaObject, AllocError> {
-    let mut referring = no_parts(alloc);
-    referring.reference = Some(Text::from_str(alloc, reference)?);
-    let mut all_of = List::new(alloc);
-    all_of.push(Schema::Object(Boxed::new(alloc, referring)?))?;
-    let mut subschemas = no_kinds();
-    subschemas.all_of = Some(all_of);
-    let mut schema = no_parts(alloc);
-    schema.title = Some(Text::from_str(alloc, "Own")?);
-    schema.nullable = true;
-    schema.subschemas = Some(subschemas);
-    Ok(schema)
-}
-
-fn one_of(alloc: Global, second: Schema) -> Result<Subschemas, AllocError> {
-    let mut one_of = List::new(alloc);
-    one_of.push(Schema::Bool(true))?;
-    one_of.push(second)?;
-    let mut subschemas = no_kinds();
-    subschemas.one_of = Some(one_of);
-    Ok(subschemas)
-}
-
-fn of_kinds(alloc: Global, subschemas: Subschemas) -> SchemaObject {
-    let mut schema = no_parts(alloc);
-    schema.subschemas = Some(subschemas);
-    schema
-}
-
-fn written(alloc: Global, name: Option<&str>, schema: SchemaObject) -> Result<Json, J2oasError> {
-    let boxed = match Boxed::new(alloc, schema) {
-        Ok(boxed) => boxed,
-        Err(_) => return Err(J2oasError::OutOfMemory),
-    };
-    j2oas_schema(alloc, name, &Schema::Object(boxed))
+    Ok(())
 }
 
 #[test]
 fn a_given_name_stands_for_the_own_title(rt: HostRuntime) -> Result<(), Fail> {
-    let alloc = rt.alloc();
-    let schema = nullable_all_of(alloc, "#/components/schemas/Foo")?;
-    let json = written(alloc, Some("Nullable_Foo"), schema)?;
-    assert_eq!(rt;
-        json.compact(alloc)?.as_str(),
-        r##"{"nullable":true,"title":"Nullable_Foo","allOf":[{"$ref":"#/components/schemas/Foo"}]}"##
-    );
-    Ok(())
-}
-
-#[test]
-fn a_given_name_is_the_title_of_a_number(rt: HostRuntime) -> Result<(), Fail> {
-    let alloc = rt.alloc();
-    let least = NumberBounds {
-        minimum: Some(-1),
-        maximum: None,
-    };
-    let json = written(
-        alloc,
-        Some("Foo"),
-        of_type(alloc, InstanceType::Integer, Some(least)),
-    )?;
-    assert_eq!(rt;
-        json.compact(alloc)?.as_str(),
-        r#"{"title":"Foo","type":"integer","minimum":-1}"#
-    );
-    Ok(())
-}
-
-#[test]
-fn false_is_written_as_not_all(rt: HostRuntime) -> Result<(), Fail> {
-    let alloc = rt.alloc();
-    let json = j2oas_schema(alloc, None, &Schema::Bool(false))?;
-    assert_eq!(rt; json.compact(alloc)?.as_str(), r#"{"not":{}}"#);
-    Ok(())
-}
-
-fn compact(alloc: Global, schema: SchemaObject) -> Result<Text, Fail> {
-    Ok(written(alloc, None, schema)?.compact(alloc)?)
-}
-
-#[test]
-fn values_stand_behind_the_type(rt: HostRuntime) -> Result<(), Fail> {
-    let alloc = rt.alloc();
-    for (kind, format, values, expected) in &WITH_VALUES {
-        let mut schema = with_values(alloc, values)?;
-        schema.instance_type = Some(InstanceTypes::Single(*kind));
-        schema.format = Some(Text::from_str(alloc, format)?);
-        let json = compact(alloc, schema)?;
-        assert_eq!(rt; json.as_str(), *expected, "at {kind:?} {values}");
+    let rows: [(&[Given], &str); 3] = [
+        (&[], r#"{"title":"Nullable_Foo"}"#),
+        (
+            &[Type(Kind::Integer), Minimum(-1)],
+            r#"{"title":"Nullable_Foo","type":"integer","minimum":-1}"#,
+        ),
+        (
+            &[Nullable, Title("Own"), AllOf(Foo)],
+            r##"{"nullable":true,"title":"Nullable_Foo","allOf":[{"$ref":"#/components/schemas/Foo"}]}"##,
+        ),
+    ];
+    for (parts, expected) in rows {
+        let found = written(rt.alloc(), Some("Nullable_Foo"), parts)?;
+        assert_eq!(rt; found.as_str(), expected, "at {parts:?}");
     }
     Ok(())
 }
 
 #[test]
-fn annotations_come_before_no_values(rt: HostRuntime) -> Result<(), Fail> {
+fn truth_values_show_no_name(rt: HostRuntime) -> Result<(), Fail> {
     let alloc = rt.alloc();
-    let mut schema = with_values(alloc, "[]")?;
-    schema.nullable = true;
-    schema.description = Some(Text::from_str(alloc, "None")?);
-    let json = compact(alloc, schema)?;
-    assert_eq!(rt;
-        json.as_str(),
-        r#"{"nullable":true,"description":"None","not":{}}"#
-    );
-    Ok(())
-}
-
-// A member whose value is read.
-fn read_member(alloc: Global, name: &str, value: &str) -> Result<Member, Fail> {
-    let name = Text::from_str(alloc, name)?;
-    let value = Json::read(alloc, value.as_bytes())?;
-    Ok(Member { name, value })
-}
-
-fn of_no_other_members(alloc: Global) -> SchemaObject {
-    let mut schema = of_type(alloc, InstanceType::Object, None);
-    schema.object = Some(ObjectParts {
-        properties: List::new(alloc),
-        required: List::new(alloc),
-        additional: Some(Schema::Bool(false)),
-    });
-    schema
-}
-
-#[test]
-fn a_default_and_extensions_are_written_behind_the_description(
-    rt: HostRuntime,
-) -> Result<(), Fail> {
-    let alloc = rt.alloc();
-    let stuff = r#"{"hello":"there","least":[1,null]}"#;
-    let mut extensions = List::new(alloc);
-    extensions.push(read_member(alloc, "x-stuff", stuff)?)?;
-    extensions.push(read_member(alloc, "other", "true")?)?;
-    let mut schema = of_no_other_members(alloc);
-    schema.description = Some(Text::from_str(alloc, "Seven")?);
-    schema.default = Some(Json::Int(7));
-    schema.extensions = extensions;
-    let json = compact(alloc, schema)?;
-    assert_eq!(rt; json.as_str(), ANNOTATED);
-    Ok(())
-}
-
-// Why a schema is refused, or that it is written.
-fn why_refused(alloc: Global, schema: SchemaObject) -> Result<String, AllocError> {
-    match written(alloc, None, schema) {
-        Ok(_) => String::from_str(alloc, "written"),
-        Err(refusal) => format!(in alloc; "{refusal:?}"),
+    for (truth, expected) in [(true, "{}"), (false, r#"{"not":{}}"#)] {
+        let json = j2oas_schema(alloc, Some("Named"), &Schema::Bool(truth))?;
+        assert_eq!(rt; json.compact(alloc)?.as_str(), expected);
     }
-}
-
-#[test]
-fn values_are_of_a_type(rt: HostRuntime) -> Result<(), Fail> {
-    let alloc = rt.alloc();
-    for (kind, values, expected) in &BAD_VALUES {
-        let mut schema = with_values(alloc, values)?;
-        schema.instance_type = kind.map(InstanceTypes::Single);
-        let refusal = why_refused(alloc, schema)?;
-        assert_eq!(rt; refusal.as_str(), *expected, "at {kind:?} {values}");
-    }
-    Ok(())
-}
-
-#[test]
-fn an_array_has_items(rt: HostRuntime) -> Result<(), Fail> {
-    let alloc = rt.alloc();
-    let refusal = why_refused(alloc, of_type(alloc, InstanceType::Array, None))?;
-    assert_eq!(rt; refusal.as_str(), "NoItems");
-    Ok(())
-}
-
-#[test]
-fn subschemas_of_one_kind_need_no_type(rt: HostRuntime) -> Result<(), Fail> {
-    let alloc = rt.alloc();
-    let json = compact(alloc, of_kinds(alloc, one_of(alloc, Schema::Bool(false))?))?;
-    assert_eq!(rt; json.as_str(), r#"{"oneOf":[{},{"not":{}}]}"#);
-    let mut subschemas = no_kinds();
-    subschemas.not = Some(Schema::Bool(true));
-    let json = compact(alloc, of_kinds(alloc, subschemas))?;
-    assert_eq!(rt; json.as_str(), r#"{"not":{}}"#);
-    Ok(())
-}
-
-fn one_of_and_not(alloc: Global, second: Schema) -> Result<Subschemas, AllocError> {
-    let mut subschemas = one_of(alloc, second)?;
-    subschemas.not = Some(Schema::Bool(true));
-    Ok(subschemas)
-}
-
-#[test]
-fn two_kinds_of_subschemas_stand_beside_a_type(rt: HostRuntime) -> Result<(), Fail> {
-    let alloc = rt.alloc();
-    let mut schema = of_type(alloc, InstanceType::String, None);
-    schema.subschemas = Some(one_of_and_not(alloc, Schema::Bool(false))?);
-    let json = compact(alloc, schema)?;
-    assert_eq!(rt;
-        json.as_str(),
-        r#"{"type":"string","oneOf":[{},{"not":{}}],"not":{}}"#
-    );
-    Ok(())
-}
-
-#[test]
-fn missing_items_come_before_values(rt: HostRuntime) -> Result<(), Fail> {
-    let alloc = rt.alloc();
-    let mut schema = of_type(alloc, InstanceType::Array, None);
-    schema.enum_values = values_of(alloc, "[[]]")?;
-    let refusal = why_refused(alloc, schema)?;
-    assert_eq!(rt; refusal.as_str(), "NoItems");
-    Ok(())
-}
-
-#[test]
-fn values_come_before_kinds_of_subschemas(rt: HostRuntime) -> Result<(), Fail> {
-    let alloc = rt.alloc();
-    let mut schema = of_kinds(alloc, one_of_and_not(alloc, Schema::Bool(false))?);
-    schema.enum_values = values_of(alloc, "[1]")?;
-    let refusal = why_refused(alloc, schema)?;
-    assert_eq!(rt; refusal.as_str(), "EnumWithoutType");
-    Ok(())
-}
-
-fn list_without_items(alloc: Global) -> Result<Schema, AllocError> {
-    let array = Boxed::new(alloc, of_type(alloc, InstanceType::Array, None))?;
-    Ok(Schema::Object(array))
-}
-
-#[test]
-fn kinds_of_subschemas_come_before_those_inside(rt: HostRuntime) -> Result<(), Fail> {
-    let alloc = rt.alloc();
-    let subschemas = one_of_and_not(alloc, list_without_items(alloc)?)?;
-    let refusal = why_refused(alloc, of_kinds(alloc, subschemas))?;
-    assert_eq!(rt; refusal.as_str(), "BadSubschema");
-    Ok(())
-}
-
-#[test]
-fn subschemas_are_refused_from_inside(rt: HostRuntime) -> Result<(), Fail> {
-    let alloc = rt.alloc();
-    let subschemas = one_of(alloc, list_without_items(alloc)?)?;
-    let refusal = why_refused(alloc, of_kinds(alloc, subschemas))?;
-    assert_eq!(rt; refusal.as_str(), "NoItems");
     Ok(())
 }

@@ -1,13 +1,18 @@
 -- A document admits a body exactly where its JSON denotes a tree.
-use Rattle.std.proofs.Common.{◌≡◌, ◌↔◌, ℕ, List, Some, sym, ◌∙◌, subst}
+use Rattle.std.proofs.Common.{◌≡◌, ◌↔◌, ℕ, List, map, sym, ap, subst}
+use Rattle.std.specs.List.{list_all}
 use Rattle.schema_values.specs.declared.json_value.Json.{Json}
 use Rattle.schema_values.specs.Reading.{Reads}
+use Rattle.schema_values.proofs.OneReading.{one_reading}
 use Rattle.schema_values.proofs.SoundReadings.{reading_sound}
 use Rattle.openapi_values.specs.declared.document.OpenApi.{OpenApi}
 use Rattle.openapi_values.specs.declared.request.WireRequest.{WireRequest}
 use Rattle.openapi_values.specs.Admits.{Admits}
 use Rattle.openapi_values.specs.Document.{open_api_json}
 use Rattle.openapi_values.specs.JsonAdmits.{JsonAdmits}
+use Rattle.openapi_values.specs.MediaTypes.{HasJsonType}
+use Rattle.openapi_values.specs.Parameters.{parameter_json}
+use Rattle.openapi_values.specs.RequestParameters.{parameter_holds}
 use Rattle.openapi_values.proofs.Stands.{bodies-admitted}
 use Rattle.typed_values.specs.declared.desc.Desc.{Desc}
 use Rattle.typed_values.specs.declared.table.Definition.{Definition}
@@ -17,16 +22,14 @@ use Rattle.written_schemas.specs.Bodies.{TakesJson}
 use Rattle.written_schemas.specs.Written.{IsWritten}
 use Rattle.written_schemas.proofs.Whole.{titled_agrees}
 
-one_reading : (bytes : List ℕ) (i j : Json) → Reads bytes i → Reads bytes j → i ≡ j
-one_reading bytes i j a b = let same : Some i ≡ Some j = sym a.1 ∙ b.1 in cc same
-
 pub body_agrees : (document : OpenApi) (path method name : List ℕ) (table : List Definition) (desc : Desc) → TakesJson document path method name table desc → IsWritten (open_api_json document) table desc
-    → (request : WireRequest) (json : Json) → Reads request.body json → Admits (open_api_json document) path method request ↔ ((tree : Tree) × JsonDenotes table desc json tree)
-body_agrees document path method name table desc takes written request json reads =
+    → (request : WireRequest) (json : Json) → HasJsonType request.headers → Reads request.body json → Admits (open_api_json document) path method request ↔ ((tree : Tree) × JsonDenotes table desc json tree)
+body_agrees document path method name table desc takes written request json typed reads =
     let doc = open_api_json document in
-    let admitted = bodies-admitted document path method takes.operation takes.body takes.media request takes.listed takes.has_body takes.under_json in
-    let agrees = titled_agrees doc table desc written name json (reading_sound request.body json reads) in (
+    let admitted = bodies-admitted document path method takes.operation takes.body takes.media request takes.listed takes.has_body takes.under_json takes.no_bytes in
+    let agrees = titled_agrees doc table desc written name json (reading_sound request.body json reads) in
+    let hold = ap (λ ps. list_all (parameter_holds doc request) (map parameter_json ps)) takes.no_parameter in (
       λ h. let found = admitted.0 h in
-          agrees.0 (subst (λ s. JsonAdmits doc s json) takes.schema_is (subst (λ j. JsonAdmits doc takes.media.schema j) (one_reading request.body found.0 json found.1 reads) found.2)),
-      λ h. admitted.1 (json, reads, subst (λ s. JsonAdmits doc s json) (sym takes.schema_is) (agrees.1 h)),
+          agrees.0 (subst (λ s. JsonAdmits doc s json) takes.schema_is (subst (λ j. JsonAdmits doc takes.media.schema j) (one_reading request.body found.3 json found.4 reads) found.5)),
+      λ h. admitted.1 (takes.not_paged, hold, typed, json, reads, subst (λ s. JsonAdmits doc s json) (sym takes.schema_is) (agrees.1 h)),
     )

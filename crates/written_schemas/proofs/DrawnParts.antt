@@ -5,9 +5,10 @@ use Rattle.schema_values.specs.declared.json_value.Member.{Member}
 use Rattle.schema_values.specs.Member.{member}
 use Rattle.openapi_values.specs.SchemaJson.{schema_json}
 use Rattle.typed_values.specs.SchemaTable.{Drawn, Remarks, annotated, annotations, defaulted, described, drawn_json, reference}
-use Rattle.typed_values.specs.Schemas.{Parts, object_of, annotatable, with_null, with_default, with_description}
+use Rattle.schema_values.specs.Parts.{Parts}
+use Rattle.typed_values.specs.Schemas.{object_of, annotatable, with_null, with_default, with_description}
 use Rattle.written_schemas.proofs.Notes.{before_members}
-use Rattle.written_schemas.proofs.SchemaForms.{of_reference, kept}
+use Rattle.written_schemas.proofs.SchemaForms.{of_reference, kept, unmarked}
 use Rattle.written_schemas.proofs.SchemaMembers.{beside, remarks_of, written_beside, written_reference, all_of_members}
 
 -- ---- parts that are drawn so
@@ -27,8 +28,7 @@ standing false members = members
 -- the parts have the annotations and the members of the table
 pub record Dressed (p : Parts) (w : Drawn) : Type 0 where
   pub no_reference : p.reference ≡ None
-  pub no_title : p.title ≡ None
-  pub no_extensions : p.extensions ≡ []
+  pub is_unmarked : p ≡ unmarked p
   pub no_title_drawn : w.title ≡ None
   pub same_null : p.nullable ≡ w.nullable
   pub same_remarks : remarks_of p ≡ w.remarks
@@ -66,7 +66,7 @@ stands nullable given r false ms shown = before_members (annotations nullable gi
 
 pub written_under : (given : Option (List ℕ)) (p : Parts) (w : Drawn) → Dressed p w → IsAnnotated w → schema_json given (object_of p) ≡ drawn_json (record w { title = given })
 written_under given p w d annotated =
-    written_beside given p d.no_reference d.no_title d.no_extensions
+    written_beside given p d.no_reference d.is_unmarked
     ∙ ap (λ (n : Bool). Object (annotations n given (remarks_of p) ++ beside p)) d.same_null
     ∙ ap (λ (r : Remarks). Object (annotations w.nullable given r ++ beside p)) d.same_remarks
     ∙ ap (λ (ms : List Member). Object (annotations w.nullable given w.remarks ++ ms)) d.stand
@@ -84,8 +84,7 @@ written_so p w (inr (d, annotated)) = written_under None p w d annotated ∙ ap 
 dressed_reference : (name : List ℕ) → Dressed (annotatable (of_reference name)) (reference name)
 dressed_reference name = record {
   no_reference = refl;
-  no_title = refl;
-  no_extensions = refl;
+  is_unmarked = refl;
   no_title_drawn = refl;
   same_null = refl;
   same_remarks = refl;
@@ -103,8 +102,7 @@ module _ (p : Parts) (w : Drawn) where
   null_shows h = let d = dressed h in inr (
     record {
       no_reference = d.no_reference;
-      no_title = d.no_title;
-      no_extensions = d.no_extensions;
+      is_unmarked = ap (λ (q : Parts). record q { nullable = true }) d.is_unmarked;
       no_title_drawn = d.no_title_drawn;
       same_null = refl;
       same_remarks = d.same_remarks;
@@ -118,8 +116,7 @@ module _ (p : Parts) (w : Drawn) where
   described_shows (Some text) h = let d = dressed h in inr (
     record {
       no_reference = d.no_reference;
-      no_title = d.no_title;
-      no_extensions = d.no_extensions;
+      is_unmarked = ap (λ (q : Parts). record q { description = Some text }) d.is_unmarked;
       no_title_drawn = d.no_title_drawn;
       same_null = d.same_null;
       same_remarks = ap (λ (r : Remarks). record r { description = Some text }) d.same_remarks;
@@ -133,8 +130,7 @@ module _ (p : Parts) (w : Drawn) where
   defaulted_shows (Some json) h = let d = dressed h in inr (
     record {
       no_reference = d.no_reference;
-      no_title = d.no_title;
-      no_extensions = d.no_extensions;
+      is_unmarked = ap (λ (q : Parts). record q { default = Some json }) d.is_unmarked;
       no_title_drawn = d.no_title_drawn;
       same_null = d.same_null;
       same_remarks = ap (λ (r : Remarks). record r { default = Some json }) d.same_remarks;

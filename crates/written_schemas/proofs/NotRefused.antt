@@ -1,5 +1,5 @@
 -- The schema of a descriptor is never refused.
-use Rattle.std.proofs.Common.{◌≡◌, ℕ, List, [], ◌∷◌, ◌++◌, map, filter, Option, Some, None, option_map, unwrap_or, Bool, true, false, if◌then◌else◌, MatchOption, refl, sym, ◌∙◌, ap, subst}
+use Rattle.std.proofs.Common.{◌≡◌, ℕ, ℤ, List, [], ◌∷◌, ◌++◌, map, filter, Option, Some, None, option_map, option_and_then, unwrap_or, Bool, true, false, if◌then◌else◌, MatchOption, refl, sym, ◌∙◌, ap, subst}
 use Rattle.std.specs.List.{AllByRecursion, list_all, list_any}
 use Rattle.std.specs.Option.{option_map_or, option_or}
 use Rattle.std.specs.Prelude.{⊤}
@@ -15,12 +15,13 @@ use Rattle.schema_values.specs.declared.schema.Schema.{Schema, Bool as Truth}
 use Rattle.schema_values.specs.declared.schema.SchemaObject.{SchemaObject-F, roll-SchemaObject, out-roll-SchemaObject}
 use Rattle.schema_values.specs.declared.schema.Subschemas.{Subschemas, roll-Subschemas}
 use Rattle.openapi_values.specs.declared.j2oas.J2oasError.TheVariants.{BadEnumValue, BadSubschema}
-use Rattle.openapi_values.specs.Refusal.{Refusal, Level, first_of, items_missing, is_value_of, values_refusal, object_step, refusal_of, array_refusal, object_parts_refusal, property_refusal, subschemas_inner}
-use Rattle.openapi_values.proofs.RefusalLevels.{truth-is, object-is, items-are, property-is, array-is, object_parts-are, one_kind-is, inner-is, parts-are}
+use Rattle.openapi_values.specs.Refusal.{Refusal, Within, Level, first_of, own_items_refusal, is_value_of, values_refusal, bounds_refusal, object_step, refusal_of, array_within, object_parts_refusal, property_refusal, subschemas_inner}
+use Rattle.openapi_values.proofs.RefusalLevels.{truth-is, object-is, item-is, property-is, array-is, object_parts-are, one_kind-is, inner-is, parts-are}
 use Rattle.typed_values.specs.declared.desc.Desc.{Desc}
 use Rattle.typed_values.specs.declared.desc.Desc.TheOpen.{Desc-F}
 use Rattle.typed_values.specs.declared.desc.Desc.TheViews.{out-roll-Desc}
 use Rattle.typed_values.specs.declared.desc.Field.{Field}
+use Rattle.typed_values.specs.declared.desc.IntKind.{IntKind}
 use Rattle.typed_values.specs.declared.desc.Named.{Named}
 use Rattle.typed_values.specs.declared.desc.TaggedVariant.{TaggedVariant}
 use Rattle.typed_values.specs.declared.desc.Variant.{Variant}
@@ -28,8 +29,9 @@ use Rattle.typed_values.specs.declared.table.Definition.{Definition}
 use Rattle.typed_values.specs.Definitions.{tagged_description, tagged_fields, tagged_name}
 use Rattle.typed_values.specs.DescBeside.{Beside, beside_with}
 use Rattle.typed_values.specs.Order.{sorted_by}
-use Rattle.typed_values.specs.SchemaTable.{bare_names, default_of, is_described, same_name}
-use Rattle.typed_values.specs.Schemas.{Parts, Sketch, object_of, no_parts, no_subschemas, of_single, annotatable, with_null, with_default, with_description, property, property_name, property_of, required_names, nothing_more, list_of, struct_parts, map_of, choice_of, one_of, all_or_none, other_members, texts_of, not_described, enumerated, described_choice, plain_choice, choices_of, enumeration, external_choices, payload_choices, tagged_choice, sketch_step, schema_sketch, schema_parts, sketch_of_field, sketch_of_tagged, sketch_of_variant, schema_value}
+use Rattle.typed_values.specs.SchemaTable.{bare_names, default_of, is_described, least_shown, same_name}
+use Rattle.schema_values.specs.Parts.{Parts, no_parts}
+use Rattle.typed_values.specs.Schemas.{Sketch, object_of, no_subschemas, of_single, annotatable, with_null, with_default, with_description, property, property_name, property_of, required_names, nothing_more, number_bounds, number_parts, list_of, struct_parts, map_of, choice_of, one_of, all_or_none, other_members, texts_of, not_described, enumerated, described_choice, plain_choice, choices_of, enumeration, external_choices, payload_choices, tagged_choice, sketch_step, schema_sketch, schema_parts, sketch_of_field, sketch_of_tagged, sketch_of_variant, schema_value}
 use Rattle.typed_values.proofs.Induction.{InField, InFields, InTagged, InVariant, KnownLevel, firsts, by_levels, each_holds}
 use Rattle.typed_values.proofs.SchemaRows.{parts_row, sketch_level}
 use Rattle.typed_values.proofs.SortedLemmas.{all_sorted}
@@ -41,14 +43,18 @@ level_of p = record {
   title = p.title;
   description = p.description;
   default = p.default;
+  deprecated = p.deprecated;
+  read_only = p.read_only;
+  write_only = p.write_only;
   nullable = p.nullable;
   instance_type = p.instance_type;
   format = p.format;
   enum_values = p.enum_values;
+  const_value = p.const_value;
   subschemas = option_map subschemas_inner p.subschemas;
   number = p.number;
   string = p.string;
-  array = option_map array_refusal p.array;
+  array = option_map array_within p.array;
   object = option_map object_parts_refusal p.object;
   reference = p.reference;
   extensions = p.extensions;
@@ -101,8 +107,8 @@ list_taken : (p : Parts) (min max : Option ℕ) → Taken p → Taken (list_of (
 list_taken p min max h =
     let array = roll-ArrayParts (record { items = Some (One (object_of p)); min = min; max = max }) in
     by_parts (list_of (object_of p) min max)
-    ∙ ap (λ (items : Option Refusal). option_or (first_of (items_missing (Some (Single Array)) items ∷ None ∷ None ∷ [])) (option_or (unwrap_or items None) None))
-    (array-is array ∙ ap (λ (r : Refusal). Some r) (items-are (One (object_of p)) ∙ h))
+    ∙ ap (λ (items : Option Within). option_or (first_of (own_items_refusal (Some (Single Array)) items ∷ [])) (option_or (option_and_then (λ items. items.refusal) items) None))
+    (array-is array ∙ ap (λ (items : Within). Some items) (item-is (object_of p) ∙ ap (λ (r : Refusal). record { by_place = false; refusal = r }) h))
 
 -- an object of which neither a property nor the schema of other members is refused
 object_taken : (o : StructParts) → AllByRecursion (λ (p : Property). property_refusal p ≡ None) o.properties → unwrap_or (option_map refusal_of o.additional) None ≡ None
@@ -123,7 +129,7 @@ truth_or_taken (Some truth) p h = truth-is truth
 truth_or_taken None p h = h
 
 map_taken : (s : Sketch) → Taken s.parts → Taken (map_of (other_members s))
-map_taken s h = object_taken (record { properties = []; required = []; additional = Some (other_members s) }) tt (truth_or_taken s.truth s.parts h)
+map_taken s h = object_taken (record { properties = []; required = []; additional = Some (other_members s); min = None; max = None }) tt (truth_or_taken s.truth s.parts h)
 
 abbrev AreTaken : List Schema → Type 0
 AreTaken = AllByRecursion (λ (s : Schema). refusal_of s ≡ None)
@@ -142,6 +148,16 @@ nothing_taken : Taken (all_or_none false).parts
 nothing_taken =
     let none = roll-Subschemas (record no_subschemas { not = Some (Truth true) }) in
     one_kind_taken none (one_kind-is none) (inner-is none ∙ truth-is true)
+
+-- each bound stands in one form
+bounds_taken : (low high : Option ℤ) → bounds_refusal (number_bounds low high) ≡ None
+bounds_taken None None = refl
+bounds_taken None (Some high) = refl
+bounds_taken (Some low) None = refl
+bounds_taken (Some low) (Some high) = refl
+
+int_taken : (kind : IntKind) (min max : Option ℤ) → Taken (number_parts kind min max)
+int_taken kind min max = by_parts (number_parts kind min max) ∙ ap (λ (r : Refusal). option_or (first_of (r ∷ [])) None) (bounds_taken (least_shown kind min) max)
 
 -- ---- enumerations
 
@@ -234,7 +250,7 @@ module _ (table : List Definition) where
   taken_by Desc-F.Null = by_parts _
   taken_by Desc-F.Bool = by_parts _
   taken_by Desc-F.Char = by_parts _
-  taken_by (Desc-F.Int kind min max) = by_parts (sketch_step table (Desc-F.Int kind min max)).parts
+  taken_by (Desc-F.Int kind min max) = int_taken kind min max
   taken_by (Desc-F.Text min max format) = by_parts (sketch_step table (Desc-F.Text min max format)).parts
   taken_by (Desc-F.Enumeration ns) = enumeration_taken ns
   taken_by (Desc-F.Option e) = null_taken (schema_parts table e.0) e.1

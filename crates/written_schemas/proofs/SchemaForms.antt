@@ -6,11 +6,16 @@ use Rattle.schema_values.specs.declared.schema.Items.{Items}
 use Rattle.schema_values.specs.declared.schema.ObjectParts.{ObjectParts, ObjectParts-F}
 use Rattle.schema_values.specs.declared.schema.Property.{Property}
 use Rattle.schema_values.specs.declared.schema.Schema.{Schema}
-use Rattle.schema_values.specs.declared.schema.SchemaObject.{SchemaObject}
+use Rattle.schema_values.specs.declared.schema.SchemaObject.{SchemaObject, SchemaObject-F}
 use Rattle.schema_values.specs.declared.schema.Subschemas.{Subschemas, roll-Subschemas}
 use Rattle.typed_values.specs.declared.desc.Named.{Named}
 use Rattle.typed_values.specs.SchemaTable.{is_described}
-use Rattle.typed_values.specs.Schemas.{Parts, object_of, no_parts, no_subschemas, annotatable, nothing_more, one_of, choices_of, enumerated, texts_of, enumeration}
+use Rattle.schema_values.specs.Parts.{Parts, no_parts}
+use Rattle.typed_values.specs.Schemas.{object_of, no_subschemas, annotatable, nothing_more, one_of, choices_of, enumerated, texts_of, enumeration}
+
+-- parts without the annotations that the schema of a descriptor never has
+abbrev pub unmarked : {A B C D E F G : Type 0} → SchemaObject-F A B C D E F G → SchemaObject-F A B C D E F G
+unmarked p = record p { title = None; deprecated = false; read_only = false; write_only = false; extensions = [] }
 
 abbrev pub of_reference : List ℕ → Parts
 of_reference name = record no_parts { reference = Some (codes "#/components/schemas/" ++ name) }
@@ -24,7 +29,7 @@ abbrev pub StructParts : Type 0
 StructParts = ObjectParts-F Items Schema ArrayParts ObjectParts Property SchemaObject Subschemas
 
 abbrev pub object_parts : List Property → List (List ℕ) → Bool → StructParts
-object_parts properties required deny = record { properties = properties; required = required; additional = nothing_more deny }
+object_parts properties required deny = record { properties = properties; required = required; additional = nothing_more deny; min = None; max = None }
 
 module _ (p : Parts) where
   pub kept : p.reference ≡ None → annotatable p ≡ p

@@ -6,7 +6,7 @@ use Rattle.schema_values.specs.declared.json_value.Member.{Member}
 use Rattle.schema_values.specs.declared.schema.ArrayParts.{roll-ArrayParts}
 use Rattle.schema_values.specs.declared.schema.InstanceType.TheVariants as types
 use Rattle.schema_values.specs.declared.schema.InstanceTypes.{InstanceTypes}
-use Rattle.schema_values.specs.declared.schema.InstanceTypes.TheVariants.{Single}
+use Rattle.schema_values.specs.declared.schema.InstanceTypes.TheVariants.{Single, Several}
 use Rattle.schema_values.specs.declared.schema.Items.{One}
 use Rattle.schema_values.specs.declared.schema.ObjectParts.{roll-ObjectParts, out-roll-ObjectParts}
 use Rattle.schema_values.specs.declared.schema.Property.{Property}
@@ -16,14 +16,15 @@ use Rattle.schema_values.specs.declared.schema.Subschemas.{roll-Subschemas}
 use Rattle.schema_values.specs.Member.{member}
 use Rattle.openapi_values.specs.IfTrue.{if_true as truth_if}
 use Rattle.openapi_values.specs.Objects.{Entry, pair_member, present, members_of, object_of as entries_object, reference_json, unless_empty}
-use Rattle.openapi_values.specs.SchemaJson.{Written, Level, untitled, additional_json, count_json, names_json, extension_entries, annotations as annotation_entries, nothing_entries, type_entries, without_values, entries_behind, object_step, schema_written, array_written, object_parts_written, property_written, subschemas_written, schema_json}
+use Rattle.openapi_values.specs.SchemaJson.{Written, Level, untitled, additional_json, count_json, names_json, annotations as annotation_entries, nothing_entries, type_entries, without_values, entries_behind, object_step, schema_written, array_written, object_parts_written, property_written, subschemas_written, schema_json}
 use Rattle.openapi_values.proofs.ObjectLemmas.{members_of-append}
-use Rattle.openapi_values.proofs.SchemaLevels.{truth-is, object-under, items-are, array-is, subschemas-are, object_parts-are, object-is}
+use Rattle.openapi_values.proofs.SchemaLevels.{truth-is, object-under, item-is, array-is, subschemas-are, object_parts-are, object-is}
 use Rattle.typed_values.specs.declared.desc.IntKind.{IntKind}
 use Rattle.typed_values.specs.SchemaTable.{Remarks, annotations, nothing, if_true, if_text, if_value, if_number, if_count, if_members, if_names, if_denied, of_type, format_of, reference}
-use Rattle.typed_values.specs.Schemas.{Parts, object_of, of_single, no_subschemas, number_bounds, length_bounds, nothing_more, list_of, struct_of, map_of, choice_of, one_of, all_or_none}
+use Rattle.schema_values.specs.Parts.{Parts}
+use Rattle.typed_values.specs.Schemas.{object_of, of_single, no_subschemas, number_bounds, length_bounds, nothing_more, list_of, struct_of, map_of, choice_of, one_of, all_or_none}
 use Rattle.typed_values.proofs.Rows.{two_maps}
-use Rattle.written_schemas.proofs.SchemaForms.{StructParts, object_parts, of_reference, in_all_of}
+use Rattle.written_schemas.proofs.SchemaForms.{StructParts, object_parts, of_reference, in_all_of, unmarked}
 
 -- ---- a schema by its parts
 
@@ -33,10 +34,14 @@ level_of p = record {
   title = p.title;
   description = p.description;
   default = p.default;
+  deprecated = p.deprecated;
+  read_only = p.read_only;
+  write_only = p.write_only;
   nullable = p.nullable;
   instance_type = p.instance_type;
   format = p.format;
   enum_values = p.enum_values;
+  const_value = p.const_value;
   subschemas = option_map subschemas_written p.subschemas;
   number = p.number;
   string = p.string;
@@ -48,14 +53,16 @@ level_of p = record {
 
 -- a level without annotations, which behind them make no difference
 abbrev without_notes : Level SchemaObject-F → Level SchemaObject-F
-without_notes s = record s { title = None; description = None; default = None; nullable = false; reference = None; extensions = [] }
+without_notes s = record (unmarked s) { description = None; default = None; nullable = false; reference = None }
 
 type_alone : (type : Option InstanceTypes) (s : Level SchemaObject-F) → type_entries type s ≡ type_entries type (without_notes s)
 type_alone None s = refl
+type_alone (Some (Several types)) s = refl
 type_alone (Some (Single types.Null)) s = refl
 type_alone (Some (Single types.Boolean)) s = refl
 type_alone (Some (Single types.Object)) s = refl
 type_alone (Some (Single types.Array)) s = refl
+type_alone (Some (Single types.Number)) s = refl
 type_alone (Some (Single types.String)) s = refl
 type_alone (Some (Single types.Integer)) s = refl
 
@@ -94,28 +101,28 @@ own_title : (given : Option (List ℕ)) → option_or given None ≡ given
 own_title None = refl
 own_title (Some title) = refl
 
--- parts without a title of their own and without extensions
-notes_are : (given : Option (List ℕ)) (p : Parts) → p.title ≡ None → p.extensions ≡ [] → members_of (annotation_entries given p) ≡ annotations p.nullable given (remarks_of p)
-notes_are given p no_title no_extensions =
-    let last = present (codes "default") p.default (members_of (extension_entries p.extensions)) in
+-- without those annotations only `nullable`, the given title, the description and the default are written
+notes_are : (given : Option (List ℕ)) (p : Parts) → p ≡ unmarked p → members_of (annotation_entries given p) ≡ annotations p.nullable given (remarks_of p)
+notes_are given p is_unmarked =
+    let last = present (codes "default") p.default [] in
     let more = present (codes "description") (option_map Words p.description) last in
-    true_if p.nullable (codes "nullable") (present (codes "title") (option_map Words (option_or given p.title)) more)
+    ap (λ (q : Parts). members_of (annotation_entries given q)) is_unmarked
+    ∙ true_if p.nullable (codes "nullable") (present (codes "title") (option_map Words (option_or given None)) more)
     ∙ ap (if_true p.nullable (codes "nullable"))
-    (ap (λ (t : Option (List ℕ)). present (codes "title") (option_map Words t) more) (ap (option_or given) no_title ∙ own_title given)
+    (ap (λ (t : Option (List ℕ)). present (codes "title") (option_map Words t) more) (own_title given)
     ∙ text_if given (codes "title") more
     ∙ ap (if_text given (codes "title"))
     (text_if p.description (codes "description") last
-    ∙ ap (if_text p.description (codes "description"))
-    (ap (λ (ms : List Member). present (codes "default") p.default (members_of (extension_entries ms))) no_extensions ∙ value_if p.default (codes "default") [])))
+    ∙ ap (if_text p.description (codes "description")) (value_if p.default (codes "default") [])))
 
 -- parts that are no reference, too
-pub written_beside : (given : Option (List ℕ)) (p : Parts) → p.reference ≡ None → p.title ≡ None → p.extensions ≡ [] → schema_json given (object_of p) ≡ Object (annotations p.nullable given (remarks_of p) ++ beside p)
-written_beside given p no_reference no_title no_extensions =
+pub written_beside : (given : Option (List ℕ)) (p : Parts) → p.reference ≡ None → p ≡ unmarked p → schema_json given (object_of p) ≡ Object (annotations p.nullable given (remarks_of p) ++ beside p)
+written_beside given p no_reference is_unmarked =
     let behind = entries_behind (without_notes (level_of p)) in
     by_parts given p
     ∙ ap (λ (es : List Entry). option_map_or reference_json p.reference (entries_object (annotation_entries given p ++ es))) (behind_alone (level_of p))
     ∙ ap (λ (r : Option (List ℕ)). option_map_or reference_json r (entries_object (annotation_entries given p ++ behind))) no_reference
-    ∙ ap Object (members_of-append (annotation_entries given p) behind ∙ ap (λ (ms : List Member). ms ++ beside p) (notes_are given p no_title no_extensions))
+    ∙ ap Object (members_of-append (annotation_entries given p) behind ∙ ap (λ (ms : List Member). ms ++ beside p) (notes_are given p is_unmarked))
 
 -- a reference is written alone, whatever the title
 pub written_reference : (given : Option (List ℕ)) (name : List ℕ) → schema_json given (object_of (of_reference name)) ≡ Object (reference name).members
@@ -163,7 +170,7 @@ pub list_members : (item : Schema) (json : Json) (min max : Option ℕ) → sche
     beside (list_of item min max) ≡ of_type (codes "array") (member (codes "items") json ∷ if_count min (codes "minItems") (if_count max (codes "maxItems") []))
 list_members item json min max e =
     ap (λ (es : List Entry). members_of (((codes "type", Some (Words (codes "array"))) ∷ es) ++ [])) (array-is (roll-ArrayParts (record { items = Some (One item); min = min; max = max })))
-    ∙ ap (λ (j : Json). of_type (codes "array") (member (codes "items") j ∷ members_of ((codes "minItems", count_json min) ∷ (codes "maxItems", count_json max) ∷ []))) (items-are (One item) ∙ e)
+    ∙ ap (λ (j : Json). of_type (codes "array") (member (codes "items") j ∷ members_of ((codes "minItems", count_json min) ∷ (codes "maxItems", count_json max) ∷ []))) (item-is item ∙ e)
     ∙ ap (λ (ms : List Member). of_type (codes "array") (member (codes "items") json ∷ ms)) (counts_if min max)
 
 abbrev pub property_member : Property → Member
@@ -174,6 +181,8 @@ object_entries o =
     (codes "properties", unless_empty (map pair_member (map property_written o.properties)))
     ∷ (codes "required", names_json o.required)
     ∷ (codes "additionalProperties", option_map additional_json (option_map schema_written o.additional))
+    ∷ (codes "minProperties", count_json o.min)
+    ∷ (codes "maxProperties", count_json o.max)
     ∷ []
 
 object_members : (o : StructParts) → beside (record (of_single types.Object) { object = Some (roll-ObjectParts o) }) ≡ of_type (codes "object") (members_of (object_entries o))
@@ -196,7 +205,7 @@ struct_members properties required deny =
 pub map_members : (values : Schema) (json : Json) → additional_json (schema_written values) ≡ json →
     beside (map_of values) ≡ of_type (codes "object") (member (codes "additionalProperties") json ∷ [])
 map_members values json e =
-    object_members (record { properties = []; required = []; additional = Some values })
+    object_members (record { properties = []; required = []; additional = Some values; min = None; max = None })
     ∙ ap (λ (j : Json). of_type (codes "object") (member (codes "additionalProperties") j ∷ [])) e
 
 -- the schema of other members: a truth value where it is one

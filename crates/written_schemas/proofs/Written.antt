@@ -27,7 +27,8 @@ use Rattle.typed_values.specs.Order.{sorted_by}
 use Rattle.typed_values.specs.SchemaTable as drawing
 use Rattle.typed_values.specs.SchemaTable.{Drawn, plain, bare_names, described, default_of, is_described, if_members, if_names, if_denied, no_remarks, of_type, drawn, drawn_json, drawn_step, least_shown, same_name, schema_json_titled, schema_json_described}
 use Rattle.typed_values.specs.Schemas as meant
-use Rattle.typed_values.specs.Schemas.{Parts, Sketch, object_of, with_null, with_description, property_name, one_of, texts_of, not_described, sketch, schema_sketch, schema_parts, sketch_of_field, sketch_of_tagged, sketch_of_variant, schema_value}
+use Rattle.schema_values.specs.Parts.{Parts}
+use Rattle.typed_values.specs.Schemas.{Sketch, object_of, with_null, with_description, property_name, one_of, texts_of, not_described, sketch, schema_sketch, schema_parts, sketch_of_field, sketch_of_tagged, sketch_of_variant, schema_value}
 use Rattle.typed_values.specs.Levels.{DescLevel}
 use Rattle.typed_values.proofs.Induction.{InField, InFields, InTagged, InVariant, KnownLevel, firsts, by_levels, each_holds}
 use Rattle.typed_values.proofs.Rows.{two_maps}
@@ -35,7 +36,7 @@ use Rattle.typed_values.proofs.SchemaRows.{parts_row, sketch_level, sketch_row}
 use Rattle.typed_values.proofs.SortedLemmas.{map_sorted}
 use Rattle.written_schemas.proofs.DrawnParts.{Shows, Bare, Dressed, IsAnnotated, written_under, written_bare, written_so, null_shows, described_shows, defaulted_shows}
 use Rattle.written_schemas.proofs.Forms.{drawn_level, drawn_row, field_property}
-use Rattle.written_schemas.proofs.SchemaForms.{annotatable_is_free, enumeration_is_free}
+use Rattle.written_schemas.proofs.SchemaForms.{annotatable_is_free, enumeration_is_free, unmarked}
 use Rattle.written_schemas.proofs.SchemaMembers.{beside, remarks_of, int_members, text_members, list_members, property_member, struct_members, map_members, truth_or_written, choice_members, one_of_members, nothing_members}
 
 -- a sketch is drawn so, also where it is the schema of other members
@@ -43,14 +44,13 @@ record Sketched (s : Sketch) (w : Drawn) : Type 0 where
   shows : Shows s.parts w
   same_truth : s.truth ≡ w.truth
 
-plainly : (p : Parts) (ms : List Member) → p.reference ≡ None → p.title ≡ None → p.extensions ≡ [] → p.nullable ≡ false → remarks_of p ≡ no_remarks → beside p ≡ ms → (truth : Option Bool)
+plainly : (p : Parts) (ms : List Member) → p.reference ≡ None → p ≡ unmarked p → p.nullable ≡ false → remarks_of p ≡ no_remarks → beside p ≡ ms → (truth : Option Bool)
     → Sketched (record { parts = p; truth = truth }) (record (plain ms) { truth = truth })
-plainly p ms no_reference no_title no_extensions no_null none same truth = record {
+plainly p ms no_reference is_unmarked no_null none same truth = record {
   shows = inr (
     record {
       no_reference = no_reference;
-      no_title = no_title;
-      no_extensions = no_extensions;
+      is_unmarked = is_unmarked;
       no_title_drawn = refl;
       same_null = no_null;
       same_remarks = none;
@@ -64,9 +64,9 @@ plainly p ms no_reference no_title no_extensions no_null none same truth = recor
 -- ---- enumerations
 
 listed_shown : (ns : List Named) → Sketched (sketch (meant.enumerated (texts_of ns))) (drawing.enumerated (map listed_name ns))
-listed_shown [] = plainly _ _ refl refl refl refl refl refl None
+listed_shown [] = plainly _ _ refl refl refl refl refl None
 listed_shown (n ∷ ns) =
-    plainly _ _ refl refl refl refl refl (ap (λ (js : List Json). of_type (codes "string") (member (codes "enum") (ListOf (Words n.name ∷ js)) ∷ [])) (sym (two_maps Words listed_name (λ n. Words n.name) (λ n. refl) ns))) None
+    plainly _ _ refl refl refl refl (ap (λ (js : List Json). of_type (codes "string") (member (codes "enum") (ListOf (Words n.name ∷ js)) ∷ [])) (sym (two_maps Words listed_name (λ n. Words n.name) (λ n. refl) ns))) None
 
 plain_choice_same : (ns : List Named) → map (schema_json None) (meant.plain_choice (texts_of ns)) ≡ drawing.plain_choice (map listed_name ns)
 plain_choice_same [] = refl
@@ -88,7 +88,7 @@ enumeration_shown : (ns : List Named) → Sketched (sketch (meant.enumeration ns
 enumeration_shown ns = by_case (list_any is_described ns)
   where
     by_case : (b : Bool) → Sketched (sketch (if b then one_of (meant.choices_of ns) else meant.enumerated (texts_of ns))) (if b then plain (member (codes "oneOf") (ListOf (drawing.choices_of ns)) ∷ []) else drawing.enumerated (map listed_name ns))
-    by_case true = plainly _ _ refl refl refl refl refl (one_of_members (meant.choices_of ns) (drawing.choices_of ns) (choices_same ns)) None
+    by_case true = plainly _ _ refl refl refl refl (one_of_members (meant.choices_of ns) (drawing.choices_of ns) (choices_same ns)) None
     by_case false = listed_shown ns
 
 -- ---- structs
@@ -106,7 +106,7 @@ object_members properties required deny = of_type (codes "object") (if_members p
 struct_shown : (ps : List Property) (ms : List Member) (names others : List (List ℕ)) (deny : Bool) → map property_member ps ≡ ms → names ≡ others
     → Sketched (sketch (meant.struct_parts ps names deny)) (drawing.struct_drawn ms others deny)
 struct_shown ps ms names others deny same same_names =
-    plainly _ _ refl refl refl refl refl
+    plainly _ _ refl refl refl refl
     (struct_members (sorted_by property_name ps) (sorted_by same_name names) deny
     ∙ ap (λ (ms : List Member). object_members ms (sorted_by same_name names) deny) (map_sorted property_name name_of property_member property_named ps ∙ ap (sorted_by name_of) same)
     ∙ ap (λ (names : List (List ℕ)). object_members (sorted_by name_of ms) (sorted_by same_name names) deny) same_names) None
@@ -209,23 +209,23 @@ module _ (table : List Definition) where
   null_shown s w h = record { shows = null_shows s.parts w h.shows; same_truth = refl }
 
   shown_by : (y : KnownLevel Shown) → Sketched (sketch_level table (firsts Shown y)) (drawn_step table (drawn_level table (firsts Shown y)))
-  shown_by Desc-F.Any = plainly _ _ refl refl refl refl refl refl (Some true)
-  shown_by Desc-F.Never = plainly _ _ refl refl refl refl refl nothing_members (Some false)
-  shown_by Desc-F.Null = plainly _ _ refl refl refl refl refl refl None
-  shown_by Desc-F.Bool = plainly _ _ refl refl refl refl refl refl None
-  shown_by Desc-F.Char = plainly _ _ refl refl refl refl refl refl None
-  shown_by (Desc-F.Int kind min max) = plainly _ _ refl refl refl refl refl (int_members kind (least_shown kind min) max) None
-  shown_by (Desc-F.Text min max format) = plainly _ _ refl refl refl refl refl (text_members min max format) None
+  shown_by Desc-F.Any = plainly _ _ refl refl refl refl refl (Some true)
+  shown_by Desc-F.Never = plainly _ _ refl refl refl refl nothing_members (Some false)
+  shown_by Desc-F.Null = plainly _ _ refl refl refl refl refl None
+  shown_by Desc-F.Bool = plainly _ _ refl refl refl refl refl None
+  shown_by Desc-F.Char = plainly _ _ refl refl refl refl refl None
+  shown_by (Desc-F.Int kind min max) = plainly _ _ refl refl refl refl (int_members kind (least_shown kind min) max) None
+  shown_by (Desc-F.Text min max format) = plainly _ _ refl refl refl refl (text_members min max format) None
   shown_by (Desc-F.Enumeration ns) = enumeration_shown ns
   shown_by (Desc-F.Option e) = null_shown (schema_sketch table e.0) (drawn table e.0) e.1
   shown_by (Desc-F.List e min max) =
-      plainly _ _ refl refl refl refl refl (list_members (schema_value table e.0) (drawn_json (drawn table e.0)) min max (written_so (schema_parts table e.0) (drawn table e.0) e.1.shows)) None
+      plainly _ _ refl refl refl refl (list_members (schema_value table e.0) (drawn_json (drawn table e.0)) min max (written_so (schema_parts table e.0) (drawn table e.0) e.1.shows)) None
   shown_by (Desc-F.Map e) =
-      plainly _ _ refl refl refl refl refl (map_members (meant.other_members (schema_sketch table e.0)) (drawing.other_members (drawn table e.0)) (others_same (schema_sketch table e.0) (drawn table e.0) e.1)) None
+      plainly _ _ refl refl refl refl (map_members (meant.other_members (schema_sketch table e.0)) (drawing.other_members (drawn table e.0)) (others_same (schema_sketch table e.0) (drawn table e.0) e.1)) None
   shown_by (Desc-F.Struct es deny) = struct_shown _ _ _ _ deny (properties_same (map (λ e. e.0) es) (each_holds (InField Shown) es)) (required_same (map (λ e. e.0) es))
-  shown_by (Desc-F.External es) = plainly _ _ refl refl refl refl refl (one_of_members _ _ (external_same (map (λ e. e.0) es) (each_holds (InVariant Shown) es))) None
-  shown_by (Desc-F.Tagged tag es) = plainly _ _ refl refl refl refl refl (one_of_members _ _ (tagged_choices_same tag (map (λ e. e.0) es) (each_holds (InTagged Shown) es))) None
-  shown_by (Desc-F.Untagged es) = plainly _ _ refl refl refl refl refl (choice_members _ _ (alternatives_same (map (λ e. e.0) es) (each_holds Shown es))) None
+  shown_by (Desc-F.External es) = plainly _ _ refl refl refl refl (one_of_members _ _ (external_same (map (λ e. e.0) es) (each_holds (InVariant Shown) es))) None
+  shown_by (Desc-F.Tagged tag es) = plainly _ _ refl refl refl refl (one_of_members _ _ (tagged_choices_same tag (map (λ e. e.0) es) (each_holds (InTagged Shown) es))) None
+  shown_by (Desc-F.Untagged es) = plainly _ _ refl refl refl refl (choice_members _ _ (alternatives_same (map (λ e. e.0) es) (each_holds Shown es))) None
   shown_by (Desc-F.Ref name) = record { shows = inl (record { name = name; parts_are = refl; drawn_is = refl }); same_truth = refl }
 
   shown : (d : Desc) → Shown d

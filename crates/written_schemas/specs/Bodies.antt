@@ -1,5 +1,5 @@
 -- The bodies that an operation of a document takes.
-use Rattle.std.specs.Prelude.{◌≡◌, ℕ, List, Some, codes}
+use Rattle.std.specs.Prelude.{◌≡◌, ℕ, List, [], Some, None, codes}
 use Rattle.openapi_values.specs.declared.document.OpenApi.{OpenApi}
 use Rattle.openapi_values.specs.declared.media.MediaType.{MediaType}
 use Rattle.openapi_values.specs.declared.media.RequestBody.{RequestBody}
@@ -9,12 +9,15 @@ use Rattle.typed_values.specs.declared.desc.Desc.{Desc}
 use Rattle.typed_values.specs.declared.table.Definition.{Definition}
 use Rattle.typed_values.specs.SchemaTable.{schema_json_titled}
 
--- the operation of a path and a method takes JSON under the schema of a descriptor, which has a name
+-- the operation of a path and a method does not answer in pages, has no parameters and takes JSON alone, under the schema of a descriptor, which has a name
 pub record TakesJson (document : OpenApi) (path method name : List ℕ) (table : List Definition) (desc : Desc) : Type 0 where
   pub operation : Operation
   pub listed : operation_in document path method ≡ Some operation
+  pub not_paged : operation.pagination ≡ None
+  pub no_parameter : operation.parameters ≡ []
   pub body : RequestBody
   pub has_body : operation.request_body ≡ Some body
   pub media : MediaType
   pub under_json : value_at (codes "application/json") body.content ≡ Some media
+  pub no_bytes : value_at (codes "application/octet-stream") body.content ≡ None
   pub schema_is : media.schema ≡ schema_json_titled table name desc

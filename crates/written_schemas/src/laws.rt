@@ -6,6 +6,7 @@ ghost use Rattle.openapi_values.specs.declared.request.WireRequest.{WireRequest 
 ghost use Rattle.openapi_values.specs.Admits.{Admits};
 ghost use Rattle.openapi_values.specs.Document.{open_api_json};
 ghost use Rattle.openapi_values.specs.JsonAdmits.{JsonAdmits};
+ghost use Rattle.openapi_values.specs.MediaTypes.{HasJsonType};
 ghost use Rattle.openapi_values.specs.Refusal.{refusal_of};
 ghost use Rattle.openapi_values.specs.SchemaJson.{schema_json as json_written};
 ghost use Rattle.typed_values.specs.declared.desc.Desc.{Desc as Descriptor};
@@ -33,12 +34,12 @@ pub fn schemas_agree()
         → AdmitsDenoted doc (schema_json_described table text desc) table desc }
 {}
 
-/// Where an operation of a written document takes JSON under a descriptor's titled schema, a request whose
-/// body reads as JSON is admitted exactly where that JSON denotes a tree.
+/// Where an operation of a written document takes JSON under a descriptor's titled schema, a request with the
+/// media type of JSON, whose body reads as JSON, is admitted exactly where that JSON denotes a tree.
 pub fn bodies_agree()
     ensures { (document : Document) (path method name : List ℕ) (table : List Entry) (desc : Descriptor)
         → TakesJson document path method name table desc → IsWritten (open_api_json document) table desc
-        → (request : Request) (json : JsonValue) → Reads request.body json
+        → (request : Request) (json : JsonValue) → HasJsonType request.headers → Reads request.body json
         → Admits (open_api_json document) path method request
         ↔ ((tree : Value) × JsonDenotes table desc json tree) }
 {}

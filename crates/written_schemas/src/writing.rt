@@ -48,11 +48,6 @@ fn written(alloc: Global, title: Option<&str>, schema: &Schema) -> Result<Json, 
     match j2oas_schema(alloc, title, schema) {
         Ok(json) => Ok(json),
         Err(J2oasError::OutOfMemory) => Err(AllocError),
-        Err(
-            J2oasError::NoItems
-            | J2oasError::EnumWithoutType
-            | J2oasError::BadEnumValue
-            | J2oasError::BadSubschema,
-        ) => unreachable!(),
+        Err(_) => unreachable!(),
     }
 }

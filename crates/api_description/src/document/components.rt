@@ -104,6 +104,7 @@ fn error_object(
 {
     Ok(ResponseObject {
         description: Some(error.name.copy(alloc)?),
+        headers: List::new(alloc),
         content: content(alloc, "application/json", table, &error.desc, &error.name)?,
         reference: None,
     })

@@ -15,7 +15,7 @@ use crate::document::components::components;
 use crate::document::operations::paths;
 use line_session::{Sink, SinkError, write_all};
 use openapi_values::{Info, OpenApi, Part};
-use schema_values::{Json, Text};
+use schema_values::{Json, List, Text};
 use semver::Version;
 use std::alloc::{AllocError, Global};
 
@@ -77,13 +77,20 @@ impl OpenApiDefinition<'_> {
             self.now.title (parts_of self.now.version)) }
     {
         let endpoints = self.api.endpoints();
+        let tags = List::new(alloc);
         let document = OpenApi {
+            openapi: Text::from_ascii(alloc, "3.0.3")?,
             info: Info {
                 title: self.title.copy(alloc)?,
+                description: None,
+                terms_of_service: None,
+                contact: None,
+                license: None,
                 version: Text::from_string(self.version.to_string(alloc)?),
             },
             paths: paths(alloc, endpoints, &self.version)?,
             components: components(alloc, endpoints, &self.version)?,
+            tags,
         };
         document.to_json(alloc)
     }

@@ -76,16 +76,43 @@ fn path_item(
         (boxed ⟦<dyn RouteHandler as RouteHandler>⟧) (parts_of version.now) endpoints.now
         template.now) }
 {
+    let (get, put) = operations(alloc, endpoints, version, template, "GET", "PUT")?;
+    let (post, delete) = operations(alloc, endpoints, version, template, "POST", "DELETE")?;
+    let (options, head) = operations(alloc, endpoints, version, template, "OPTIONS", "HEAD")?;
+    let (patch, trace) = operations(alloc, endpoints, version, template, "PATCH", "TRACE")?;
     Ok(PathItem {
-        get: operation(alloc, endpoints, version, template, "GET")?,
-        put: operation(alloc, endpoints, version, template, "PUT")?,
-        post: operation(alloc, endpoints, version, template, "POST")?,
-        delete: operation(alloc, endpoints, version, template, "DELETE")?,
-        options: operation(alloc, endpoints, version, template, "OPTIONS")?,
-        head: operation(alloc, endpoints, version, template, "HEAD")?,
-        patch: operation(alloc, endpoints, version, template, "PATCH")?,
-        trace: operation(alloc, endpoints, version, template, "TRACE")?,
+        get,
+        put,
+        post,
+        delete,
+        options,
+        head,
+        patch,
+        trace,
     })
+}
+
+// The operations of two methods.
+fn operations(
+    alloc: Global,
+    endpoints: &[ApiEndpoint],
+    version: &Version,
+    template: &Text,
+    first: &str,
+    second: &str,
+) -> Result<(Option<Operation>, Option<Operation>), AllocError>
+    requires { HavePassingTables (boxed ⟦<dyn RouteHandler as RouteHandler>⟧) endpoints.now }
+    ensures { IfOk result (λ pair. pair ≡ (
+      operation_at
+          (boxed ⟦<dyn RouteHandler as RouteHandler>⟧) (parts_of version.now) endpoints.now
+          template.now first.now,
+      operation_at (boxed ⟦<dyn RouteHandler as RouteHandler>⟧)
+          (parts_of version.now) endpoints.now template.now second.now,
+    )) }
+{
+    let first = operation(alloc, endpoints, version, template, first)?;
+    let second = operation(alloc, endpoints, version, template, second)?;
+    Ok((first, second))
 }
 
 fn operation(
@@ -113,9 +140,15 @@ fn operation_of(alloc: Global, endpoint: &ApiEndpoint) -> Result<Operation, Allo
 {
     let shape = endpoint.shape();
     Ok(Operation {
+        tags: List::new(alloc),
+        summary: None,
+        description: None,
         operation_id: endpoint.operation_id().copy(alloc)?,
+        parameters: List::new(alloc),
         request_body: request_body(alloc, *endpoint.body_content_type(), shape)?,
         responses: responses(alloc, shape)?,
+        deprecated: false,
+        pagination: None,
     })
 }
 
@@ -197,6 +230,7 @@ fn success(
     };
     Ok(ResponseObject {
         description: Some(response.description.copy(alloc)?),
+        headers: List::new(alloc),
         content,
         reference: None,
     })
@@ -225,6 +259,7 @@ fn reference(alloc: Global, error: &ApiEndpointErrorResponse) -> Result<Response
     reference.push_text(&error.name)?;
     Ok(ResponseObject {
         description: None,
+        headers: List::new(alloc),
         content: List::new(alloc),
         reference: Some(reference),
     })

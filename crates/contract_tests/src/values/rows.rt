@@ -3,7 +3,7 @@
 /// A body and what it is told as.
 type Row = (&'static str, &'static str);
 
-pub const ROWS: [Row; 113] = [
+pub const ROWS: [Row; 115] = [
     // What stands for the whole.
     (r#"{"on":true}"#, "(true - - - - - - - -)"),
     (" {\n\t\"on\" : false\r\n} ", "(false - - - - - - - -)"),
@@ -26,6 +26,14 @@ pub const ROWS: [Row; 113] = [
     (r#"{"on":true,"limit":18446744073709551616}"#, "not JSON"),
     (r#"{"on":true,"limit":-9223372036854775809}"#, "not JSON"),
     (r#"{"on":true,"zz":0.5}"#, "not JSON"),
+    (
+        r#"{"on":true,"place":{"street":"s","floor":1,"a":0.5}}"#,
+        "not JSON",
+    ),
+    (
+        r#"{"on":true,"place":{"street":"s","floor":1,"a":18446744073709551616}}"#,
+        "not JSON",
+    ),
     ("{\"on\":true,\"label\":\"a\nb\"}", "not JSON"),
     // Absent fields, null and other kinds, by presence: required, left out, nullable.
     ("{}", "missing field `on`"),

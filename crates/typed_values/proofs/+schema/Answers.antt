@@ -8,7 +8,7 @@ use Rattle.typed_values.proofs.SchemaRows.{sketch_are, parts_are, struct_parts_a
 use Rattle.typed_values.proofs.+schema.Goals as goal
 
 pub schemas::parts_of-returns-in-Any : goal.schemas::parts_of-returns-in-Any
-schemas::parts_of-returns-in-Any t c = rw (parts_are c.args.table.now c.in-Any.is desc.outs-Any) c.no_parts.ensures
+schemas::parts_of-returns-in-Any t c = rw (parts_are c.args.table.now c.in-Any.is desc.outs-Any) c.new.ensures
 
 pub schemas::parts_of-returns-in-Never : goal.schemas::parts_of-returns-in-Never
 schemas::parts_of-returns-in-Never t c = rw (parts_are c.args.table.now c.in-Never.is desc.outs-Never) c.never_parts.ensures
@@ -48,7 +48,7 @@ schemas::parts_of-returns-in_ok-other_members-in-Map t c =
 pub schemas::parts_of-returns-in_ok-required-in-Struct : goal.schemas::parts_of-returns-in_ok-required-in-Struct
 schemas::parts_of-returns-in_ok-required-in-Struct t c =
     let table = c.args.table.now in
-    rw (c.struct_parts.ensures, struct_parts_are table c.args.desc.now c.in-Struct.fields c.in-Struct.deny_unknown c.in-Struct.is, c.in_ok-properties-in-Struct.ensures, c.in_ok-required-in-Struct.ensures table, c.new.ensures.items, c.new-in-Struct.ensures.items, c.as_slice-in-Struct.ensures, c.as_slice-in-Struct-2.ensures) refl
+    rw (c.struct_parts.ensures, struct_parts_are table c.args.desc.now c.in-Struct.fields c.in-Struct.deny_unknown c.in-Struct.is, c.in_ok-properties-in-Struct.ensures, c.in_ok-required-in-Struct.ensures table, c.new-in-Struct.ensures.items, c.new-in-Struct-2.ensures.items, c.as_slice-in-Struct.ensures, c.as_slice-in-Struct-2.ensures) refl
 
 pub schemas::parts_of-returns-in-External : goal.schemas::parts_of-returns-in-External
 schemas::parts_of-returns-in-External t c =

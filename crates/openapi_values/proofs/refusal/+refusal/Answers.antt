@@ -1,7 +1,6 @@
 use Rattle.std.proofs.Common.{rules, sym, ap, ◌∙◌}
 use Rattle.openapi_values.specs.Refusal.{refusal_of, object_refusal}
-use Rattle.openapi_values.proofs.OneVariant.{bound-is}
-use Rattle.openapi_values.proofs.RefusalLevels.{truth-is, object-is, items-are, property-is, array-is, object_parts-are, inner-is, parts-are}
+use Rattle.openapi_values.proofs.RefusalLevels.{truth-is, object-is, item-is, tuple-is, property-is, array-is, object_parts-are, inner-is, parts-are}
 use Rattle.openapi_values.proofs.refusal.+refusal.Goals as goal
 
 pub refusal-returns-in-Bool : goal.refusal-returns-in-Bool
@@ -25,8 +24,11 @@ array_refusal-returns-in-Some t c = rw (array-is c.args.array.now) (search rules
 pub array_refusal-returns-in-None : goal.array_refusal-returns-in-None
 array_refusal-returns-in-None t c = rw (array-is c.args.array.now) (search rules)
 
-pub items_refusal-returns : goal.items_refusal-returns
-items_refusal-returns t c = c.refusal.ensures ∙ ap refusal_of (bound-is c.args.items.now _) ∙ sym (items-are c.args.items.now)
+pub items_refusal-returns-in-One : goal.items_refusal-returns-in-One
+items_refusal-returns-in-One t c = rw (c.in-One.is, item-is c.in-One.schema) c.refusal.ensures
+
+pub items_refusal-returns-in-Tuple : goal.items_refusal-returns-in-Tuple
+items_refusal-returns-in-Tuple t c = rw (c.in-Tuple.is, tuple-is c.in-Tuple.schemas, ← c.as_slice.ensures) c.list_refusal.ensures
 
 pub object_parts_refusal-returns-in-Some : goal.object_parts_refusal-returns-in-Some
 object_parts_refusal-returns-in-Some t c = rw (object_parts-are c.args.object.now) (search rules)

@@ -1,11 +1,11 @@
 use Rattle.std.proofs.Common.{◌≡◌, false, None, [], IfOk, map, option_map, unwrap_or, codes, sym, subst, ap, ◌∙◌}
+use Rattle.schema_values.specs.declared.json_value.Json.{List as ListOf}
 use Rattle.schema_values.specs.declared.schema.ObjectParts.{out-ObjectParts}
 use Rattle.schema_values.specs.declared.schema.SchemaObject.{out-SchemaObject}
 use Rattle.openapi_values.specs.Objects.{unless_empty, pair_member}
 use Rattle.openapi_values.specs.SchemaJson.{untitled, annotations, type_entries, without_values, entries_behind, object_level, additional_json, schemas_json, names_json, count_json, schema_written, object_written, items_written, property_written}
 use Rattle.openapi_values.proofs.ObjectLemmas.{Adds, first, added, joined, object}
-use Rattle.openapi_values.proofs.OneVariant.{bound-is}
-use Rattle.openapi_values.proofs.SchemaLevels.{truth-is, object-under, items-are, property-is, array-is, subschemas-are, object_parts-are, reference-is, parts-are}
+use Rattle.openapi_values.proofs.SchemaLevels.{truth-is, object-under, item-is, tuple-is, property-is, array-is, subschemas-are, object_parts-are, reference-is, parts-are}
 use Rattle.openapi_values.proofs.written.+written.Goals as goal
 
 pub written-returns-in-Bool : goal.written-returns-in-Bool
@@ -35,24 +35,30 @@ add_behind-returns t c =
     let typed : Adds _ (type_entries level.instance_type level) _ = record { are = c.in_ok-add_type.ensures } in
     rw given (joined typed (unwrap_or level.subschemas []) _ c.in_ok-add_subschemas.ensures).are
 
-pub add_array-returns : goal.add_array-returns
-add_array-returns t c =
+pub add_array_parts-returns : goal.add_array_parts-returns
+add_array_parts-returns t c =
     let array = c.args.array.now in
     let items = first (codes "items") (option_map items_written array.items) _ _ _ c.in_ok-add.ensures c.in_ok-items.ensures in
     let least = added items (codes "minItems") (count_json array.min) _ _ c.in_ok-add-2.ensures c.count_json.ensures in
     rw (array-is array) (added least (codes "maxItems") (count_json array.max) _ _ c.in_ok-add-3.ensures c.count_json-2.ensures).are
 
-pub item_json-returns : goal.item_json-returns
-item_json-returns t c =
-    let written = subst (λ s. IfOk c.written.result (λ json. json ≡ untitled (schema_written s))) (bound-is c.args.items.now _) c.written.ensures in
-    subst (λ j. IfOk c.written.result (λ json. json ≡ j)) (sym (items-are c.args.items.now)) written
+pub item_json-returns-in-One : goal.item_json-returns-in-One
+item_json-returns-in-One t c =
+    subst (λ j. IfOk c.written.result (λ json. json ≡ j)) (sym (ap items_written c.in-One.is ∙ item-is c.in-One.schema)) c.written.ensures
+
+pub item_json-returns-in_ok-list_json-in-Tuple : goal.item_json-returns-in_ok-list_json-in-Tuple
+item_json-returns-in_ok-list_json-in-Tuple t c =
+    ap ListOf (c.in_ok-list_json-in-Tuple.ensures ∙ ap (λ schemas. map untitled (map schema_written schemas)) c.as_slice.ensures)
+    ∙ sym (ap items_written c.in-Tuple.is ∙ tuple-is c.in-Tuple.schemas)
 
 pub add_object_parts-returns : goal.add_object_parts-returns
 add_object_parts-returns t c =
     let parts = out-ObjectParts c.args.object.now in
     let properties = first (codes "properties") (unless_empty (map pair_member (map property_written parts.properties))) _ _ _ c.in_ok-add.ensures c.in_ok-properties.ensures in
     let required = added properties (codes "required") (names_json parts.required) _ _ c.in_ok-add-2.ensures c.in_ok-required.ensures in
-    rw (object_parts-are c.args.object.now) (added required (codes "additionalProperties") (option_map additional_json (option_map schema_written parts.additional)) _ _ c.in_ok-add-3.ensures c.in_ok-additional.ensures).are
+    let additional = added required (codes "additionalProperties") (option_map additional_json (option_map schema_written parts.additional)) _ _ c.in_ok-add-3.ensures c.in_ok-additional.ensures in
+    let least = added additional (codes "minProperties") (count_json parts.min) _ _ c.in_ok-add-4.ensures c.count_json.ensures in
+    rw (object_parts-are c.args.object.now) (added least (codes "maxProperties") (count_json parts.max) _ _ c.in_ok-add-5.ensures c.count_json-2.ensures).are
 
 pub property_member-returns : goal.property_member-returns
 property_member-returns t c =

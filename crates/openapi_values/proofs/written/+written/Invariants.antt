@@ -30,7 +30,13 @@ abbrev pub decreases-add_subschemas : goal.decreases-add_subschemas
 decreases-add_subschemas l = 8 * size-SchemaObject l.schema.now + 1
 
 abbrev pub decreases-add_array : goal.decreases-add_array
-decreases-add_array l = 8 * size-ArrayParts l.array.now + 2
+decreases-add_array l = 8 * size-SchemaObject l.schema.now
+
+abbrev pub decreases-add_object : goal.decreases-add_object
+decreases-add_object l = 8 * size-SchemaObject l.schema.now
+
+abbrev pub decreases-add_array_parts : goal.decreases-add_array_parts
+decreases-add_array_parts l = 8 * size-ArrayParts l.array.now + 2
 
 abbrev pub decreases-items_json : goal.decreases-items_json
 decreases-items_json l = 8 * size-ArrayParts l.array.now + 1

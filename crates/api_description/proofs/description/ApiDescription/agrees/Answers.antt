@@ -12,12 +12,12 @@ returns-clause-listed g c = λ title version.
     (accepted_methods (λ e. goal.RouteHandler-dyn g (e.handler.vtable, e.handler.value)) [] c.args.self.now.endpoints.items c.requires)
 
 pub returns-clause-agreed : goal.returns-clause-agreed
-returns-clause-agreed g c = λ title version request body asked.
-    request_agrees (λ e. goal.RouteHandler-dyn g (e.handler.vtable, e.handler.value)) title version request body asked c.args.self.now.endpoints.items c.requires
+returns-clause-agreed g c = λ title version request body sent sends asked.
+    request_agrees (λ e. goal.RouteHandler-dyn g (e.handler.vtable, e.handler.value)) title version request body sent sends asked c.args.self.now.endpoints.items c.requires
 
 pub returns-clause-followed : goal.returns-clause-followed
 returns-clause-followed g c = λ title config request body before outcome after.
     answers_follow (λ e. goal.RouteHandler-dyn g (e.handler.vtable, e.handler.value)) config c.args.self.now.endpoints.items request body before after (parts_of request.version)
     (document_of (λ e. goal.RouteHandler-dyn g (e.handler.vtable, e.handler.value)) c.args.self.now.endpoints.items title (parts_of request.version))
-    (λ other bytes asked. request_agrees (λ e. goal.RouteHandler-dyn g (e.handler.vtable, e.handler.value)) title (parts_of request.version) other bytes asked c.args.self.now.endpoints.items c.requires)
+    (λ other bytes sent sends asked. request_agrees (λ e. goal.RouteHandler-dyn g (e.handler.vtable, e.handler.value)) title (parts_of request.version) other bytes sent sends asked c.args.self.now.endpoints.items c.requires)
     refl outcome

@@ -1,0 +1,112 @@
+use crate::objects::add;
+use crate::part::{Part, copy_option, option_json};
+use schema_values::{Json, List, Text};
+use std::alloc::{AllocError, Global};
+
+/// What an API is called, its version, and who stands behind it.
+#[derive(Drop)]
+pub struct Info {
+    pub title: Text,
+    pub description: Option<Text>,
+    /// Where the terms of service are found.
+    pub terms_of_service: Option<Text>,
+    pub contact: Option<Contact>,
+    pub license: Option<License>,
+    pub version: Text,
+}
+
+/// Whom to ask about an API.
+#[derive(Drop)]
+pub struct Contact {
+    pub name: Option<Text>,
+    pub url: Option<Text>,
+    pub email: Option<Text>,
+}
+
+/// What an API may be used under.
+#[derive(Drop)]
+pub struct License {
+    pub name: Text,
+    pub url: Option<Text>,
+}
+
+impl Part for Info {
+    ghost use Rattle.openapi_values.specs.Info.{info_json};
+
+    ghost json = { info_json };
+
+    fn to_json(&self, alloc: Global) -> Result<Json, AllocError> {
+        let mut members = List::new(alloc);
+        let title = self.title.to_json(alloc)?;
+        add(alloc, &mut members, "title", Some(title))?;
+        let description = option_json(alloc, &self.description)?;
+        add(alloc, &mut members, "description", description)?;
+        let terms = option_json(alloc, &self.terms_of_service)?;
+        add(alloc, &mut members, "termsOfService", terms)?;
+        let contact = option_json(alloc, &self.contact)?;
+        add(alloc, &mut members, "contact", contact)?;
+        let license = option_json(alloc, &self.license)?;
+        add(alloc, &mut members, "license", license)?;
+        let version = self.version.to_json(alloc)?;
+        add(alloc, &mut members, "version", Some(version))?;
+        Ok(Json::Object(members))
+    }
+
+    fn copy(&self, alloc: Global) -> Result<Info, AllocError> {
+        Ok(Info {
+            title: self.title.copy(alloc)?,
+            description: copy_option(alloc, &self.description)?,
+            terms_of_service: copy_option(alloc, &self.terms_of_service)?,
+            contact: copy_option(alloc, &self.contact)?,
+            license: copy_option(alloc, &self.license)?,
+            version: self.version.copy(alloc)?,
+        })
+    }
+}
+
+impl Part for Contact {
+    ghost use Rattle.openapi_values.specs.Info.{contact_json};
+
+    ghost json = { contact_json };
+
+    fn to_json(&self, alloc: Global) -> Result<Json, AllocError> {
+        let mut members = List::new(alloc);
+        let name = option_json(alloc, &self.name)?;
+        add(alloc, &mut members, "name", name)?;
+        let url = option_json(alloc, &self.url)?;
+        add(alloc, &mut members, "url", url)?;
+        let email = option_json(alloc, &self.email)?;
+        add(alloc, &mut members, "email", email)?;
+        Ok(Json::Object(members))
+    }
+
+    fn copy(&self, alloc: Global) -> Result<Contact, AllocError> {
+        Ok(Contact {
+            name: copy_option(alloc, &self.name)?,
+            url: copy_option(alloc, &self.url)?,
+            email: copy_option(alloc, &self.email)?,
+        })
+    }
+}
+
+impl Part for License {
+    ghost use Rattle.openapi_values.specs.Info.{license_json};
+
+    ghost json = { license_json };
+
+    fn to_json(&self, alloc: Global) -> Result<Json, AllocError> {
+        let mut members = List::new(alloc);
+        let name = self.name.to_json(alloc)?;
+        add(alloc, &mut members, "name", Some(name))?;
+        let url = option_json(alloc, &self.url)?;
+        add(alloc, &mut members, "url", url)?;
+        Ok(Json::Object(members))
+    }
+
+    fn copy(&self, alloc: Global) -> Result<License, AllocError> {
+        Ok(License {
+            name: self.name.copy(alloc)?,
+            url: copy_option(alloc, &self.url)?,
+        })
+    }
+}

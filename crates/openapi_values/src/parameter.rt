@@ -1,0 +1,82 @@
+use crate::objects::{add, true_json};
+use crate::part::{Part, copy_option, option_json};
+use schema_values::{Json, List, Text};
+use std::alloc::{AllocError, Global};
+
+/// A part of a request beside its body: where it stands, its name, and the schema of its text.
+#[derive(Drop)]
+pub struct Parameter {
+    /// `path`, `query` or `header`: the member `in`.
+    pub location: Text,
+    pub name: Text,
+    pub description: Option<Text>,
+    pub required: bool,
+    pub schema: Json,
+}
+
+/// A header of a response. Its name stands beside it.
+#[derive(Drop)]
+pub struct HeaderObject {
+    pub description: Option<Text>,
+    /// How its value is written, `simple`.
+    pub style: Text,
+    pub required: bool,
+    pub schema: Json,
+}
+
+impl Part for Parameter {
+    ghost use Rattle.openapi_values.specs.Parameters.{parameter_json};
+
+    ghost json = { parameter_json };
+
+    fn to_json(&self, alloc: Global) -> Result<Json, AllocError> {
+        let mut members = List::new(alloc);
+        let location = self.location.to_json(alloc)?;
+        add(alloc, &mut members, "in", Some(location))?;
+        let name = self.name.to_json(alloc)?;
+        add(alloc, &mut members, "name", Some(name))?;
+        let description = option_json(alloc, &self.description)?;
+        add(alloc, &mut members, "description", description)?;
+        add(alloc, &mut members, "required", true_json(self.required))?;
+        let schema = self.schema.copy(alloc)?;
+        add(alloc, &mut members, "schema", Some(schema))?;
+        Ok(Json::Object(members))
+    }
+
+    fn copy(&self, alloc: Global) -> Result<Parameter, AllocError> {
+        Ok(Parameter {
+            location: self.location.copy(alloc)?,
+            name: self.name.copy(alloc)?,
+            description: copy_option(alloc, &self.description)?,
+            required: self.required,
+            schema: self.schema.copy(alloc)?,
+        })
+    }
+}
+
+impl Part for HeaderObject {
+    ghost use Rattle.openapi_values.specs.Parameters.{header_json};
+
+    ghost json = { header_json };
+
+    fn to_json(&self, alloc: Global) -> Result<Json, AllocError> {
+        let mut members = List::new(alloc);
+        let description = option_json(alloc, &self.description)?;
+        add(alloc, &mut members, "description", description)?;
+        let style = self.style.to_json(alloc)?;
+        add(alloc, &mut members, "style", Some(style))?;
+        add(alloc, &mut members, "required", true_json(self.required))?;
+        let schema = self.schema.copy(alloc)?;
+        add(alloc, &mut members, "schema", Some(schema))?;
+        Ok(Json::Object(members))
+    }
+
+    fn copy(&self, alloc: Global) -> Result<HeaderObject, AllocError> {
+        Ok(HeaderObject {
+            description: copy_option(alloc, &self.description)?,
+            style: self.style.copy(alloc)?,
+            required: self.required,
+            schema: self.schema.copy(alloc)?,
+        })
+    }
+}

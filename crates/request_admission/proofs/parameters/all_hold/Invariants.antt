@@ -1,0 +1,8 @@
+use Rattle.std.proofs.Common.{◌≡◌, drop}
+use Rattle.std.specs.List.{list_all}
+use Rattle.openapi_values.specs.RequestParameters.{parameter_holds}
+use Rattle.request_admission.proofs.parameters.all_hold.Given as goal
+
+abbrev pub invariant-loop-parameter : goal.invariant-loop-parameter
+invariant-loop-parameter l =
+    list_all (parameter_holds l.doc l.request) (drop l.parameter-index l.parameters) ≡ list_all (parameter_holds l.doc l.request) l.fn.parameters

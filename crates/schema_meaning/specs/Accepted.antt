@@ -1,0 +1,57 @@
+-- The schemas whose meaning is kept where they are written (OpenAPI 3.0.3, Schema Object).
+use Rattle.std.specs.Prelude.{◌≡◌, ◌⊎◌, true, List, [], ◌∷◌, Some, None, IfSome}
+use Rattle.schema_values.specs.declared.schema.InstanceType.TheVariants.{Null}
+use Rattle.schema_values.specs.declared.schema.InstanceTypes.TheVariants.{Single}
+use Rattle.schema_values.specs.declared.schema.Items.TheOpen.{Schema-F}
+use Rattle.schema_values.specs.declared.schema.Schema.{Schema, out-Schema}
+use Rattle.schema_values.specs.declared.schema.SchemaObject.{SchemaObject, out-SchemaObject}
+use Rattle.schema_values.specs.declared.schema.Subschemas.{Subschemas}
+use Rattle.schema_values.specs.Parts.{Parts, no_parts}
+use Rattle.openapi_values.specs.Refusal.{refusal_of}
+use Rattle.schema_meaning.specs.Definitions.{Definitions}
+use Rattle.schema_meaning.specs.Reached.{ComesTo, IsReached}
+
+-- the schema that admits every value and says nothing: the truth value true, or an object without any part
+abbrev pub IsEmpty : Schema → Type 0
+IsEmpty schema =
+    (out-Schema schema ≡ Schema-F.Bool true)
+    ⊎ ((object : SchemaObject) × (out-Schema schema ≡ Schema-F.Object object) × (out-SchemaObject object ≡ no_parts))
+
+-- there is exactly one schema
+abbrev pub IsOne : List Schema → Type 0
+IsOne schemas = (schema : Schema) × (schemas ≡ schema ∷ [])
+
+-- `all_of` has one schema, and `not` the empty one
+pub record SubschemasAreRead (subschemas : Subschemas) : Type 0 where
+  pub one_all : IfSome subschemas.all_of IsOne
+  pub not_empty : IfSome subschemas.not IsEmpty
+
+-- no part stands that asks something of numbers, texts, lists or objects
+pub record AsksOfNoForm (parts : Parts) : Type 0 where
+  pub no_number : parts.number ≡ None
+  pub no_string : parts.string ≡ None
+  pub no_array : parts.array ≡ None
+  pub no_object : parts.object ≡ None
+
+-- the parts of a schema object that is no reference are those that are read where the schema is written
+pub record AreRead (parts : Parts) : Type 0 where
+  pub no_const : parts.const_value ≡ None
+  pub subschemas_read : IfSome parts.subschemas SubschemasAreRead
+  -- what is asked of one form of values stands beside a type
+  pub typed : parts.instance_type ≡ None → AsksOfNoForm parts
+  -- beside the type of null no subschemas stand
+  pub null_alone : parts.instance_type ≡ Some (Single Null) → parts.subschemas ≡ None
+
+-- what is asked of the parts of a schema: nothing of a truth value, or of a reference
+abbrev pub PartsAreRead : Schema → Type 0
+PartsAreRead schema = (object : SchemaObject) → out-Schema schema ≡ Schema-F.Object object → (out-SchemaObject object).reference ≡ None → AreRead (out-SchemaObject object)
+
+-- a schema is not refused, its parts are read, and no chain of references and subschemas comes back to it
+pub record IsReadable (definitions : Definitions) (schema : Schema) : Type 0 where
+  pub not_refused : refusal_of schema ≡ None
+  pub parts_read : PartsAreRead schema
+  pub no_way_back : ComesTo definitions schema schema → ⊥
+
+-- the accepted subset: each schema that is reached, the schema itself among them, is readable
+abbrev pub IsAccepted : Definitions → Schema → Type 0
+IsAccepted definitions whole = (schema : Schema) → IsReached definitions whole schema → IsReadable definitions schema

@@ -1,0 +1,6 @@
+//! What a schema means, which schemas keep their meaning where they are written, and that they keep it.
+#![tactic(auto)]
+
+mod laws;
+
+pub use laws::{schemas_agree, steps_suffice};

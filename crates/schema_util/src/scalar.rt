@@ -1,0 +1,255 @@
+//! Which schemas are those of scalar values, of texts, and of lists of texts.
+
+ghost use Rattle.std.specs.Prelude.{◌≡◌, [], Some, None, IfErr, OnOk};
+ghost use Rattle.std.specs.HashMap.{get_by_text};
+ghost use Rattle.std.specs.Option.{option_copied};
+ghost use Rattle.schema_values.specs.declared.schema.ArrayParts.{out-ArrayParts};
+ghost use Rattle.schema_util.specs.Forms.{kind_of};
+ghost use Rattle.schema_util.specs.Met.{names_met};
+ghost use Rattle.schema_util.specs.declared.scalar.Wanted.TheVariants.{Scalar, Text};
+ghost use Rattle.schema_util.specs.Scalars.{fault_of, finding, finding_of_kind, finding_value};
+ghost use Rattle.schema_util.specs.Scalars.{is_wanted, item_of, mismatch, one_item, single_type};
+ghost use Rattle.schema_util.specs.Scalars.{FirstFault, FirstFaultAmong, FirstFaultOfList};
+
+use crate::form::{Form, Kind};
+use crate::met::Met;
+use crate::references::{ResolveError, follow, resolve};
+use schema_values::{
+    ArrayParts, Definitions, InstanceType, InstanceTypes, Items, Schema, SchemaObject, Subschemas,
+};
+
+/// Why a schema is not what is asked for: the first cause, from left to right, inner schemas where they
+/// stand.
+#[derive(Clone, Copy, Debug, PartialEq, Eq)]
+pub enum ScalarError<'a> {
+    /// A schema is not that of a scalar value.
+    NotScalar,
+    /// A schema is not that of texts.
+    NotStringList,
+    /// No definition has this name. The whole reference where it is none of a definition.
+    Dangling(&'a str),
+    /// This name comes again on the way along references, `all_of`, `any_of` and `one_of`.
+    Cycle(&'a str),
+}
+
+/// What is asked of a type.
+#[derive(Clone, Copy)]
+enum Wanted {
+    Scalar,
+    Text,
+}
+
+impl Wanted {
+    fn refusal<'a>(self) -> ScalarError<'a>
+        ensures { fault_of result ≡ mismatch self }
+    {
+        match self {
+            Wanted::Scalar => ScalarError::NotScalar,
+            Wanted::Text => ScalarError::NotStringList,
+        }
+    }
+
+    fn takes(self, kind: InstanceType) -> bool
+        ensures { result ≡ is_wanted self kind }
+    {
+        match kind {
+            InstanceType::String => true,
+            InstanceType::Boolean | InstanceType::Number | InstanceType::Integer => {
+                matches!(self, Wanted::Scalar)
+            }
+            InstanceType::Null | InstanceType::Object | InstanceType::Array => false,
+        }
+    }
+}
+
+/// What a test finds in a schema.
+enum Finding<'a> {
+    /// A reference: what it leads to is asked for.
+    Reference(&'a str),
+    /// Subschemas: each of them is asked for.
+    Members(&'a [Schema]),
+    /// A type that is wanted.
+    Fits,
+    /// Anything else.
+    Differs,
+}
+
+/// Tests that a schema is that of truth values, numbers or texts. Takes no memory.
+///
+/// A definition is tested anew at each reference to it, so the time may be exponential in the number of
+/// definitions where they share others.
+pub fn type_is_scalar<'a>(
+    schema: &'a Schema,
+    definitions: &'a Definitions,
+) -> Result<(), ScalarError<'a>>
+    ensures scalar { OnOk result (FirstFault Scalar (get_by_text definitions.now) [] schema.now None) }
+    ensures refused { IfErr result
+        (λ error. FirstFault Scalar (get_by_text definitions.now) [] schema.now (Some (fault_of error))) }
+{
+    tested(Wanted::Scalar, schema, definitions, None)
+}
+
+/// Tests that a schema is that of texts. Takes no memory, and as much time as `type_is_scalar`.
+pub fn type_is_string<'a>(
+    schema: &'a Schema,
+    definitions: &'a Definitions,
+) -> Result<(), ScalarError<'a>>
+    ensures text { OnOk result (FirstFault Text (get_by_text definitions.now) [] schema.now None) }
+    ensures refused { IfErr result
+        (λ error. FirstFault Text (get_by_text definitions.now) [] schema.now (Some (fault_of error))) }
+{
+    tested(Wanted::Text, schema, definitions, None)
+}
+
+/// Tests that a schema is that of lists of texts. Takes no memory, and as much time as `type_is_scalar`.
+pub fn type_is_string_enum<'a>(
+    schema: &'a Schema,
+    definitions: &'a Definitions,
+) -> Result<(), ScalarError<'a>>
+    ensures list { OnOk result (FirstFaultOfList (get_by_text definitions.now) schema.now None) }
+    ensures refused { IfErr result
+        (λ error. FirstFaultOfList (get_by_text definitions.now) schema.now (Some (fault_of error))) }
+{
+    match items_of(resolve(schema, definitions)?) {
+        Some(item) => type_is_string(item, definitions),
+        None => Err(ScalarError::NotStringList),
+    }
+}
+
+impl<'a> From<ResolveError<'a>> for ScalarError<'a> {
+    ghost use Rattle.std.specs.Prelude.{◌≡◌};
+    ghost use Rattle.schema_util.specs.References.{reason_of};
+    ghost use Rattle.schema_util.specs.Scalars.{unresolved, fault_of};
+
+    ghost from_gives = { λ error made. fault_of made ≡ unresolved (reason_of error) };
+
+    fn from(error: ResolveError<'a>) -> ScalarError<'a> {
+        match error {
+            ResolveError::Dangling(name) => ScalarError::Dangling(name),
+            ResolveError::Cycle(name) => ScalarError::Cycle(name),
+        }
+    }
+}
+
+/// Tests a schema behind the names that were met.
+#[cycle(tested)]
+fn tested<'a>(
+    wanted: Wanted,
+    schema: &'a Schema,
+    definitions: &'a Definitions,
+    met: Option<&Met<'_>>,
+) -> Result<(), ScalarError<'a>>
+    ensures fits { OnOk result
+        (FirstFault wanted (get_by_text definitions.now) (names_met met.entry) schema.now None) }
+    ensures faulty { IfErr result (λ error. FirstFault wanted
+        (get_by_text definitions.now) (names_met met.entry) schema.now (Some (fault_of error))) }
+{
+    match look_into(wanted, schema) {
+        Finding::Reference(reference) => {
+            let (name, next) = follow(reference, definitions, met)?;
+            tested(wanted, next, definitions, Some(&Met { name, before: met }))
+        }
+        Finding::Members(members) => all_tested(wanted, members, definitions, met),
+        Finding::Fits => Ok(()),
+        Finding::Differs => Err(wanted.refusal()),
+    }
+}
+
+#[cycle(tested)]
+fn all_tested<'a>(
+    wanted: Wanted,
+    members: &'a [Schema],
+    definitions: &'a Definitions,
+    met: Option<&Met<'_>>,
+) -> Result<(), ScalarError<'a>>
+    ensures fit { OnOk result
+        (FirstFaultAmong wanted (get_by_text definitions.now) (names_met met.entry) members.now None) }
+    ensures faulty { IfErr result (λ error. FirstFaultAmong wanted
+        (get_by_text definitions.now) (names_met met.entry) members.now (Some (fault_of error))) }
+{
+    for member in members {
+        tested(wanted, member, definitions, met)?;
+    }
+    Ok(())
+}
+
+fn look_into(wanted: Wanted, schema: &Schema) -> Finding<'_>
+    ensures { finding_value result ≡ finding wanted schema.now }
+{
+    let Schema::Object(object) = schema else {
+        return Finding::Differs;
+    };
+    match Form::of(object.get()) {
+        Form::Reference(reference) => Finding::Reference(reference.as_str()),
+        Form::Combination(subschemas) => members_of(subschemas),
+        _ => match single_type(object.get()) {
+            Some(kind) if wanted.takes(kind) => Finding::Fits,
+            _ => Finding::Differs,
+        },
+    }
+}
+
+/// The members of an `all_of` or an `any_of` of one, or of a `one_of`.
+fn members_of(subschemas: &Subschemas) -> Finding<'_>
+    ensures { finding_value result ≡ finding_of_kind (kind_of subschemas.now) }
+{
+    match Kind::of(subschemas) {
+        Kind::AllOf(schemas) | Kind::AnyOf(schemas) if schemas.len() == 1 => {
+            Finding::Members(schemas.as_slice())
+        }
+        Kind::OneOf(schemas) => Finding::Members(schemas.as_slice()),
+        _ => Finding::Differs,
+    }
+}
+
+/// The single type of a schema that has neither subschemas, array, object nor reference.
+fn single_type(object: &SchemaObject) -> Option<InstanceType>
+    ensures { result ≡ single_type object.now }
+{
+    match object {
+        SchemaObject {
+            instance_type: Some(InstanceTypes::Single(kind)),
+            subschemas: None,
+            array: None,
+            object: None,
+            reference: None,
+            ..
+        } => Some(*kind),
+        _ => None,
+    }
+}
+
+/// The schema of the items of a list, where its type and its array are its only parts.
+fn items_of(schema: &Schema) -> Option<&Schema>
+    ensures { option_copied result ≡ item_of schema.now }
+{
+    let Schema::Object(object) = schema else {
+        return None;
+    };
+    match object.get() {
+        SchemaObject {
+            instance_type: Some(InstanceTypes::Single(InstanceType::Array)),
+            format: None,
+            enum_values: None,
+            const_value: None,
+            subschemas: None,
+            number: None,
+            string: None,
+            array: Some(array),
+            object: None,
+            reference: None,
+            ..
+        } => one_item(array),
+        _ => None,
+    }
+}
+
+/// The one schema of all items.
+fn one_item(array: &ArrayParts) -> Option<&Schema>
+    ensures { option_copied result ≡ one_item (out-ArrayParts array.now).items }
+{
+    match &array.items {
+        Some(Items::One(item)) => Some(item),
+        _ => None,
+    }
+}

@@ -1,0 +1,32 @@
+ghost use Rattle.std.specs.Prelude.{◌≡◌, IfOk};
+
+use crate::list::List;
+use crate::schema_copy::copy_texts;
+use crate::text::Text;
+use std::alloc::{AllocError, Global};
+use std::collections::BTreeMap;
+
+/// What a variable of a path stands for: one component, or the components that are left of the path.
+#[derive(Drop)]
+pub enum VariableValue {
+    String(Text),
+    Components(List<Text>),
+}
+
+/// The variables of a path, by names.
+pub type VariableSet = BTreeMap<Text, VariableValue>;
+
+impl VariableValue {
+    /// A value equal to this one.
+    pub fn copy(&self, alloc: Global) -> Result<VariableValue, AllocError>
+        ensures { IfOk result (λ copy. copy ≡ self.now) }
+    {
+        match self {
+            VariableValue::String(text) => Ok(VariableValue::String(text.copy(alloc)?)),
+            VariableValue::Components(texts) => {
+                let copies = copy_texts(alloc, texts.as_slice())?;
+                Ok(VariableValue::Components(copies))
+            }
+        }
+    }
+}
