@@ -35,6 +35,12 @@ const DOCUMENT: &str = r##"{
     "/pages": {
       "get": { "x-dropshot-pagination": { "required": [] } }
     },
+    "/methods": {
+      "delete": {}, "head": {}, "options": {}, "patch": {}, "trace": {}
+    },
+    "/without_schema": {
+      "get": { "parameters": [ { "in": "query", "name": "x" } ] }
+    },
     "/headers": {
       "get": {
         "parameters": [ { "in": "header", "name": "x", "schema": { "type": "string" } } ]
@@ -60,7 +66,7 @@ const DOCUMENT: &str = r##"{
 }"##;
 
 // The `content-type` lines of a request for `POST /probe`, its body, and whether it is admitted.
-const BODIES: [(&[&[u8]], &[u8], bool); 16] = [
+const BODIES: [(&[&[u8]], &[u8], bool); 17] = [
     (&[], b"{\"n\":1}", true),
     (&[], b"{\"n\":1,\"m\":2}", true),
     (&[], b"{\"n\":\"1\"}", false),
@@ -70,6 +76,7 @@ const BODIES: [(&[&[u8]], &[u8], bool); 16] = [
     (&[b"application/json"], b"{\"n\":1}", true),
     (&[b"Application/JSON \t;charset=utf-8"], b"{\"n\":1}", true),
     (&[b"application/problem+json"], b"{\"n\":1}", true),
+    (&[b"application/+json"], b"{\"n\":1}", true),
     (&[b"application/x+y+json"], b"{\"n\":1}", false),
     (&[b"text/plain"], b"{\"n\":1}", false),
     (&[b" application/json"], b"{\"n\":1}", false),
@@ -96,11 +103,18 @@ const QUERIES: [(&str, &str, bool); 12] = [
 ];
 
 // A path, a method, and whether a request without lines, query and body is admitted.
-const OPERATIONS: [(&str, &str, bool); 8] = [
+const OPERATIONS: [(&str, &str, bool); 15] = [
     ("/bytes", "PUT", true),
     ("/bytes", "put", false),
     ("/bytes", "POST", false),
     ("/byte", "PUT", false),
+    ("/methods", "DELETE", true),
+    ("/methods", "HEAD", true),
+    ("/methods", "OPTIONS", true),
+    ("/methods", "PATCH", true),
+    ("/methods", "TRACE", true),
+    ("/methods", "GET", false),
+    ("/without_schema", "GET", false),
     ("/pages", "GET", false),
     ("/headers", "GET", false),
     ("/forms", "POST", false),
@@ -133,6 +147,20 @@ fn a_body_is_json_that_the_schema_admits(rt: HostRuntime) -> Result<(), Fail> {
         }
         assert_eq!(rt; admitted(alloc, "/probe", "POST", &request)?, wanted);
     }
+    Ok(())
+}
+
+#[test]
+fn bytes_are_admitted_under_any_media_type(rt: HostRuntime) -> Result<(), Fail> {
+    let alloc = rt.alloc();
+    let mut request = request(alloc, "", b"\xff")?;
+    let name = Text::from_str(alloc, "content-type")?;
+    let value = List::from_bytes(alloc, b"text/plain")?;
+    request.headers.push(HeaderLine { name, value })?;
+    assert!(rt; admitted(alloc, "/bytes", "PUT", &request)?);
+    let copy = request.copy(alloc)?;
+    assert!(rt; admitted(alloc, "/bytes", "PUT", &copy)?);
+    assert!(rt; copy.headers.len() == 1 && copy.body.len() == 1 && copy.variables.is_empty());
     Ok(())
 }
 

@@ -7,6 +7,7 @@ use Rattle.schema_values.specs.declared.schema.ObjectParts.{ObjectParts, out-Obj
 use Rattle.schema_values.specs.declared.schema.Property.{Property, out-Property}
 use Rattle.schema_values.specs.declared.schema.Schema.{Schema}
 use Rattle.schema_values.specs.declared.schema.Subschemas.{Subschemas}
+use Rattle.schema_values.specs.Order.{property_name, sorted_by}
 use Rattle.schema_util.specs.declared.struct_members.Schema2StructError.{Schema2StructError}
 use Rattle.schema_util.specs.declared.struct_members.Schema2StructError.TheVariants as code
 use Rattle.schema_util.specs.declared.struct_members.StructMember.{StructMember}
@@ -27,10 +28,10 @@ member_of required names p = record {
   required = required && is_named names (out-Property p).name;
 }
 
--- the properties of an object as members, in the order in which they stand
+-- the properties of an object as members, in the order of their names
 abbrev pub own_members : Bool → Option ObjectParts → List StructMember
 own_members required None = []
-own_members required (Some object) = map (member_of required (out-ObjectParts object).required) (out-ObjectParts object).properties
+own_members required (Some object) = map (member_of required (out-ObjectParts object).required) (sorted_by property_name (out-ObjectParts object).properties)
 
 -- the schemas whose members come too: those of an `any_of`, none of them required, or the one of an `all_of`; no answer for other subschemas
 abbrev pub flattened_of_kind : Bool → SchemaKind → Option (Bool × List Schema)

@@ -4,6 +4,7 @@ ghost use Rattle.std.specs.Prelude.{◌≡◌, ◌++◌, [], map, Ok, Err, Some,
 ghost use Rattle.std.specs.HashMap.{get_by_text};
 ghost use Rattle.std.specs.Option.{option_copied};
 ghost use Rattle.std.specs.Str.{encode_utf8_all};
+ghost use Rattle.schema_values.specs.Order.{property_name, sorted_by};
 ghost use Rattle.schema_values.specs.declared.schema.ObjectParts.{out-ObjectParts};
 ghost use Rattle.schema_util.specs.Forms.{kind_of};
 ghost use Rattle.schema_util.specs.Met.{names_met};
@@ -16,7 +17,7 @@ use crate::description::{copy_text, schema_extract_description};
 use crate::form::{Form, Kind};
 use crate::met::Met;
 use crate::references::{ResolveError, follow};
-use schema_values::{Definitions, List, ObjectParts, Property, Schema, Subschemas, Text};
+use schema_values::{Definitions, List, ObjectParts, Property, Schema, Subschemas, Text, in_order};
 use std::alloc::{AllocError, Global};
 
 /// A member of a struct.
@@ -75,6 +76,22 @@ impl From<AllocError> for Schema2StructError {
 }
 
 impl Schema2StructError {
+    /// An error equal to this one.
+    pub fn copy(&self, alloc: Global) -> Result<Schema2StructError, AllocError>
+        ensures { IfOk result (λ copy. copy ≡ self.now) }
+    {
+        match self {
+            Schema2StructError::Dangling(name) => Ok(Schema2StructError::Dangling(name.copy(
+                alloc,
+            )?)),
+            Schema2StructError::Cycle(name) => Ok(Schema2StructError::Cycle(name.copy(alloc)?)),
+            Schema2StructError::InvalidSubschema => Ok(Schema2StructError::InvalidSubschema),
+            Schema2StructError::InvalidEnum => Ok(Schema2StructError::InvalidEnum),
+            Schema2StructError::InvalidType => Ok(Schema2StructError::InvalidType),
+            Schema2StructError::OutOfMemory => Ok(Schema2StructError::OutOfMemory),
+        }
+    }
+
     fn of(alloc: Global, error: ResolveError<'_>) -> Result<Schema2StructError, AllocError>
         ensures { IfOk result (λ made. misfit_of made ≡ Some (unresolved (reason_of error.entry))) }
     {
@@ -91,7 +108,7 @@ fn text_of(alloc: Global, name: &str) -> Result<Text, AllocError>
     Text::from_str(alloc, name)
 }
 
-/// The members of a struct: its properties in the order in which they stand, and then those of its
+/// The members of a struct: its properties in the order of their names, and then those of its
 /// subschemas, which no value must have where they stand in `any_of`. With `required` false no member is
 /// required.
 ///
@@ -194,9 +211,10 @@ fn add_own(
 ) -> Result<(), AllocError>
     ensures { OnOk result (members.new ≡ members.old
         ++ map (member_of required (out-ObjectParts parts.now).required)
-        (out-ObjectParts parts.now).properties) }
+        (sorted_by property_name (out-ObjectParts parts.now).properties)) }
 {
-    for property in parts.properties.as_slice() {
+    let ordered = in_order(alloc, parts.properties.as_slice())?;
+    for property in ordered.iter() {
         let member = member(alloc, property, required, parts.required.as_slice())?;
         members.push(member)?;
     }

@@ -27,3 +27,6 @@ pub mod AscendingReadings
 pub mod SameLemmas
 pub mod SoundTests
 pub mod Besides
+pub mod Entries
+pub mod SortedLemmas
+pub mod Stable

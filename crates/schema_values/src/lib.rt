@@ -8,6 +8,7 @@ mod get;
 mod json_value;
 mod laws;
 mod list;
+mod order;
 mod pretty;
 mod print;
 mod read;
@@ -26,6 +27,7 @@ pub use laws::{
     reads_nested, reads_sound, same_decides, sorted_ascends, sound_decides,
 };
 pub use list::List;
+pub use order::{HasName, in_order, sort_by_name};
 pub use read::ReadError;
 pub use schema::{
     ArrayParts, Definitions, InstanceType, InstanceTypes, Items, LengthBounds, NumberBounds,
@@ -33,4 +35,4 @@ pub use schema::{
 };
 pub use text::Text;
 pub use value::ValueError;
-pub use variables::{VariableSet, VariableValue};
+pub use variables::{VariableSet, VariableValue, copy_variables};

@@ -30,3 +30,14 @@ impl VariableValue {
         }
     }
 }
+
+/// Variables of the same names and values.
+pub fn copy_variables(alloc: Global, variables: &VariableSet) -> Result<VariableSet, AllocError>
+    ensures { IfOk result (λ copies. copies.entries ≡ variables.now.entries) }
+{
+    let mut copies = BTreeMap::new(alloc);
+    for (name, value) in variables.iter() {
+        copies.insert(name.copy(alloc)?, value.copy(alloc)?)?;
+    }
+    Ok(copies)
+}

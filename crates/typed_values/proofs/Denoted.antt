@@ -14,7 +14,7 @@ use Rattle.typed_values.specs.declared.fault.Place.TheVariants.{Name}
 use Rattle.typed_values.specs.Bounds.{is_length_within}
 use Rattle.typed_values.specs.Faults.{Trouble}
 use Rattle.typed_values.specs.Denotes.{Told, below, just, and_rest, and_then, all_told, as_tree, as_pair, entries_told, if_holds, is_declared, least_with, least_name, denied_name, member_name, unless_denied, or_else, first_told, items_told}
-use Rattle.typed_values.specs.Order.{sorted_by}
+use Rattle.schema_values.specs.Order.{sorted_by}
 
 pub ok_below : (place : _) (told : Told) → is_ok (below place told) ≡ is_ok told
 ok_below place (Ok tree) = refl

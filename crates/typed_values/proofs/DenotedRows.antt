@@ -29,13 +29,13 @@ use Rattle.typed_values.specs.Denotes.{Told, below, just, pair, as_pair, and_the
 use Rattle.typed_values.specs.Faults.{Trouble}
 use Rattle.typed_values.specs.Fits.{whole_fits, nought_fits, truth_fits, character_fits, number_fits, words_fit, name_fits, option_fits, each_fits, items_fit, are_ascending, key_of, entries_fit, field_desc, fields_fit, alternative_at, if_there, choice_fits, payload_or_null, payload_of, struct_of}
 use Rattle.typed_values.specs.Levels.{TreeOf}
-use Rattle.typed_values.specs.Order.{sorted_by}
+use Rattle.schema_values.specs.Order.{sorted_by}
 use Rattle.typed_values.proofs.Arms.{bare_told, not_bare, payload_told, no_payload, at_tag_text, at_tag_other}
 use Rattle.typed_values.proofs.FitRows.{given_row, place_row}
 use Rattle.typed_values.proofs.Found.{contains_first, contains_later}
 use Rattle.typed_values.proofs.Listed.{place_below, found_there, found_inside}
 use Rattle.typed_values.proofs.Ordered.{sorted_ascends, ascending_told}
-use Rattle.typed_values.proofs.SortedLemmas.{all_sorted}
+use Rattle.schema_values.proofs.SortedLemmas.{all_sorted}
 
 -- whatever tree is told passes a test
 abbrev pub Gives : Told → (Tree → Bool) → Type 0

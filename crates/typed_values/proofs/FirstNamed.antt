@@ -15,11 +15,12 @@ use Rattle.schema_values.specs.Member.{name_of}
 use Rattle.typed_values.specs.declared.desc.Field.{Field}
 use Rattle.typed_values.specs.Definitions.{field_name}
 use Rattle.typed_values.specs.Denotes.{value_named, is_declared, lesser, least_with, least_name, denied_name, member_name}
-use Rattle.typed_values.specs.Order.{at_place, inserted_by, sorted_by, first_by}
+use Rattle.schema_values.specs.Order.{at_place, inserted_by, sorted_by}
+use Rattle.typed_values.specs.Order.{first_by}
 use Rattle.typed_values.proofs.Found.{other_name}
 use Rattle.typed_values.proofs.Places.{same_text}
-use Rattle.typed_values.proofs.SortedLemmas.{map_sorted}
-use Rattle.typed_values.proofs.Stable.{less, kept_sorted, none_before_at}
+use Rattle.schema_values.proofs.SortedLemmas.{map_sorted}
+use Rattle.schema_values.proofs.Stable.{less, kept_sorted, none_before_at}
 
 -- ---- the first of a name
 

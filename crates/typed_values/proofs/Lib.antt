@@ -1,8 +1,6 @@
 pub mod Found
 pub mod Tops
 pub mod Soundness
-pub mod SortedLemmas
-pub mod Stable
 pub mod FirstNamed
 pub mod Ordered
 pub mod Listed

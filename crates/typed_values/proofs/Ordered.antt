@@ -11,9 +11,9 @@ use Rattle.schema_values.proofs.DistinctLemmas.{Below, below_all}
 use Rattle.schema_values.proofs.SoundLemmas.{all-push}
 use Rattle.schema_values.specs.Sound.{AreDistinct}
 use Rattle.typed_values.specs.Fits.{is_less, are_ascending}
-use Rattle.typed_values.specs.Order.{at_place, inserted_by, sorted_by}
+use Rattle.schema_values.specs.Order.{at_place, inserted_by, sorted_by}
 use Rattle.typed_values.proofs.Places.{same_text}
-use Rattle.typed_values.proofs.SortedLemmas.{all_inserted}
+use Rattle.schema_values.proofs.SortedLemmas.{all_inserted}
 
 -- each name is below all behind it
 abbrev pub Ascends : List (List ℕ) → Type 0

@@ -31,7 +31,7 @@ use Rattle.typed_values.specs.declared.table.Definition.{Definition}
 use Rattle.typed_values.specs.Definitions.{definition, listed_name, tagged_fields, tagged_name, variant_name}
 use Rattle.typed_values.specs.Bounds.{is_number_of, is_length_within}
 use Rattle.typed_values.specs.Faults.{Trouble, at_root}
-use Rattle.typed_values.specs.Order.{sorted_by}
+use Rattle.schema_values.specs.Order.{sorted_by}
 use Rattle.typed_values.specs.Levels.{DescLevel}
 
 -- a tree, or the fault that is told

@@ -16,7 +16,7 @@ use Rattle.typed_values.specs.declared.table.Definition.{Definition}
 use Rattle.typed_values.specs.Definitions.{listed_name}
 use Rattle.typed_values.specs.DescBeside.{Beside, FieldBeside, TaggedBeside, VariantBeside, LevelBeside, made_of}
 use Rattle.typed_values.specs.Encoding.{json_of_tree}
-use Rattle.typed_values.specs.Order.{sorted_by}
+use Rattle.schema_values.specs.Order.{sorted_by, same_name}
 use Rattle.typed_values.specs.Levels.{DescLevel, VariantOf}
 
 -- what a field, a definition or a variant adds to a schema
@@ -183,10 +183,6 @@ required_names (f ∷ fs) = with_required f.presence (required_names fs) where
   with_required Nullable names = names
   with_required Skipped names = names
   with_required (Default tree) names = names
-
--- a name is sorted by itself
-abbrev pub same_name : List ℕ → List ℕ
-same_name name = name
 
 -- a string that is one of some names (OpenAPI 3.0.3, Schema Object, `enum`); without names nothing is admitted
 abbrev pub enumerated : List (List ℕ) → Drawn

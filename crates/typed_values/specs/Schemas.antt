@@ -8,7 +8,7 @@ use Rattle.schema_values.specs.declared.schema.SchemaObject.{SchemaObject, roll-
 use Rattle.schema_values.specs.declared.schema.Subschemas.{Subschemas, Subschemas-F, roll-Subschemas}
 use Rattle.schema_values.specs.declared.schema.ArrayParts.{ArrayParts, roll-ArrayParts}
 use Rattle.schema_values.specs.declared.schema.ObjectParts.{ObjectParts, roll-ObjectParts}
-use Rattle.schema_values.specs.declared.schema.Property.{Property, roll-Property, out-Property}
+use Rattle.schema_values.specs.declared.schema.Property.{Property, roll-Property}
 use Rattle.schema_values.specs.declared.schema.InstanceType.{InstanceType}
 use Rattle.schema_values.specs.declared.schema.InstanceType.TheVariants as types
 use Rattle.schema_values.specs.declared.schema.InstanceTypes.TheVariants.{Single}
@@ -27,8 +27,8 @@ use Rattle.typed_values.specs.declared.desc.Presence.{Presence}
 use Rattle.typed_values.specs.declared.desc.Presence.TheVariants.{Required, Nullable, Skipped, Default}
 use Rattle.typed_values.specs.declared.table.Definition.{Definition}
 use Rattle.typed_values.specs.DescBeside.{Beside, FieldBeside, TaggedBeside, VariantBeside, LevelBeside, made_of, field_with, variant_with, tagged_with}
-use Rattle.typed_values.specs.Order.{sorted_by}
-use Rattle.typed_values.specs.SchemaTable.{bare_names, default_of, format_of, least_shown, same_name, is_described}
+use Rattle.schema_values.specs.Order.{sorted_by, same_name, property_name}
+use Rattle.typed_values.specs.SchemaTable.{bare_names, default_of, format_of, least_shown, is_described}
 use Rattle.typed_values.specs.Levels.{DescLevel}
 
 -- the schema of some parts
@@ -94,10 +94,6 @@ TaggedSketch = TaggedBeside Sketch
 -- a variant with the schema of its payload
 abbrev pub VariantSketch : Type 0
 VariantSketch = VariantBeside Sketch
-
--- the name of a property
-abbrev pub property_name : Property → List ℕ
-property_name p = (out-Property p).name
 
 -- parts as a property
 abbrev pub property : List ℕ → Parts → Property

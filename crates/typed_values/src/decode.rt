@@ -15,12 +15,11 @@ use crate::bounds::is_length_within;
 use crate::desc::{Desc, Field, Presence};
 use crate::fault::{DecodeError, FaultKind, Place, Stop};
 use crate::members::Members;
-use crate::order::in_order;
 use crate::scalars::{decode_bool, decode_char, decode_int, decode_name, decode_null, decode_text};
 use crate::scope::Decoder;
 use crate::table::DescTable;
 use crate::tree::{Pair, Tree};
-use schema_values::{Boxed, Json, List, Member};
+use schema_values::{Boxed, Json, List, Member, in_order};
 use std::alloc::Global;
 
 /// Decodes a value under a descriptor: the tree that it denotes, or the fault that is told first.

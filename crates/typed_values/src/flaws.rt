@@ -15,11 +15,10 @@ ghost use Rattle.typed_values.specs.Checks.{IsNullOfNull, HasTagClash, IsOption,
 use crate::check::TableError;
 use crate::desc::{Desc, Field, Presence, TaggedVariant, Variant};
 use crate::fitting::is_value;
-use crate::order::HasName;
 use crate::ranges::are_bounds_right;
 use crate::search::takes_null;
 use crate::table::DescTable;
-use schema_values::Text;
+use schema_values::{HasName, Text};
 
 /// Whether what an error tells holds of a descriptor.
 pub(crate) fn tells(error: TableError, table: &DescTable, desc: &Desc) -> bool

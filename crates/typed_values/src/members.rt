@@ -2,11 +2,11 @@ ghost use Rattle.std.specs.Prelude.{◌≡◌, map, option_map, IfOk};
 ghost use Rattle.std.proofs.Props.{props};
 ghost use Rattle.typed_values.specs.Denotes as denotes;
 ghost use Rattle.typed_values.specs.Denotes.{member_name as name_of};
-ghost use Rattle.typed_values.specs.Order.{sorted_by};
+ghost use Rattle.schema_values.specs.Order.{sorted_by};
 
 use crate::desc::Field;
-use crate::order::{first_named, in_order};
-use schema_values::{Json, Member, Text};
+use crate::order::first_named;
+use schema_values::{Json, Member, Text, in_order};
 use std::alloc::{AllocError, Global};
 
 /// The members of an object, and the same in the order of their names, among which a name is looked up by

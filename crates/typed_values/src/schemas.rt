@@ -3,15 +3,14 @@ ghost use Rattle.schema_values.specs.declared.schema.SchemaObject.{out-SchemaObj
 ghost use Rattle.typed_values.specs.declared.schemas.SchemaPlace.TheVariants.{Plain, Header};
 ghost use Rattle.typed_values.specs.declared.table.Definition.{Definition as DefinitionModel};
 ghost use Rattle.typed_values.specs.Checks.{TablePasses};
-ghost use Rattle.typed_values.specs.Order.{sorted_by};
-ghost use Rattle.typed_values.specs.SchemaTable.{default_of, same_name};
+ghost use Rattle.schema_values.specs.Order.{property_name, same_name, sorted_by};
+ghost use Rattle.typed_values.specs.SchemaTable.{default_of};
 ghost use Rattle.typed_values.specs.Schemas as meant;
 ghost use Rattle.typed_values.specs.Schemas.{schema_value, schema_sketch, schema_parts};
 ghost use Rattle.typed_values.specs.Schemas.{definition_value, in_header};
 
 use crate::desc::{Desc, Field, Presence};
 use crate::encode::written;
-use crate::order::sort_by_name;
 use crate::schema_names::enumeration_parts;
 use crate::schema_parts::{object_of, of_single, with_default, with_description, with_null};
 use crate::schema_rows::{
@@ -20,7 +19,7 @@ use crate::schema_rows::{
 };
 use crate::schema_variants::{external_parts, tagged_parts};
 use crate::table::{Definition, DescTable};
-use schema_values::{InstanceType, Json, List, Property, Schema, SchemaObject, Text};
+use schema_values::{InstanceType, Json, List, Property, Schema, SchemaObject, Text, sort_by_name};
 use std::alloc::{AllocError, Global};
 
 /// Where a schema stands in a document.
@@ -151,7 +150,7 @@ pub(crate) fn properties_of(
     fields: &[Field],
 ) -> Result<List<Property>, AllocError>
     requires { TablePasses table.now }
-    ensures { IfOk result (λ all. all ≡ sorted_by meant.property_name (properties.items
+    ensures { IfOk result (λ all. all ≡ sorted_by property_name (properties.items
         ++ map (meant.property_of table.now) (map (meant.sketch_of_field table.now) fields.now))) }
 {
     for field in fields {

@@ -24,9 +24,9 @@ use Rattle.typed_values.specs.Bounds.{is_length_within}
 use Rattle.typed_values.specs.Definitions.{field_name, listed_name}
 use Rattle.typed_values.specs.Denotes.{Told, told, one_of_names, member_name, optional, first_told}
 use Rattle.typed_values.specs.DescBeside.{field_with}
-use Rattle.typed_values.specs.Order.{sorted_by}
+use Rattle.schema_values.specs.Order.{sorted_by, same_name}
 use Rattle.typed_values.specs.Rows.{told_item, list_row, map_row, struct_row}
-use Rattle.typed_values.specs.SchemaTable.{Drawn, Remarks, annotations, default_of, defaulted, no_remarks, plain, reference, drawn, drawn_json, described, property_of, same_name, enumerated, is_described, described_choice, choices_of, enumeration, other_members, schema_json, schema_json_described}
+use Rattle.typed_values.specs.SchemaTable.{Drawn, Remarks, annotations, default_of, defaulted, no_remarks, plain, reference, drawn, drawn_json, described, property_of, enumerated, is_described, described_choice, choices_of, enumeration, other_members, schema_json, schema_json_described}
 use Rattle.typed_values.proofs.Denoted.{ok_below, ok_just, ok_items, ok_entries, ok_first}
 use Rattle.typed_values.proofs.Found.{contains_first, contains_later}
 use Rattle.typed_values.proofs.Needed.{IsNeeded}

@@ -20,9 +20,8 @@ use Rattle.typed_values.specs.declared.desc.Presence.TheVariants.{Required, Null
 use Rattle.typed_values.specs.declared.table.Definition.{Definition}
 use Rattle.typed_values.specs.Definitions.{field_name}
 use Rattle.typed_values.specs.Denotes.{Told, value_named, is_declared, told, by_presence, if_absent, if_present}
-use Rattle.typed_values.specs.Order.{sorted_by}
+use Rattle.schema_values.specs.Order.{sorted_by, same_name}
 use Rattle.typed_values.specs.Rows.{value_denotes, told_field, told_fields, told_struct}
-use Rattle.typed_values.specs.SchemaTable.{same_name}
 use Rattle.typed_values.proofs.Denoted.{ok_below, ok_just, ok_all, ok_struct}
 use Rattle.typed_values.proofs.Found.{contains_first, contains_later, other_name}
 use Rattle.written_schemas.proofs.Forms.{field_property, names_required}

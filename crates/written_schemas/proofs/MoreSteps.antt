@@ -20,7 +20,7 @@ use Rattle.typed_values.specs.Checks.{TablePasses, DescPasses}
 use Rattle.typed_values.specs.Definitions.{definition, entry_of, variant_name, tagged_name, tagged_fields}
 use Rattle.typed_values.specs.Denotes.{Told, told, told_within, room, nodes, refused, below, chosen, named_from, where_found, with_payload, external, at_tag, by_tag, tagged, and_then, all_told, as_tree, as_pair, if_holds, member_name, optional, or_else, first_told, value_named, by_presence, unless_denied, denied_name, at_definition}
 use Rattle.typed_values.specs.Faults.{Trouble}
-use Rattle.typed_values.specs.Order.{sorted_by}
+use Rattle.schema_values.specs.Order.{sorted_by}
 use Rattle.typed_values.specs.Parts.{the_whole}
 use Rattle.typed_values.specs.Rows.{told_item, told_entry, value_denotes, told_field, list_row, map_row, struct_row, row}
 use Rattle.typed_values.specs.Sound.{EachRests, RestsBy, Rests, IsSound}
@@ -28,7 +28,7 @@ use Rattle.typed_values.specs.Levels.{DescLevel}
 use Rattle.typed_values.proofs.Found.{contains_first, contains_later, definition_is}
 use Rattle.typed_values.proofs.Needed.{IsNeeded, of_whole, needed_part, option_needed, list_needed, map_needed, field_needed, payload_needed, variant_needed, alternative_needed, reference_needed}
 use Rattle.typed_values.proofs.Rows.{row_at}
-use Rattle.typed_values.proofs.SortedLemmas.{all_sorted}
+use Rattle.schema_values.proofs.SortedLemmas.{all_sorted}
 use Rattle.typed_values.proofs.Soundness.{guarded_is_sound, each_of}
 use Rattle.typed_values.proofs.Tops.{nodes_at}
 use Rattle.written_schemas.proofs.Parts.{OfParts, by_parts}

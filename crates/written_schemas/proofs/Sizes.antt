@@ -23,8 +23,8 @@ use Rattle.typed_values.specs.declared.table.Definition.{Definition}
 use Rattle.typed_values.specs.Definitions.{listed_name, tagged_description, tagged_fields}
 use Rattle.typed_values.specs.Denotes.{field_nodes, tagged_nodes, variant_nodes}
 use Rattle.typed_values.specs.DescBeside.{tagged_with, variant_with}
-use Rattle.typed_values.specs.Order.{sorted_by}
-use Rattle.typed_values.specs.SchemaTable.{Drawn, DrawnVariant, Remarks, drawn, drawn_json, drawn_step, defaulted, described, annotated, annotations, same_name, if_members, if_names, if_denied, plain, enumerated, is_described, choices_of, other_members, bare_names, payload_choices, tagged_choice, schema_json}
+use Rattle.schema_values.specs.Order.{sorted_by, same_name}
+use Rattle.typed_values.specs.SchemaTable.{Drawn, DrawnVariant, Remarks, drawn, drawn_json, drawn_step, defaulted, described, annotated, annotations, if_members, if_names, if_denied, plain, enumerated, is_described, choices_of, other_members, bare_names, payload_choices, tagged_choice, schema_json}
 use Rattle.typed_values.specs.Levels.{DescLevel}
 use Rattle.typed_values.proofs.Found.{contains_cases, contains_first, contains_later}
 use Rattle.written_schemas.proofs.Notes.{noted}

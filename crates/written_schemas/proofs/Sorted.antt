@@ -10,7 +10,8 @@ use Rattle.std.proofs.lemmas.Slice.Eq.{bytes_eq-Decides}
 use Rattle.schema_values.specs.declared.json_value.Member.{Member}
 use Rattle.schema_values.specs.Get.{first_named}
 use Rattle.schema_values.specs.Member.{name_of}
-use Rattle.typed_values.specs.Order.{at_place, inserted_by, sorted_by, first_by}
+use Rattle.schema_values.specs.Order.{at_place, inserted_by, sorted_by}
+use Rattle.typed_values.specs.Order.{first_by}
 use Rattle.typed_values.proofs.FirstNamed as typed
 use Rattle.typed_values.proofs.Found.{other_name}
 

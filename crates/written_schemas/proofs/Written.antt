@@ -23,17 +23,17 @@ use Rattle.typed_values.specs.declared.desc.Variant.{Variant}
 use Rattle.typed_values.specs.declared.table.Definition.{Definition}
 use Rattle.typed_values.specs.Definitions.{listed_name, tagged_description, tagged_fields, tagged_name}
 use Rattle.typed_values.specs.DescBeside.{Beside, beside_with, field_with, tagged_with, variant_with}
-use Rattle.typed_values.specs.Order.{sorted_by}
+use Rattle.schema_values.specs.Order.{sorted_by, property_name, same_name}
 use Rattle.typed_values.specs.SchemaTable as drawing
-use Rattle.typed_values.specs.SchemaTable.{Drawn, plain, bare_names, described, default_of, is_described, if_members, if_names, if_denied, no_remarks, of_type, drawn, drawn_json, drawn_step, least_shown, same_name, schema_json_titled, schema_json_described}
+use Rattle.typed_values.specs.SchemaTable.{Drawn, plain, bare_names, described, default_of, is_described, if_members, if_names, if_denied, no_remarks, of_type, drawn, drawn_json, drawn_step, least_shown, schema_json_titled, schema_json_described}
 use Rattle.typed_values.specs.Schemas as meant
 use Rattle.schema_values.specs.Parts.{Parts}
-use Rattle.typed_values.specs.Schemas.{Sketch, object_of, with_null, with_description, property_name, one_of, texts_of, not_described, sketch, schema_sketch, schema_parts, sketch_of_field, sketch_of_tagged, sketch_of_variant, schema_value}
+use Rattle.typed_values.specs.Schemas.{Sketch, object_of, with_null, with_description, one_of, texts_of, not_described, sketch, schema_sketch, schema_parts, sketch_of_field, sketch_of_tagged, sketch_of_variant, schema_value}
 use Rattle.typed_values.specs.Levels.{DescLevel}
 use Rattle.typed_values.proofs.Induction.{InField, InFields, InTagged, InVariant, KnownLevel, firsts, by_levels, each_holds}
 use Rattle.typed_values.proofs.Rows.{two_maps}
 use Rattle.typed_values.proofs.SchemaRows.{parts_row, sketch_level, sketch_row}
-use Rattle.typed_values.proofs.SortedLemmas.{map_sorted}
+use Rattle.schema_values.proofs.SortedLemmas.{map_sorted}
 use Rattle.written_schemas.proofs.DrawnParts.{Shows, Bare, Dressed, IsAnnotated, written_under, written_bare, written_so, null_shows, described_shows, defaulted_shows}
 use Rattle.written_schemas.proofs.Forms.{drawn_level, drawn_row, field_property}
 use Rattle.written_schemas.proofs.SchemaForms.{annotatable_is_free, enumeration_is_free, unmarked}

@@ -25,6 +25,14 @@ pub(crate) enum Form {
     ListOf(Inner),
     ListByPlace(Inner),
     Listed,
+    ListedTexts,
+    /// An object with the text `a`, beside enumeration values.
+    ListedObject,
+    /// An object with a format.
+    WithFormat,
+    OfTypes(&'static [InstanceType]),
+    /// An object of a required property `thing`, described beside its `all_of` of an integer's schema.
+    Thing,
     AllOf(&'static [Inner]),
     AnyOf(&'static [Inner]),
     OneOf(&'static [Inner]),
@@ -133,6 +141,39 @@ fn listed(alloc: Global) -> Result<Schema, AllocError> {
     boxed(alloc, object)
 }
 
+fn listed_texts(alloc: Global) -> Result<Schema, AllocError> {
+    let mut values = List::new(alloc);
+    values.push(Json::Text(Text::from_str(alloc, "a")?))?;
+    let mut object = typed(alloc, InstanceType::String);
+    object.enum_values = Some(values);
+    boxed(alloc, object)
+}
+
+fn listed_object(alloc: Global) -> Result<Schema, AllocError> {
+    let mut values = List::new(alloc);
+    values.push(Json::Null)?;
+    let mut object = typed(alloc, InstanceType::Object);
+    object.enum_values = Some(values);
+    object.object = Some(parts(alloc, &["a"], &[])?);
+    boxed(alloc, object)
+}
+
+fn with_format(alloc: Global) -> Result<Schema, AllocError> {
+    let mut object = typed(alloc, InstanceType::Object);
+    object.format = Some(Text::from_str(alloc, "a")?);
+    boxed(alloc, object)
+}
+
+fn of_types(alloc: Global, kinds: &[InstanceType]) -> Result<Schema, AllocError> {
+    let mut types = List::new(alloc);
+    for kind in kinds {
+        types.push(*kind)?;
+    }
+    let mut object = SchemaObject::new(alloc);
+    object.instance_type = Some(InstanceTypes::Several(types));
+    boxed(alloc, object)
+}
+
 fn texts(alloc: Global, names: &[&str]) -> Result<List<Text>, AllocError> {
     let mut texts = List::new(alloc);
     for name in names {
@@ -173,6 +214,23 @@ fn structure(alloc: Global, names: &[&str], required: &[&str]) -> Result<Schema,
     boxed(alloc, object)
 }
 
+fn described(alloc: Global) -> Result<Schema, AllocError> {
+    let mut object = SchemaObject::new(alloc);
+    object.description = Some(Text::from_str(alloc, "a thing")?);
+    object.subschemas = Some(all_of(alloc, &[Inner::Typed(InstanceType::Integer)])?);
+    boxed(alloc, object)
+}
+
+fn thing(alloc: Global) -> Result<Schema, AllocError> {
+    let mut parts = parts(alloc, &[], &["thing"])?;
+    let name = Text::from_str(alloc, "thing")?;
+    let schema = described(alloc)?;
+    parts.properties.push(Property { name, schema })?;
+    let mut object = typed(alloc, InstanceType::Object);
+    object.object = Some(parts);
+    boxed(alloc, object)
+}
+
 // An object with the texts `b` and `a`, of which `a` is required, beside subschemas.
 fn structure_beside(alloc: Global, kinds: Subschemas) -> Result<Schema, AllocError> {
     let mut object = typed(alloc, InstanceType::Object);
@@ -192,6 +250,11 @@ pub(crate) fn schema(alloc: Global, form: Form) -> Result<Schema, AllocError> {
         Form::ListOf(inner) => list_of(alloc, Some(Items::One(inner_schema(alloc, inner)?))),
         Form::ListByPlace(inner) => list_by_place(alloc, inner),
         Form::Listed => listed(alloc),
+        Form::ListedTexts => listed_texts(alloc),
+        Form::ListedObject => listed_object(alloc),
+        Form::WithFormat => with_format(alloc),
+        Form::OfTypes(kinds) => of_types(alloc, kinds),
+        Form::Thing => thing(alloc),
         Form::AllOf(inner) => combined(alloc, all_of(alloc, inner)?),
         Form::AnyOf(inner) => combined(alloc, any_of(alloc, inner)?),
         Form::OneOf(inner) => combined(alloc, one_of(alloc, inner)?),

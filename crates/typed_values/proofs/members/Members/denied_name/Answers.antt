@@ -6,10 +6,11 @@ use Rattle.schema_values.specs.Member.{name_of}
 use Rattle.typed_values.specs.declared.desc.Field.{Field}
 use Rattle.typed_values.specs.Definitions.{field_name}
 use Rattle.typed_values.specs.Denotes.{is_declared, denied_name}
-use Rattle.typed_values.specs.Order.{sorted_by, first_by}
+use Rattle.schema_values.specs.Order.{sorted_by}
+use Rattle.typed_values.specs.Order.{first_by}
 use Rattle.typed_values.proofs.FirstNamed.{declared_by_found, denied_sorted, denied_behind, denied_here}
 use Rattle.typed_values.proofs.Places.{taken_behind}
-use Rattle.typed_values.proofs.Stable.{sorted_is_sorted}
+use Rattle.schema_values.proofs.Stable.{sorted_is_sorted}
 use Rattle.typed_values.proofs.members.Members.denied_name.Goals as goal
 
 abbrev lent : List (Bor Member) → List Member

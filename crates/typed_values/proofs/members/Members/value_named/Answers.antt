@@ -3,9 +3,10 @@ use Rattle.std.specs.Cmp.Lexicographic.{slice_cmp}
 use Rattle.std.specs.List.Sorted.{IsSortedByKey}
 use Rattle.schema_values.specs.declared.json_value.Member.{Member}
 use Rattle.schema_values.specs.Member.{name_of}
-use Rattle.typed_values.specs.Order.{sorted_by, first_by}
+use Rattle.schema_values.specs.Order.{sorted_by}
+use Rattle.typed_values.specs.Order.{first_by}
 use Rattle.typed_values.proofs.FirstNamed.{first_sorted, value_of_first}
-use Rattle.typed_values.proofs.Stable.{sorted_is_sorted}
+use Rattle.schema_values.proofs.Stable.{sorted_is_sorted}
 use Rattle.typed_values.proofs.members.Members.value_named.Goals as goal
 
 abbrev lent : List (Bor Member) → List Member

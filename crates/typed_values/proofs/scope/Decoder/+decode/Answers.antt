@@ -18,7 +18,7 @@ use Rattle.typed_values.specs.Bounds.{is_length_within}
 use Rattle.typed_values.specs.Definitions.{tagged_name, variant_name}
 use Rattle.typed_values.specs.Denotes.{Told, below, chosen, told, all_told, as_tree, member_name}
 use Rattle.typed_values.specs.Faults.{Trouble}
-use Rattle.typed_values.specs.Order.{sorted_by}
+use Rattle.schema_values.specs.Order.{sorted_by}
 use Rattle.typed_values.specs.Parts.{IsPart}
 use Rattle.typed_values.specs.Rows.{told_item, told_entry, told_field}
 use Rattle.typed_values.proofs.Arms.{row_any, row_never, row_nought, row_bool, row_char, row_int, row_text, row_enumeration, row_option, row_list, row_map, row_struct, row_external, row_tagged, row_untagged, row_ref, definition_is_part, payload_at, chosen_err}

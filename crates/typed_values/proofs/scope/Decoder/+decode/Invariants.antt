@@ -1,6 +1,6 @@
 use Rattle.std.proofs.Common.{◌≡◌, suc, drop}
 use Rattle.typed_values.specs.Denotes.{told, first_told, all_told, member_name}
-use Rattle.typed_values.specs.Order.{sorted_by}
+use Rattle.schema_values.specs.Order.{sorted_by}
 use Rattle.typed_values.specs.Rows.{told_item, told_field, told_fields, told_entry}
 use denote.Param.Weighed.{most}
 use Rattle.schema_values.specs.declared.json_value.Json.{size-Json}

@@ -5,7 +5,7 @@ use Rattle.std.specs.List.{AllByRecursion}
 use Rattle.std.specs.Ordering.{nat_cmp}
 use Rattle.std.specs.declared.cmp.Ordering.{Ordering}
 use Rattle.std.specs.declared.cmp.Ordering.TheVariants.{Less, Equal, Greater}
-use Rattle.typed_values.specs.Order.{at_place, inserted_by, sorted_by}
+use Rattle.schema_values.specs.Order.{at_place, inserted_by, sorted_by}
 
 module _ {X Y : Type 0} (old : X → List ℕ) (new : Y → List ℕ) (f : X → Y) (same : (x : X) → new (f x) ≡ old x) where
   map_at_place : (o : Ordering) (x first : X) (rest later : List X) → map f (at_place o x first rest later) ≡ at_place o (f x) (f first) (map f rest) (map f later)

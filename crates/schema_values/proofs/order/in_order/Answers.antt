@@ -1,8 +1,8 @@
 use Rattle.std.proofs.Common.{◌≡◌, map, refl, ap, ◌∙◌, arith}
 use Rattle.std.proofs.lemmas.List.{take_all}
-use Rattle.typed_values.specs.Order.{sorted_by}
-use Rattle.typed_values.proofs.SortedLemmas.{map_sorted}
-use Rattle.typed_values.proofs.order.in_order.Goals as goal
+use Rattle.schema_values.specs.Order.{sorted_by}
+use Rattle.schema_values.proofs.SortedLemmas.{map_sorted}
+use Rattle.schema_values.proofs.order.in_order.Goals as goal
 
 pub returns : goal.returns
 returns g c =

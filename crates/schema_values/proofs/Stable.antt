@@ -11,8 +11,8 @@ use Rattle.std.specs.Cmp.Lexicographic.{slice_cmp}
 use Rattle.std.specs.declared.cmp.Ordering.{Ordering}
 use Rattle.std.specs.List.{AllByRecursion}
 use Rattle.std.specs.List.Sorted.{IsSortedBy, IsSortedByKey, IsStableBy, ties}
-use Rattle.typed_values.specs.Order.{at_place, inserted_by, sorted_by}
-use Rattle.typed_values.proofs.SortedLemmas.{all_inserted}
+use Rattle.schema_values.specs.Order.{at_place, inserted_by, sorted_by}
+use Rattle.schema_values.proofs.SortedLemmas.{all_inserted}
 
 clash : (b : Bool) → b ≡ true → b ≡ false → ⊥
 clash true e f = absurd (cc f)

@@ -1,8 +1,8 @@
 use Rattle.std.proofs.Common.{rules}
 use Rattle.std.proofs.lemmas.List.Sorted.{answers_always}
 use Rattle.std.proofs.lemmas.Result.{on_ok_weaker}
-use Rattle.typed_values.proofs.Stable.{less, ranks, stably_sorted}
-use Rattle.typed_values.proofs.order.sort_by_name.Goals as goal
+use Rattle.schema_values.proofs.Stable.{less, ranks, stably_sorted}
+use Rattle.schema_values.proofs.order.sort_by_name.Goals as goal
 
 pub returns : goal.returns
 returns g c =
