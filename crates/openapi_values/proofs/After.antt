@@ -8,7 +8,7 @@ use Rattle.std.proofs.lemmas.Str.{chars-append, chars-IsAscii, encodes-chars, en
 use Rattle.std.proofs.Math.Utf8.{encodes}
 use Rattle.openapi_values.specs.Keywords.{after}
 
-after_prefix : (prefix text : List ℕ) → after prefix (prefix ++ text) ≡ Some text
+pub after_prefix : (prefix text : List ℕ) → after prefix (prefix ++ text) ≡ Some text
 after_prefix [] text = refl
 after_prefix (c ∷ prefix) text = go (nat_eq c c) refl (after_prefix prefix text)
   where

@@ -16,3 +16,4 @@ pub mod StepsLeft
 pub mod TextSteps
 pub mod TextWithin
 pub mod Words
+pub mod SchemasOfDocument

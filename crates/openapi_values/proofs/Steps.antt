@@ -19,7 +19,7 @@ use Rattle.openapi_values.specs.Rows.{is_enough, is_not_too_many, names_stand, r
 use Rattle.openapi_values.specs.JsonAdmits.{object_admits, schema_admits, Admission, admitted_beside, admits_at, admits_within}
 use Rattle.openapi_values.specs.Smaller.{smaller_admits}
 
-has_changed : {X : Type 0} (f : Json → X) (name : List ℕ) (ms : List Member) → has_member name (map (member_with f) ms) ≡ has_member name ms
+pub has_changed : {X : Type 0} (f : Json → X) (name : List ℕ) (ms : List Member) → has_member name (map (member_with f) ms) ≡ has_member name ms
 has_changed f name [] = refl
 has_changed f name (m ∷ ms) = ap (λ b. bytes_eq m.name name || b) (has_changed f name ms)
 
@@ -30,7 +30,7 @@ some_same (Some x) p q h = h x
 same_of : {X : Type 0} (o q : Option X) (p : X → Bool) → o ≡ q → is_none_or o p ≡ is_none_or q p
 same_of o q p e = ap (λ o. is_none_or o p) e
 
-all_same : {X : Type 0} (p q : X → Bool) → ((x : X) → p x ≡ q x) → (xs : List X) → list_all p xs ≡ list_all q xs
+pub all_same : {X : Type 0} (p q : X → Bool) → ((x : X) → p x ≡ q x) → (xs : List X) → list_all p xs ≡ list_all q xs
 all_same p q h [] = refl
 all_same p q h (x ∷ xs) = ap (λ b. b && list_all p xs) (h x) ∙ ap (λ b. q x && b) (all_same p q h xs)
 

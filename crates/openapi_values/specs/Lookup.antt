@@ -16,7 +16,7 @@ abbrev pub definition : Json → List ℕ → Option Json
 definition doc name = member_in (member_in (get_of (codes "components") doc) (codes "schemas")) name
 
 -- the name behind `#/components/schemas/` in a text
-abbrev name_in : Option (List ℕ) → Option (List ℕ)
+abbrev pub name_in : Option (List ℕ) → Option (List ℕ)
 name_in text = option_and_then (after (codes "#/components/schemas/")) text
 
 -- the name that a schema refers to, where `$ref` stands alone (OpenAPI 3.0.3, Reference Object)

@@ -17,7 +17,7 @@ use Rattle.schema_values.specs.declared.schema.Subschemas.{Subschemas}
 use Rattle.openapi_values.specs.JsonAdmits.{members_admit, object_admits as written_object_admits, schema_admits as written_admits, admits_within as written_within}
 use Rattle.openapi_values.specs.Keywords.{is_annotation, bound_or, part_of, after}
 use Rattle.openapi_values.specs.Levels.{Level, as_text, as_object}
-use Rattle.openapi_values.specs.Lookup.{definition}
+use Rattle.openapi_values.specs.Lookup.{definition, name_in}
 use Rattle.openapi_values.specs.Objects.{object_of, reference_json}
 use Rattle.openapi_values.specs.Options.{is_some_and}
 use Rattle.openapi_values.specs.SchemaJson.{Written, truth_json, annotations, entries_behind, without_values, schema_json}
@@ -25,17 +25,18 @@ use Rattle.openapi_values.specs.Smaller.{smaller_admits as written_smaller}
 use Rattle.openapi_values.proofs.Steps.{admits-zero as written-zero, admits-suc as written-suc}
 use Rattle.schema_meaning.specs.Accepted.{IsEmpty, SubschemasAreRead, IsAccepted}
 use Rattle.schema_meaning.specs.Asked.{parts_hold}
-use Rattle.schema_meaning.specs.Definitions.{Definitions, schema_named, name_in, name_referred}
+use Rattle.schema_meaning.specs.Definitions.{Definitions, schema_named, name_referred}
 use Rattle.schema_meaning.specs.Forms.{SchemaLevel, level_by_form}
 use Rattle.schema_meaning.specs.Meaning.{object_admits, admits_within}
 use Rattle.schema_meaning.specs.Reached.{combined_schemas, if_any, smaller_schemas, stands_alone, beside_in, below_in, beside, below, LeadsTo, subschema, referred, IsReached, same_value, smaller_value}
 use Rattle.schema_meaning.specs.Written.{DefinesReached}
-use Rattle.schema_meaning.proofs.Among.{among_first, among_right}
+use Rattle.schema_meaning.proofs.Among.{among_right}
+use Rattle.schema_values.proofs.Contained.{contains_first}
+use Rattle.schema_values.proofs.JsonParts.{OfParts, by_parts}
 use Rattle.schema_meaning.proofs.Chains.{Rests}
 use Rattle.schema_meaning.proofs.Members.{MeanOf}
 use Rattle.schema_meaning.proofs.NotRefused.{unrefused}
 use Rattle.schema_meaning.proofs.ObjectMeanings.{PartsOf, object_admits as object_agrees}
-use Rattle.schema_meaning.proofs.Parts.{OfParts, by_parts}
 use Rattle.schema_meaning.proofs.Steps.{smaller_admits, admits-suc}
 use Rattle.schema_meaning.proofs.WrittenLevels.{json_of, truth-is, by_parts-is, level_of}
 
@@ -195,7 +196,7 @@ module _ (definitions : Definitions) (whole : Schema) (doc : Json) (accepted : I
         not_among : (u : Subschemas) (t : Schema) → u.not ≡ Some t → Contains (combined_schemas u) t
         not_among u t h =
             among_right (unwrap_or u.all_of []) _ t
-            (among_right (unwrap_or u.any_of []) _ t (among_right (unwrap_or u.one_of []) (if_any u.not) t (subst (λ (x : Option Schema). Contains (if_any x) t) (sym h) (among_first t []))))
+            (among_right (unwrap_or u.any_of []) _ t (among_right (unwrap_or u.one_of []) (if_any u.not) t (subst (λ (x : Option Schema). Contains (if_any x) t) (sym h) (contains_first t []))))
 
         by_parts_of : p.reference ≡ None → Agreement None
         by_parts_of f =

@@ -19,7 +19,8 @@ use Rattle.openapi_values.specs.SchemaJson.{untitled, schemas_json, schema_writt
 use Rattle.openapi_values.proofs.SchemaLevels.{subschemas-are}
 use Rattle.schema_meaning.specs.Asked.{subschemas_hold}
 use Rattle.schema_meaning.specs.Reached.{combined_schemas, if_any}
-use Rattle.schema_meaning.proofs.Among.{among_first, among_later, among_left, among_right}
+use Rattle.schema_meaning.proofs.Among.{among_left, among_right}
+use Rattle.schema_values.proofs.Contained.{contains_first, contains_later}
 use Rattle.schema_meaning.proofs.Behind.{subschema_entries}
 use Rattle.schema_meaning.proofs.Entries.{each_entry}
 use Rattle.schema_meaning.proofs.WrittenLevels.{json_of}
@@ -34,16 +35,16 @@ module _ (next : Json → Bool) (means : Schema → Bool) where
 
   all_agree : (ss : List Schema) → Agree ss → list_all next (written_all ss) ≡ list_all means ss
   all_agree [] h = refl
-  all_agree (s ∷ ss) h = ap₂ (λ (a b : Bool). a && b) (h s (among_first s ss)) (all_agree ss (λ t c. h t (among_later s ss t c)))
+  all_agree (s ∷ ss) h = ap₂ (λ (a b : Bool). a && b) (h s (contains_first s ss)) (all_agree ss (λ t c. h t (contains_later s ss t c)))
 
   any_agrees : (ss : List Schema) → Agree ss → list_any next (written_all ss) ≡ list_any means ss
   any_agrees [] h = refl
-  any_agrees (s ∷ ss) h = ap₂ (λ (a b : Bool). a || b) (h s (among_first s ss)) (any_agrees ss (λ t c. h t (among_later s ss t c)))
+  any_agrees (s ∷ ss) h = ap₂ (λ (a b : Bool). a || b) (h s (contains_first s ss)) (any_agrees ss (λ t c. h t (contains_later s ss t c)))
 
   counted : (ss : List Schema) → Agree ss → count_by next (written_all ss) ≡ count_by means ss
   counted [] h = refl
   counted (s ∷ ss) h =
-      omega (arith, counted ss (λ t c. h t (among_later s ss t c)), sum_by-cons (λ y. cond (next y) 1 0) (json_of s) (written_all ss), sum_by-cons (λ y. cond (means y) 1 0) s ss, ap {B = ℕ} (λ (b : Bool). cond b 1 0) (h s (among_first s ss)))
+      omega (arith, counted ss (λ t c. h t (contains_later s ss t c)), sum_by-cons (λ y. cond (next y) 1 0) (json_of s) (written_all ss), sum_by-cons (λ y. cond (means y) 1 0) s ss, ap {B = ℕ} (λ (b : Bool). cond b 1 0) (h s (contains_first s ss)))
 
   all_part : (o : Option (List Schema)) → ((ss : List Schema) → o ≡ Some ss → Agree ss) → is_none_or (schemas_json (option_map (map schema_written) o)) (every_admits next) ≡ is_none_or o (list_all means)
   all_part None h = refl

@@ -16,7 +16,6 @@ pub mod Arrays
 pub mod Members
 pub mod TypeMeanings
 pub mod ObjectMeanings
-pub mod Parts
 pub mod Agreement
 pub mod Counts
 pub mod WrittenSizes

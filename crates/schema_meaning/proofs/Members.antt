@@ -26,10 +26,11 @@ use Rattle.openapi_values.proofs.SchemaLevels.{property-is, object_parts-are}
 use Rattle.schema_meaning.specs.Asked.{property_named, member_holds, object_holds, count_holds}
 use Rattle.schema_meaning.specs.Forms.{SchemaLevel}
 use Rattle.schema_meaning.specs.Reached.{object_schemas, if_any}
-use Rattle.schema_meaning.proofs.Among.{among_first, among_later, among_left, among_right}
+use Rattle.schema_meaning.proofs.Among.{among_left, among_right}
+use Rattle.schema_values.proofs.Contained.{contains_first, contains_later}
+use Rattle.openapi_values.proofs.Steps.{all_same}
 use Rattle.schema_meaning.proofs.Behind.{always}
 use Rattle.schema_meaning.proofs.Combined.{rows}
-use Rattle.schema_meaning.proofs.Steps.{all_alike}
 use Rattle.schema_meaning.proofs.TypeEntries.{least_part, most_part}
 use Rattle.schema_meaning.proofs.WrittenLevels.{json_of, truth-is, object-under, by_parts-is, level_of}
 
@@ -75,7 +76,7 @@ property_among name (p ∷ ps) s e = by_test (bytes_eq name p.name) e (property_
   where
     by_test : (b : Bool) → option_map (λ p. p.schema) (cond b (Some p) (find (λ p. bytes_eq name p.name) ps)) ≡ Some s → (property_named name ps ≡ Some s → Contains (map (λ p. p.schema) ps) s) → Contains (map (λ p. p.schema) (p ∷ ps)) s
     by_test true e later = (0, omega arith, let q : p.schema ≡ s = cc e in q)
-    by_test false e later = among_later p.schema (map (λ p. p.schema) ps) s (later e)
+    by_test false e later = contains_later p.schema (map (λ p. p.schema) ps) s (later e)
 
 is_property-is : (schema : List Member) (ps : List Property) (name : List ℕ) → first_named (codes "properties") schema ≡ unless_empty (written_properties ps) → is_property schema name ≡ is_some (property_named name ps)
 is_property-is schema ps name e = ap (λ (o : Option Json). is_some_and o (λ s. is_some_and (as_object (out-Json s)) (has_member name))) e ∙ by_list ps
@@ -133,7 +134,7 @@ module _ {X : Type 0} (smaller : X → Json → Bool) (means : X → Schema → 
           let is = object-under a o e in
           ap (λ (j : Json). is_true (out-Json j) || smaller x j) (ap additional_json is ∙ sym (ap untitled is))
           ∙ ap (λ (c : Bool). c || smaller x (json_of a)) (untrue a o e)
-          ∙ h a (among_first a [])
+          ∙ h a (contains_first a [])
 
   member_means : (ps : List Property) (additional : Option Schema) (m : Named X) → MeanOf (map (λ p. p.schema) ps ++ if_any additional) m.value → (o : Option Schema) → property_named m.name ps ≡ o
       → (is_none_or (option_map json_of o) (smaller m.value) && is_none_or (additional_of additional) (λ v. is_some o || (is_true (out-Json v) || smaller m.value v))) ≡ option_map_or (means m.value) o (is_none_or additional (means m.value))
@@ -156,7 +157,7 @@ module _ {X : Type 0} (smaller : X → Json → Bool) (means : X → Schema → 
     required_row (n ∷ ns) ms =
         ap (λ (x : Level Json). is_some_and (as_list x) (list_all (λ name. is_some_and (as_text (out-Json name)) (λ t. has_member t ms)))) (json.outs-List (map Text (n ∷ ns)))
         ∙ list_all-map (λ name. is_some_and (as_text (out-Json name)) (λ t. has_member t ms)) Text (n ∷ ns)
-        ∙ all_alike (λ name. is_some_and (as_text (out-Json (Text name))) (λ t. has_member t ms)) (λ name. has_member name ms) (λ name. ap (λ (x : Level Json). is_some_and (as_text x) (λ t. has_member t ms)) (json.outs-Text name)) (n ∷ ns)
+        ∙ all_same (λ name. is_some_and (as_text (out-Json (Text name))) (λ t. has_member t ms)) (λ name. has_member name ms) (λ name. ap (λ (x : Level Json). is_some_and (as_text x) (λ t. has_member t ms)) (json.outs-Text name)) (n ∷ ns)
 
     module _ (ps : List Property) (additional : Option Schema) (stand : first_named (codes "properties") schema ≡ unless_empty (written_properties ps)) where
       one_member : (m : Named X) → MeanOf (map (λ p. p.schema) ps ++ if_any additional) m.value

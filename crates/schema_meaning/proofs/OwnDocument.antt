@@ -2,16 +2,14 @@
 use Rattle.std.proofs.Common.{◌≡◌, ℕ, Bool, true, false, List, [], ◌∷◌, map, Option, Some, option_map, bytes_eq, cond, codes, refl, ◌∙◌, ap}
 use Rattle.std.specs.Prelude.{find}
 use Rattle.schema_values.specs.declared.json_value.Json.{Json, Object}
-use Rattle.schema_values.specs.declared.json_value.Json.TheOpen.{Json-F}
-use Rattle.schema_values.specs.declared.json_value.Json.TheVariants as json
 use Rattle.schema_values.specs.declared.json_value.Member.{Member}
 use Rattle.schema_values.specs.declared.schema.Schema.{Schema}
-use Rattle.schema_values.specs.Get.{get_of, first_named}
+use Rattle.schema_values.specs.Get.{first_named}
 use Rattle.schema_values.specs.Member.{member}
 use Rattle.openapi_values.specs.Lookup.{member_in}
+use Rattle.openapi_values.proofs.Stands.{get-object}
 use Rattle.schema_meaning.specs.Definitions.{Definitions, schema_named}
 use Rattle.schema_meaning.specs.Written.{DefinesReached}
-use Rattle.schema_meaning.proofs.Documents.{got_at}
 use Rattle.schema_meaning.proofs.WrittenLevels.{json_of}
 
 -- definitions as members
@@ -24,9 +22,6 @@ components_of ds = Object (member (codes "schemas") (Object (members_for ds)) �
 abbrev pub document_of : Definitions → Json
 document_of ds = Object (member (codes "components") (components_of ds) ∷ [])
 
-got : (name : List ℕ) (ms : List Member) → get_of name (Object ms) ≡ first_named name ms
-got name ms = got_at name (Object ms) (Json-F.Object ms) (json.outs-Object ms)
-
 named : (name : List ℕ) (ds : Definitions) → first_named name (members_for ds) ≡ option_map json_of (schema_named ds name)
 named name [] = refl
 named name (d ∷ ds) = by_name (bytes_eq name d.0) (named name ds)
@@ -38,7 +33,7 @@ named name (d ∷ ds) = by_name (bytes_eq name d.0) (named name ds)
 
 pub defines_all : (ds : Definitions) (whole : Schema) → DefinesReached (document_of ds) ds whole
 defines_all ds whole s name reached e =
-    ap (λ (o : Option Json). member_in (member_in o (codes "schemas")) name) (got (codes "components") (member (codes "components") (components_of ds) ∷ []))
-    ∙ ap (λ (o : Option Json). member_in o name) (got (codes "schemas") (member (codes "schemas") (Object (members_for ds)) ∷ []))
-    ∙ got name (members_for ds)
+    ap (λ (o : Option Json). member_in (member_in o (codes "schemas")) name) (get-object (codes "components") (member (codes "components") (components_of ds) ∷ []))
+    ∙ ap (λ (o : Option Json). member_in o name) (get-object (codes "schemas") (member (codes "schemas") (Object (members_for ds)) ∷ []))
+    ∙ get-object name (members_for ds)
     ∙ named name ds

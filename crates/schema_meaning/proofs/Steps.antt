@@ -1,5 +1,5 @@
 -- The parts of a schema ask of a value what they ask where the smaller values stand beside what is made of them; one step of a schema.
-use Rattle.std.proofs.Common.{◌≡◌, ℕ, suc, Bool, ◌&&◌, ◌||◌, List, [], ◌∷◌, map, Option, Some, None, length, bytes_eq, if◌then◌else◌, refl, sym, ◌∙◌, ap}
+use Rattle.std.proofs.Common.{◌≡◌, ℕ, suc, Bool, ◌&&◌, ◌||◌, List, [], ◌∷◌, map, Option, Some, None, length, if◌then◌else◌, refl, sym, ◌∙◌, ap}
 use Rattle.std.specs.List.{list_all, list_any}
 use Rattle.std.specs.Option.{option_map_or}
 use Rattle.std.specs.Prelude.{option_and_then}
@@ -20,22 +20,16 @@ use Rattle.schema_values.specs.Same.{same_json}
 use Rattle.schema_values.proofs.Besides.{made-out}
 use Rattle.openapi_values.specs.Levels.{Level, is_null, has_member}
 use Rattle.openapi_values.specs.Options.{is_some_and, is_none_or}
+use Rattle.openapi_values.proofs.Steps.{has_changed, all_same}
 use Rattle.schema_meaning.specs.Asked.{count_holds, places_hold, items_hold, array_holds, member_holds, object_holds, is_of_types, is_null_form, subschemas_hold, parts_hold}
-use Rattle.schema_meaning.specs.Definitions.{Definitions, schema_named, name_in}
+use Rattle.schema_meaning.specs.Definitions.{Definitions, schema_named}
+use Rattle.openapi_values.specs.Lookup.{name_in}
 use Rattle.schema_meaning.specs.Forms.{SchemaLevel, ItemsLevel, level_by_form, items_by_form}
 use Rattle.schema_meaning.specs.Meaning.{object_admits, schema_admits, Admission, admitted_beside, admits_at, admits_within}
 
 -- whether a smaller value is admitted by a schema, with as many steps as at any value
 abbrev pub smaller_admits : Definitions → ℕ → Json → Schema → Bool
 smaller_admits definitions room value schema = admits_within definitions room value room schema
-
-has_changed : {X : Type 0} (f : Json → X) (name : List ℕ) (ms : List Member) → has_member name (map (member_with f) ms) ≡ has_member name ms
-has_changed f name [] = refl
-has_changed f name (m ∷ ms) = ap (λ b. bytes_eq m.name name || b) (has_changed f name ms)
-
-pub all_alike : {X : Type 0} (p q : X → Bool) → ((x : X) → p x ≡ q x) → (xs : List X) → list_all p xs ≡ list_all q xs
-all_alike p q h [] = refl
-all_alike p q h (x ∷ xs) = ap (λ b. b && list_all p xs) (h x) ∙ ap (λ b. q x && b) (all_alike p q h xs)
 
 none_alike : {X : Type 0} (p q : X → Bool) → ((x : X) → p x ≡ q x) → (o : Option X) → is_none_or o p ≡ is_none_or o q
 none_alike p q h None = refl
@@ -69,7 +63,7 @@ module _ {X : Type 0} (f : Json → X) (smaller : Beside X → Schema → Bool) 
       ap (λ b. b && (list_all (λ name. has_member name (map (member_with f) ms)) o.required && count_holds o.min o.max (length (map (member_with f) ms))))
       (list_all-map (member_holds smaller o.properties o.additional) (member_with f) ms)
       ∙ ap (λ b. list_all (member_holds plainly o.properties o.additional) ms && (b && count_holds o.min o.max (length (map (member_with f) ms))))
-      (all_alike _ _ (λ name. has_changed f name ms) o.required)
+      (all_same _ _ (λ name. has_changed f name ms) o.required)
       ∙ ap (λ n. list_all (member_holds plainly o.properties o.additional) ms && (list_all (λ name. has_member name ms) o.required && count_holds o.min o.max n))
       (length-map ms (member_with f))
 

@@ -34,7 +34,7 @@ use Rattle.schema_meaning.specs.Asked.{is_of, format_holds, number_holds, array_
 use Rattle.schema_meaning.specs.Accepted.{AreRead}
 use Rattle.schema_meaning.specs.Forms.{ItemsLevel, items_by_form}
 use Rattle.schema_meaning.specs.Reached.{array_schemas, object_schemas, item_schemas, smaller_schemas}
-use Rattle.schema_meaning.proofs.Among.{among_first}
+use Rattle.schema_values.proofs.Contained.{contains_first}
 use Rattle.schema_meaning.proofs.Arrays.{MeansOf, array_part}
 use Rattle.schema_meaning.proofs.Behind.{subschema_entries, no_subschema}
 use Rattle.schema_meaning.proofs.Combined.{rows}
@@ -167,7 +167,7 @@ module _ (given : Option (List ℕ)) (p : Parts) (read : AreRead p) (value : Jso
 
   mean_items : (ss : List Schema) (s : Schema) → ss ≡ s ∷ [] → (xs : List Json) → AllByRecursion (MeanOf smaller means no_truth truth_kept ss) xs → MeansOf smaller means s xs
   mean_items ss s e [] h = tt
-  mean_items ss s e (x ∷ xs) h = (h.0 s (subst (λ (l : List Schema). Contains l s) (sym e) (among_first s [])), mean_items ss s e xs h.1)
+  mean_items ss s e (x ∷ xs) h = (h.0 s (subst (λ (l : List Schema). Contains l s) (sym e) (contains_first s [])), mean_items ss s e xs h.1)
 
   schema_is : (one : HasOne p) → smaller_schemas (Some (Single Array)) p ≡ one.schema ∷ []
   schema_is one =

@@ -9,7 +9,8 @@ use Rattle.openapi_values.specs.Levels.{Level}
 use Rattle.openapi_values.specs.Options.{is_some_and}
 use Rattle.schema_meaning.specs.Asked.{parts_hold}
 use Rattle.schema_meaning.specs.Count.{room}
-use Rattle.schema_meaning.specs.Definitions.{Definitions, schema_named, name_in}
+use Rattle.schema_meaning.specs.Definitions.{Definitions, schema_named}
+use Rattle.openapi_values.specs.Lookup.{name_in}
 use Rattle.schema_meaning.specs.Forms.{by_form}
 
 -- a reference admits what the definition of its name does, and nothing where there is none; any other object that of which each part holds

@@ -30,3 +30,5 @@ pub mod Besides
 pub mod Entries
 pub mod SortedLemmas
 pub mod Stable
+pub mod JsonParts
+pub mod Contained

@@ -32,7 +32,7 @@ use Rattle.typed_values.specs.Levels.{TreeOf}
 use Rattle.schema_values.specs.Order.{sorted_by}
 use Rattle.typed_values.proofs.Arms.{bare_told, not_bare, payload_told, no_payload, at_tag_text, at_tag_other}
 use Rattle.typed_values.proofs.FitRows.{given_row, place_row}
-use Rattle.typed_values.proofs.Found.{contains_first, contains_later}
+use Rattle.schema_values.proofs.Contained.{contains_first, contains_later}
 use Rattle.typed_values.proofs.Listed.{place_below, found_there, found_inside}
 use Rattle.typed_values.proofs.Ordered.{sorted_ascends, ascending_told}
 use Rattle.schema_values.proofs.SortedLemmas.{all_sorted}

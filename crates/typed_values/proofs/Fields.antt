@@ -18,7 +18,8 @@ use Rattle.typed_values.specs.Definitions.{field_name, listed_name, variant_name
 use Rattle.typed_values.specs.Checks.{names_of_fields, lists_of_names, HasDoubledName, TakesNull, HasTagClash, IsFieldOf, of_struct, of_variant, IsOption, IsBadField, no_option, null_twice, default_misfits, HasBadPresence, IsPlainlyRight}
 use Rattle.typed_values.specs.Fits.{Fits}
 use Rattle.typed_values.specs.Levels.{DescLevel}
-use Rattle.typed_values.proofs.Found.{contains_first, contains_later, contains_cases, same_or_not}
+use Rattle.typed_values.proofs.Found.{same_or_not}
+use Rattle.schema_values.proofs.Contained.{contains_first, contains_later, contains_cases}
 
 module _ {A : Type 0} (name_of : A → List ℕ) where
   others_of : (name : List ℕ) (xs : List A) → AllByRecursion (λ other. name ≢ other) (map name_of xs) → AllByRecursion (λ x. name ≢ name_of x) xs

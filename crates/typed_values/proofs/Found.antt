@@ -1,5 +1,5 @@
 -- What a name is defined as.
-use Rattle.std.proofs.Common.{◌≡◌, ℕ, zero, suc, ◌<◌, Bool, true, false, List, [], ◌∷◌, ◌++◌, length, map, Option, Some, None, option_map, bytes_eq, cond, refl, arith, ◌⊎◌, inl, inr, slice_index_or}
+use Rattle.std.proofs.Common.{◌≡◌, ℕ, Bool, true, false, List, [], ◌∷◌, ◌++◌, map, Option, Some, None, option_map, bytes_eq, cond, refl, arith, ◌⊎◌, inl, inr}
 use Rattle.std.proofs.lemmas.Slice.Eq.{bytes_eq-Decides}
 use Rattle.std.specs.Prelude.{◌≢◌, Contains}
 use Rattle.std.specs.List.{AllByRecursion}
@@ -7,20 +7,6 @@ use Rattle.schema_values.specs.Sound.{AreDistinct}
 use Rattle.typed_values.specs.declared.desc.Desc.{Desc}
 use Rattle.typed_values.specs.declared.table.Definition.{Definition}
 use Rattle.typed_values.specs.Definitions.{definition, entry_of, definition_name}
-
-module _ {A : Type 0} where
-  pub contains_first : (x : A) (xs : List A) → Contains (x ∷ xs) x
-  contains_first x xs = (0, omega arith, refl)
-
-  pub contains_later : (y : A) (xs : List A) (x : A) → Contains xs x → Contains (y ∷ xs) x
-  contains_later y xs x c = (suc c.0, omega (arith, c.1), c.2)
-
-  contains_by : (y : A) (xs : List A) (x : A) (k : ℕ) → k < suc (length xs) → slice_index_or (y ∷ xs) k x ≡ x → (y ≡ x) ⊎ Contains xs x
-  contains_by y xs x zero h g = inl g
-  contains_by y xs x (suc k) h g = inr (k, omega (arith, h), g)
-
-  pub contains_cases : (y : A) (xs : List A) (x : A) → Contains (y ∷ xs) x → (y ≡ x) ⊎ Contains xs x
-  contains_cases y xs x c = contains_by y xs x c.0 c.1 c.2
 
 pub eq_false : (c : Bool) → (c ≡ true → ⊥) → c ≡ false
 eq_false true h = absurd (h refl)

@@ -26,7 +26,7 @@ use Rattle.typed_values.specs.Sound.{RestsBy, Rests}
 use Rattle.typed_values.proofs.Arms.{definition_is_part}
 use Rattle.typed_values.proofs.FitRows.{alternative_inside, skipped_desc}
 use Rattle.typed_values.proofs.FitSteps.{fits_row, nought_row, skipped_row, struct_row}
-use Rattle.typed_values.proofs.Found.{contains_first, contains_later}
+use Rattle.schema_values.proofs.Contained.{contains_first, contains_later}
 use Rattle.typed_values.proofs.Inside.{part_of}
 use Rattle.typed_values.proofs.Soundness.{guarded_is_sound, is_right}
 use Rattle.typed_values.proofs.TreeParts.{OfParts, by_parts, parts_weaker}

@@ -12,7 +12,8 @@ use Rattle.typed_values.specs.Parts.{IsPart, of_whole, of_table}
 use Rattle.typed_values.specs.Sound.{EachRests, RestsBy, Rests, IsSound}
 use Rattle.typed_values.specs.Checks.{IsPlainlyRight, TablePasses, DescPasses}
 use Rattle.typed_values.specs.Levels.{DescLevel}
-use Rattle.typed_values.proofs.Found.{contains_first, contains_later, contains_cases, other_name, same_name, same_or_not, entry_found}
+use Rattle.typed_values.proofs.Found.{other_name, same_name, same_or_not, entry_found}
+use Rattle.schema_values.proofs.Contained.{contains_first, contains_later, contains_cases}
 use Rattle.typed_values.proofs.Tops.{top, tops, top_at, top_positive, top_fits, tops_fit, other_tops_fit, map_sum, through_option, through_alternative, stands_inside}
 
 -- a table without the first definition of a name

@@ -15,7 +15,8 @@ use Rattle.typed_values.specs.Sound.{EachRests, RestsBy, Rests, IsSound}
 use Rattle.typed_values.specs.SchemaTable.{drawn, other_members, schema_json}
 use Rattle.typed_values.specs.Levels.{DescLevel}
 use Rattle.typed_values.proofs.Fields.{names_apart, fields_distinct}
-use Rattle.typed_values.proofs.Found.{contains_cases, definition_is}
+use Rattle.typed_values.proofs.Found.{definition_is}
+use Rattle.schema_values.proofs.Contained.{contains_cases}
 use Rattle.typed_values.proofs.Needed.{IsNeeded, needed_part, option_needed, list_needed, map_needed, field_needed, payload_needed, variant_needed, alternative_needed, reference_reached, reference_needed}
 use Rattle.typed_values.proofs.Rows.{row_at}
 use Rattle.typed_values.proofs.Soundness.{each_of, is_right}

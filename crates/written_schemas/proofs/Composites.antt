@@ -1,8 +1,7 @@
 -- What the schemas of lists, structs, choices and references admit, by what they say of smaller values and of other schemas.
-use Rattle.std.proofs.Common.{◌≡◌, ℕ, Bool, true, false, ◌&&◌, ◌||◌, length, List, [], ◌∷◌, ◌++◌, Option, Some, None, option_and_then, nat_eq, ◌==◌, count_by, codes, refl, ◌∙◌, ap}
+use Rattle.std.proofs.Common.{◌≡◌, ℕ, Bool, true, false, ◌&&◌, ◌||◌, length, List, [], ◌∷◌, ◌++◌, Option, Some, None, option_and_then, ◌==◌, count_by, codes, refl, ◌∙◌, ap}
 use Rattle.std.specs.List.{list_all, list_any}
 use Rattle.std.specs.Option.{option_map_or}
-use Rattle.std.proofs.lemmas.Bool.Decides.{Decides-eqb}
 use Rattle.schema_values.specs.declared.json_value.Json.{Json, Text as Words, List as Items, Object}
 use Rattle.schema_values.specs.declared.json_value.Json.TheOpen.{Json-F}
 use Rattle.schema_values.specs.declared.json_value.Json.TheVariants as json
@@ -15,6 +14,7 @@ use Rattle.openapi_values.specs.Lookup.{definition}
 use Rattle.openapi_values.specs.Options.{is_some_and}
 use Rattle.openapi_values.specs.Rows.{in_subset}
 use Rattle.openapi_values.specs.JsonAdmits.{members_admit, object_admits, schema_admits}
+use Rattle.openapi_values.proofs.After.{after_prefix}
 use Rattle.typed_values.specs.Bounds.{is_long_enough, is_short_enough, is_length_within}
 use Rattle.typed_values.specs.SchemaTable.{Remarks, annotations, of_type, if_count}
 use Rattle.written_schemas.proofs.Notes.{hold, noted_admits}
@@ -29,13 +29,6 @@ counts_plain item (Some a) (Some b) = (refl, refl)
 counts_plain item (Some a) None = (refl, refl)
 counts_plain item None (Some b) = (refl, refl)
 counts_plain item None None = (refl, refl)
-
-same_letter : (c : ℕ) → nat_eq c c ≡ true
-same_letter c = (Decides-eqb c c).1 refl
-
-after_prefix : (prefix text : List ℕ) → after prefix (prefix ++ text) ≡ Some text
-after_prefix [] text = refl
-after_prefix (c ∷ prefix) text = rw (same_letter c) (after_prefix prefix text)
 
 -- a list of so many items of which each passes a test
 abbrev pub is_list_of : {X : Type 0} → (X → Bool) → Option ℕ → Option ℕ → Level X → Bool

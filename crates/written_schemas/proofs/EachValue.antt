@@ -19,7 +19,7 @@ use Rattle.written_schemas.specs.Reached.{DefinesReached}
 use Rattle.written_schemas.proofs.Costs.{cost}
 use Rattle.written_schemas.proofs.AtOneValue.{Agrees, Below}
 use Rattle.written_schemas.proofs.Agreement.{agree_at}
-use Rattle.written_schemas.proofs.Parts.{OfParts, by_parts}
+use Rattle.schema_values.proofs.JsonParts.{OfParts, by_parts}
 
 module _ (table : List Definition) (whole : Desc) (doc : Json) (q : ℕ) (passes : TablePasses table) (right : DescPasses table whole) (sound : IsSound table whole) (defines : DefinesReached doc table whole) (some : 1 ≤ q)
     (bounded : (d : Desc) → IsNeeded table whole d → cost table (room table whole) d ≤ q) where

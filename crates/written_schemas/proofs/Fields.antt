@@ -23,9 +23,11 @@ use Rattle.typed_values.specs.Denotes.{Told, value_named, is_declared, told, by_
 use Rattle.schema_values.specs.Order.{sorted_by, same_name}
 use Rattle.typed_values.specs.Rows.{value_denotes, told_field, told_fields, told_struct}
 use Rattle.typed_values.proofs.Denoted.{ok_below, ok_just, ok_all, ok_struct}
-use Rattle.typed_values.proofs.Found.{contains_first, contains_later, other_name}
+use Rattle.typed_values.proofs.Found.{other_name}
+use Rattle.schema_values.proofs.Contained.{contains_first, contains_later}
+use Rattle.openapi_values.proofs.Steps.{all_same}
 use Rattle.written_schemas.proofs.Forms.{field_property, names_required}
-use Rattle.written_schemas.proofs.Structs.{all_same, is_struct_of, other_passes}
+use Rattle.written_schemas.proofs.Structs.{is_struct_of, other_passes}
 use Rattle.written_schemas.proofs.Sorted.{all_sorted, any_sorted, first_sorted, absent, and_swapped}
 
 no_value : (name : List ℕ) (ms : List Member) → AllByRecursion (λ other. name ≢ other) (map name_of ms) → value_named ms name ≡ None

@@ -22,7 +22,6 @@ pub mod TaggedVariants
 pub mod AtOneValue
 pub mod VariantChoices
 pub mod Agreement
-pub mod Parts
 pub mod EachValue
 pub mod Sizes
 pub mod Inside

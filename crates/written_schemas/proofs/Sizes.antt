@@ -12,6 +12,7 @@ use Rattle.schema_values.specs.Member.{name_of, member}
 use Rattle.openapi_values.specs.Room.{values}
 use Rattle.openapi_values.specs.ValuesOfMembers.{member_values}
 use Rattle.openapi_values.proofs.RoomLemmas.{values_is, values_row}
+use Rattle.openapi_values.proofs.SchemasOfDocument.{total, total_cons}
 use Rattle.typed_values.specs.declared.desc.Desc.{Desc, out-Desc}
 use Rattle.typed_values.specs.declared.desc.Desc.TheFolds.{fold-Desc, fold-Field, fold-TaggedVariant, fold-Variant, fold_out-Desc, map-Desc}
 use Rattle.typed_values.specs.declared.desc.Desc.TheOpen.{Desc-F}
@@ -26,20 +27,13 @@ use Rattle.typed_values.specs.DescBeside.{tagged_with, variant_with}
 use Rattle.schema_values.specs.Order.{sorted_by, same_name}
 use Rattle.typed_values.specs.SchemaTable.{Drawn, DrawnVariant, Remarks, drawn, drawn_json, drawn_step, defaulted, described, annotated, annotations, if_members, if_names, if_denied, plain, enumerated, is_described, choices_of, other_members, bare_names, payload_choices, tagged_choice, schema_json}
 use Rattle.typed_values.specs.Levels.{DescLevel}
-use Rattle.typed_values.proofs.Found.{contains_cases, contains_first, contains_later}
+use Rattle.schema_values.proofs.Contained.{contains_cases, contains_first, contains_later}
 use Rattle.written_schemas.proofs.Notes.{noted}
 use Rattle.written_schemas.proofs.Composites.{counts}
 use Rattle.written_schemas.proofs.Sorted.{sum_sorted}
 use Rattle.written_schemas.proofs.Forms.{choice_drawn, drawn_level, drawn_row, field_property, fields_drawn, names_required, properties_drawn}
 use Rattle.written_schemas.proofs.Truths.{truth_is}
 use Rattle.written_schemas.proofs.VariantForms.{required_of, behind_tag, tagged_is_struct}
-
-unfoldable pub total : List Member → ℕ
-total ms = sum (map member_values ms)
-
-pub total_cons : (m : Member) (ms : List Member) → total (m ∷ ms) ≡ values m.value + total ms
-unfolding total
-total_cons m ms = sum_by-cons (λ n. n) (member_values m) (map member_values ms)
 
 total_after : (first ms : List Member) → total ms ≤ total (first ++ ms)
 total_after [] ms = omega arith

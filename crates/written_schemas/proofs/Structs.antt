@@ -12,6 +12,7 @@ use Rattle.openapi_values.specs.Levels.{Named, Level, is_null, is_true, as_text,
 use Rattle.openapi_values.specs.Options.{is_some_and}
 use Rattle.openapi_values.specs.Rows.{in_subset, is_property, property_admitted, other_admitted}
 use Rattle.openapi_values.specs.JsonAdmits.{schema_admits}
+use Rattle.openapi_values.proofs.Steps.{all_same}
 use Rattle.typed_values.specs.SchemaTable.{Remarks, annotations, of_type, if_members, if_names, if_denied}
 use Rattle.written_schemas.proofs.Notes.{notes_passed, hold, noted_admits}
 use Rattle.written_schemas.proofs.Scalars.{no_form_of, type_row}
@@ -29,10 +30,6 @@ parts_plain [] (n ∷ ns) true = (refl, refl)
 parts_plain [] (n ∷ ns) false = (refl, refl)
 parts_plain [] [] true = (refl, refl)
 parts_plain [] [] false = (refl, refl)
-
-pub all_same : {X : Type 0} (p q : X → Bool) → ((x : X) → p x ≡ q x) → (xs : List X) → list_all p xs ≡ list_all q xs
-all_same p q h [] = refl
-all_same p q h (x ∷ xs) = ap (λ (b : Bool). b && list_all p xs) (h x) ∙ ap (λ (b : Bool). q x && b) (all_same p q h xs)
 
 module _ {X : Type 0} (smaller : X → Json → Bool) where
   abbrev pub other_passes : List Member → Named X → Bool
