@@ -1,5 +1,6 @@
-//! Questions about schemas: what references lead to, what a struct's members are, and which types are scalar.
-//! The module of this name in the Rust crate, without what writes documents.
+//! Questions about schemas: what references lead to, what a struct's members are, and which types are
+//! scalar. The modules `schema_util` and `type_util` of the Rust crate, without what writes documents. A
+//! schema is that of OpenAPI 3.0.3, Schema Object; a reference is that of its Reference Object.
 #![tactic(auto)]
 
 mod description;

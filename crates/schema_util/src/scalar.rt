@@ -74,7 +74,8 @@ enum Finding<'a> {
     Differs,
 }
 
-/// Tests that a schema is that of truth values, numbers or texts. Takes no memory.
+/// Tests that a schema is that of truth values, numbers or texts. Takes no memory. `NotScalar` where a
+/// schema on the way is that of anything else; `Dangling` and `Cycle` as `resolve` has them.
 ///
 /// A definition is tested anew at each reference to it, so the time may be exponential in the number of
 /// definitions where they share others.
@@ -89,7 +90,8 @@ pub fn type_is_scalar<'a>(
     tested(Wanted::Scalar, schema, definitions, None)
 }
 
-/// Tests that a schema is that of texts. Takes no memory, and as much time as `type_is_scalar`.
+/// Tests that a schema is that of texts. Takes no memory, and as much time as `type_is_scalar`. Refuses as
+/// that does, with `NotStringList` in place of `NotScalar`.
 pub fn type_is_string<'a>(
     schema: &'a Schema,
     definitions: &'a Definitions,
@@ -102,6 +104,7 @@ pub fn type_is_string<'a>(
 }
 
 /// Tests that a schema is that of lists of texts. Takes no memory, and as much time as `type_is_scalar`.
+/// Refuses as `type_is_string` does, which tests the schema of the items.
 pub fn type_is_string_enum<'a>(
     schema: &'a Schema,
     definitions: &'a Definitions,

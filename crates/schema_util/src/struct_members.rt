@@ -108,9 +108,11 @@ fn text_of(alloc: Global, name: &str) -> Result<Text, AllocError>
     Text::from_str(alloc, name)
 }
 
-/// The members of a struct: its properties in the order of their names, and then those of its
-/// subschemas, which no value must have where they stand in `any_of`. With `required` false no member is
-/// required.
+/// The members of a struct: its properties in the order of their names, and then those of its subschemas,
+/// which no value must have where they stand in `any_of`. With `required` false no member is required.
+/// `InvalidEnum` where the schema has enumeration values, or subschemas alone; `InvalidSubschema` where a
+/// struct has other subschemas; `InvalidType` where it is anything else; `Dangling` and `Cycle` as
+/// `resolve` has them, also along `any_of` and `all_of`.
 ///
 /// A definition is looked into anew at each reference to it.
 pub fn schema2struct(
