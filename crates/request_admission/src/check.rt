@@ -1,4 +1,5 @@
-// Whether a document admits a request.
+//! Whether a document admits a request.
+
 ghost use Rattle.std.specs.Prelude.{◌≡◌, ◌↔◌, IfOk, IsTrue, option_map, codes};
 ghost use Rattle.std.specs.Str.{chars};
 ghost use Rattle.schema_values.specs.Ascii.{all_ascii};

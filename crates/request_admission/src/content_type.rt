@@ -1,4 +1,5 @@
-// The media type of a request.
+//! The media type of a request.
+
 ghost use Rattle.std.specs.Prelude.{◌≡◌, ◌↔◌, IfOk, IsTrue, option_map, codes};
 ghost use Rattle.std.specs.List.{list_all};
 ghost use Rattle.openapi_values.specs.Keywords.{after};

@@ -1,4 +1,5 @@
-// The members of an object in a document.
+//! The members of an object in a document.
+
 ghost use Rattle.std.specs.Prelude.{◌≡◌, IsTrue, option_map};
 ghost use Rattle.schema_values.specs.Ascii.{all_ascii};
 ghost use Rattle.schema_values.specs.Get.{get_of};

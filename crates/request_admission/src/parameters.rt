@@ -1,4 +1,5 @@
-// Whether the parameters of an operation hold of a request.
+//! Whether the parameters of an operation hold of a request.
+
 ghost use Rattle.std.specs.Prelude.{◌≡◌};
 ghost use Rattle.std.specs.List.{list_all, AllByRecursion};
 ghost use Rattle.std.specs.BTreeMap.{get};

@@ -1,4 +1,5 @@
-// The pairs of a query.
+//! The pairs of a query.
+
 ghost use Rattle.std.specs.Prelude.{◌≡◌, ◌∷◌, [], IfOk};
 ghost use Rattle.std.specs.Option.{option_map_or};
 ghost use Rattle.openapi_values.specs.RequestParameters.{query_pairs, decoded, values_of};

@@ -160,7 +160,23 @@ fn bytes_are_admitted_under_any_media_type(rt: HostRuntime) -> Result<(), Fail> 
     assert!(rt; admitted(alloc, "/bytes", "PUT", &request)?);
     let copy = request.copy(alloc)?;
     assert!(rt; admitted(alloc, "/bytes", "PUT", &copy)?);
-    assert!(rt; copy.headers.len() == 1 && copy.body.len() == 1 && copy.variables.is_empty());
+    Ok(())
+}
+
+#[test]
+fn a_copy_of_a_request_is_admitted_too(rt: HostRuntime) -> Result<(), Fail> {
+    let alloc = rt.alloc();
+    let mut request = request(alloc, "after=1", b"a")?;
+    for name in ["id", "other"] {
+        let value = VariableValue::String(Text::from_str(alloc, "7")?);
+        request
+            .variables
+            .insert(Text::from_str(alloc, name)?, value)?;
+    }
+    let copy = request.copy(alloc)?;
+    assert!(rt; admitted(alloc, "/items/{id}", "GET", &copy)?);
+    assert!(rt; copy.variables.len() == 2 && copy.query.equals_str("after=1"));
+    assert!(rt; copy.headers.len() == 0 && copy.body.len() == 1);
     Ok(())
 }
 

@@ -38,7 +38,7 @@ use Rattle.schema_meaning.proofs.Members.{MeanOf}
 use Rattle.schema_meaning.proofs.NotRefused.{unrefused}
 use Rattle.schema_meaning.proofs.ObjectMeanings.{PartsOf, object_admits as object_agrees}
 use Rattle.schema_meaning.proofs.Steps.{smaller_admits, admits-suc}
-use Rattle.schema_meaning.proofs.WrittenLevels.{json_of, truth-is, by_parts-is, level_of}
+use Rattle.schema_meaning.proofs.WrittenLevels.{truth-is, by_parts-is, level_of}
 
 -- ---- truth values and references
 
@@ -141,16 +141,16 @@ module _ (definitions : Definitions) (whole : Schema) (doc : Json) (accepted : I
       abbrev MeansNext : Schema → Bool
       MeansNext = admits_within definitions r j n
 
-      next_agrees : (t : Schema) → LeadsTo definitions s t → Next (json_of t) ≡ MeansNext t
-      next_agrees t l = ih t (same_value s t reached l) (left t l) None n (also t l)
+      next_agrees : (title : Option (List ℕ)) (t : Schema) → LeadsTo definitions s t → Next (schema_json title t) ≡ MeansNext t
+      next_agrees title t l = ih t (same_value s t reached l) (left t l) title n (also t l)
 
       -- a reference
       by_definition : (name : List ℕ) → name_referred s ≡ Some name → is_some_and (definition doc name) Next ≡ is_some_and (schema_named definitions name) MeansNext
-      by_definition name e = ap (λ (o : Option Json). is_some_and o Next) (defines s name reached e) ∙ by_schema (schema_named definitions name) refl
+      by_definition name e = let (title, is) = defines s name reached e in ap (λ (o : Option Json). is_some_and o Next) is ∙ by_schema title (schema_named definitions name) refl
         where
-          by_schema : (o : Option Schema) → schema_named definitions name ≡ o → is_some_and (option_map json_of o) Next ≡ is_some_and o MeansNext
-          by_schema None f = refl
-          by_schema (Some y) f = next_agrees y (referred name y e f)
+          by_schema : (title : Option (List ℕ)) (o : Option Schema) → schema_named definitions name ≡ o → is_some_and (option_map (schema_json title) o) Next ≡ is_some_and o MeansNext
+          by_schema title None f = refl
+          by_schema title (Some y) f = next_agrees title y (referred name y e f)
 
       by_name : (o : Option (List ℕ)) → name_referred s ≡ o → is_some_and (option_and_then (definition doc) o) Next ≡ is_some_and (option_and_then (schema_named definitions) o) MeansNext
       by_name None e = refl
@@ -205,7 +205,7 @@ module _ (definitions : Definitions) (whole : Schema) (doc : Json) (accepted : I
             ap (λ (text : Option (List ℕ)). written_admits doc (written_smaller doc q) Next j (out-Json j) (option_map_or reference_json text (object_of (annotations given p ++ entries_behind (level_of p))))) (sym f)
             ∙ object_agrees given p read right j (written_smaller doc q) Next (smaller_admits definitions r) MeansNext no_truth truth_kept doc (out-Json j) refl f
             (λ g. record {
-              agree = λ u h t c. next_agrees t (beside_reached f g u t h c);
+              agree = λ u h t c. next_agrees None t (beside_reached f g u t h c);
               empty = λ u t h i.
                   let l = beside_reached f g u t h (not_among u t i) in
                   empty_meant definitions r n j t (some_left definitions n t (also t l)) (of_some IsEmpty u.not t i (of_some SubschemasAreRead p.subschemas u h read.subschemas_read).not_empty);

@@ -10,10 +10,14 @@ use Rattle.schema_meaning.proofs.Among.{map_alike, one_fits, sums_fit, others_fi
 use Rattle.schema_meaning.proofs.Chains.{Rests, go_on}
 use Rattle.schema_meaning.proofs.Sizes.{Sizes, same_or_not, without, summed, taken, sums_below, named_without}
 
--- A size of each schema that counts for those inside it, and the sizes of the definitions under their names.
+-- a name has room for so much
+abbrev pub HasRoomFor : Sizes → List ℕ → ℕ → Type 0
+HasRoomFor sizes name n = (k : ℕ) × (value_at name sizes ≡ Some k) × (n ≤ k)
+
+-- A size of each schema that counts for those inside it, and under the names of the definitions no less than their sizes.
 pub record Sized (definitions : Definitions) (whole : Schema) (size : Schema → ℕ) (sizes : Sizes) : Type 0 where
   pub counts : (s : Schema) → IsReached definitions whole s → suc (sum (map size (beside s)) + sum (map size (below s))) ≤ size s
-  pub named : (r : Schema) (name : List ℕ) (y : Schema) → IsReached definitions whole r → name_referred r ≡ Some name → schema_named definitions name ≡ Some y → value_at name sizes ≡ Some (size y)
+  pub named : (r : Schema) (name : List ℕ) (y : Schema) → IsReached definitions whole r → name_referred r ≡ Some name → schema_named definitions name ≡ Some y → HasRoomFor sizes name (size y)
 
 module _ (definitions : Definitions) (whole : Schema) (size : Schema → ℕ) (sizes : Sizes) (sized : Sized definitions whole size sizes) (no_way_back : (s : Schema) → IsReached definitions whole s → ComesTo definitions s s → ⊥) where
   abbrev Reached : Schema → Type 0
@@ -133,7 +137,7 @@ module _ (definitions : Definitions) (whole : Schema) (size : Schema → ℕ) (s
 
   -- each definition that is referred to is left, or has led to here
   AreLeft : Sizes → Schema → Type 0
-  AreLeft left s = (r : Schema) (name : List ℕ) (y : Schema) → Reached r → name_referred r ≡ Some name → schema_named definitions name ≡ Some y → (value_at name left ≡ Some (size y)) ⊎ Leads y s
+  AreLeft left s = (r : Schema) (name : List ℕ) (y : Schema) → Reached r → name_referred r ≡ Some name → schema_named definitions name ≡ Some y → HasRoomFor left name (size y) ⊎ Leads y s
 
   all_left : (s : Schema) → AreLeft sizes s
   unfolding AreLeft
@@ -151,12 +155,12 @@ module _ (definitions : Definitions) (whole : Schema) (size : Schema → ℕ) (s
             let q : Some z ≡ Some y = sym g ∙ ap (schema_named definitions) (sym same) ∙ f in
             let w : y ≡ z = cc q in
             inr (subst (λ (v : Schema). Leads v s) w led)
-        | inr ne ↦ elim (inv r other z i e g) [ inl a ↦ inl (named_without name other left ne ∙ a) | inr a ↦ inr a ]
+        | inr ne ↦ elim (inv r other z i e g) [ inl a ↦ inl (a.0, named_without name other left ne ∙ a.1, a.2) | inr a ↦ inr a ]
       ]
 
-  weight_is : (name : List ℕ) (y : Schema) → Reached y → schema_named definitions name ≡ Some y → weight name (size y) ≡ top y
+  weight_is : (name : List ℕ) (y : Schema) (k : ℕ) → size y ≤ k → Reached y → schema_named definitions name ≡ Some y → weight name k ≡ top y
   unfolding weight top_named
-  weight_is name y r f = ap (λ (o : Option Schema). min (top_named o) (size y)) f ∙ min-eq_left (top_fits y r)
+  weight_is name y k le r f = ap (λ (o : Option Schema). min (top_named o) k) f ∙ min-eq_left (omega (arith, le, top_fits y r))
 
   weights_fit : (left : Sizes) → summed weight left ≤ summed (λ name k. k) left
   unfolding weight
@@ -174,7 +178,7 @@ module _ (definitions : Definitions) (whole : Schema) (size : Schema → ℕ) (s
       let reached : Reached t = same_value s t r step in
       elim (inv s name t r e f) [
         | inl a ↦
-            budget (without name left) t reached (omega (arith, le, top_is s r, taken weight name left (size t) a, weight_is name t reached f))
+            budget (without name left) t reached (omega (arith, le, top_is s r, taken weight name left a.0 a.1, weight_is name t a.0 a.2 reached f))
             (take_out left t name t f (λ u l. at_once u l) (still_left left s t step inv))
         | inr back ↦ absurd (no_way_back t reached (back t step))
       ]
@@ -190,20 +194,20 @@ module _ (definitions : Definitions) (whole : Schema) (size : Schema → ℕ) (s
   by_place s r (inl (inr b)) = rests_within _ sizes s r (omega (arith, b, top_fits s r, weights_fit sizes)) (all_left s)
   by_place s r (inr d) = in_definition d.inside
     where
-      here : value_at d.name sizes ≡ Some (size d.schema)
+      here : HasRoomFor sizes d.name (size d.schema)
       here = sized.named d.by d.name d.schema d.reached d.refers d.is
 
       reached : Reached d.schema
       reached = same_value d.by d.schema d.reached (referred d.name d.schema d.refers d.is)
 
       counted : summed weight sizes ≡ top d.schema + summed weight (without d.name sizes)
-      counted = taken weight d.name sizes (size d.schema) here ∙ ap (λ (n : ℕ). n + summed weight (without d.name sizes)) (weight_is d.name d.schema reached d.is)
+      counted = taken weight d.name sizes here.0 here.1 ∙ ap (λ (n : ℕ). n + summed weight (without d.name sizes)) (weight_is d.name d.schema here.0 here.2 reached d.is)
 
       in_definition : IsInside d.schema s → Rests definitions (size whole + summed (λ name k. k) sizes) s
       in_definition (inl a) = rests_within _ (without d.name sizes) s r (omega (arith, a.fewer, counted, weights_fit sizes)) (take_out sizes s d.name d.schema d.is a.leads (all_left s))
       in_definition (inr b) =
           rests_within _ sizes s r
-          (omega (arith, b, top_fits s r, counted, weights_fit (without d.name sizes), taken (λ name k. k) d.name sizes (size d.schema) here))
+          (omega (arith, b, top_fits s r, counted, weights_fit (without d.name sizes), taken (λ name k. k) d.name sizes here.0 here.1, here.2))
           (all_left s)
 
   -- the chain of each schema that is reached

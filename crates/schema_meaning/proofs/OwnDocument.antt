@@ -1,5 +1,5 @@
 -- A document that has the written schemas of some definitions.
-use Rattle.std.proofs.Common.{◌≡◌, ℕ, Bool, true, false, List, [], ◌∷◌, map, Option, Some, option_map, bytes_eq, cond, codes, refl, ◌∙◌, ap}
+use Rattle.std.proofs.Common.{◌≡◌, ℕ, Bool, true, false, List, [], ◌∷◌, map, Option, Some, None, option_map, bytes_eq, cond, codes, refl, ◌∙◌, ap}
 use Rattle.std.specs.Prelude.{find}
 use Rattle.schema_values.specs.declared.json_value.Json.{Json, Object}
 use Rattle.schema_values.specs.declared.json_value.Member.{Member}
@@ -32,8 +32,10 @@ named name (d ∷ ds) = by_name (bytes_eq name d.0) (named name ds)
     by_name false later = later
 
 pub defines_all : (ds : Definitions) (whole : Schema) → DefinesReached (document_of ds) ds whole
-defines_all ds whole s name reached e =
-    ap (λ (o : Option Json). member_in (member_in o (codes "schemas")) name) (get-object (codes "components") (member (codes "components") (components_of ds) ∷ []))
-    ∙ ap (λ (o : Option Json). member_in o name) (get-object (codes "schemas") (member (codes "schemas") (Object (members_for ds)) ∷ []))
-    ∙ get-object name (members_for ds)
-    ∙ named name ds
+defines_all ds whole s name reached e = (
+  None,
+  ap (λ (o : Option Json). member_in (member_in o (codes "schemas")) name) (get-object (codes "components") (member (codes "components") (components_of ds) ∷ []))
+      ∙ ap (λ (o : Option Json). member_in o name) (get-object (codes "schemas") (member (codes "schemas") (Object (members_for ds)) ∷ []))
+      ∙ get-object name (members_for ds)
+      ∙ named name ds,
+)

@@ -21,7 +21,6 @@ use Rattle.schema_meaning.proofs.Counts.{schemas_count}
 use Rattle.schema_meaning.proofs.Documents.{sizes_in, size_of_definition, sizes_fit}
 use Rattle.schema_meaning.proofs.OwnDocument.{document_of, defines_all}
 use Rattle.schema_meaning.proofs.Sizes.{Sizes, summed}
-use Rattle.schema_meaning.proofs.WrittenLevels.{json_of}
 use Rattle.schema_meaning.proofs.WrittenSizes.{written_size, written_counts, titled_fits}
 use Rattle.std.proofs.lemmas.List.Sums.{sum_by-cons}
 
@@ -50,13 +49,14 @@ module _ (doc : Json) (definitions : Definitions) (whole : Schema) (title : Opti
   written_sized : Sized definitions whole written_size (sizes_in doc)
   written_sized = record {
     counts = λ s reached. written_counts s;
-    named = λ s name y reached e f. size_of_definition doc name ∙ ap (option_map values) (defines s name reached e ∙ ap (option_map json_of) f);
+    named = λ s name y reached e f. let (title, is) = defines s name reached e in
+        (values (schema_json title y), size_of_definition doc name ∙ ap (option_map values) (is ∙ ap (option_map (schema_json title)) f), titled_fits title y);
   }
 
   sized : Sized definitions whole schemas (sizes_of definitions)
   sized = record {
     counts = λ s reached. schemas_count s;
-    named = λ s name y reached e f. count_named name definitions ∙ ap (option_map schemas) f;
+    named = λ s name y reached e f. (schemas y, count_named name definitions ∙ ap (option_map schemas) f, omega arith);
   }
 
   -- any steps that are no fewer than the two rooms

@@ -12,7 +12,8 @@ use schema_values::{Boxed, List, Member, Schema, SchemaObject, Subschemas, Text}
 use std::alloc::{AllocError, Global};
 
 /// The description of a schema, and the schema without it: the one member of an `all_of` that is the only
-/// part, or else the schema without title, description, default and the truth values of annotations.
+/// part, or else the schema without title, description, default and the truth values of annotations. Copies
+/// that schema, and follows no reference. Fails only for want of memory.
 pub fn schema_extract_description(
     alloc: Global,
     schema: &Schema,
@@ -75,7 +76,8 @@ fn only(schemas: &[Schema]) -> Option<&Schema>
     }
 }
 
-/// The extensions of a schema. `None` exactly where it is a truth value.
+/// The extensions of a schema (OpenAPI 3.0.3, Specification Extensions). `None` exactly where it is a truth
+/// value. Takes no memory and the same time for every schema.
 pub fn schema_extensions(schema: &Schema) -> Option<&List<Member>>
     ensures { option_copied result ≡ extensions_of schema.now }
 {
@@ -86,7 +88,7 @@ pub fn schema_extensions(schema: &Schema) -> Option<&List<Member>>
 }
 
 /// Whether a schema says that there is no value: it is false, or its only part is the `not` of a schema
-/// that says nothing. Takes no memory.
+/// that says nothing. Takes no memory, and follows no reference.
 pub fn is_empty(schema: &Schema) -> bool
     ensures { result ≡ empty (schema_form schema.now) }
 {

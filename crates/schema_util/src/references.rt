@@ -23,8 +23,9 @@ pub enum ResolveError<'a> {
 /// The first schema on the way along references that is no reference itself. Takes no memory.
 ///
 /// A reference has the form `#/components/schemas/NAME` and stands alone beside annotations. Each name is
-/// compared with those that were met before it. `Dangling` where a name has no definition or the reference is
-/// of another form, `Cycle` where a name comes a second time.
+/// compared with those that were met before it, so the time grows with the square of the chain's length.
+/// `Dangling` where a name has no definition or the reference is of another form, `Cycle` where a name
+/// comes a second time.
 pub fn resolve<'a>(
     schema: &'a Schema,
     definitions: &'a Definitions,

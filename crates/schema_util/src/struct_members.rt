@@ -29,7 +29,8 @@ pub struct StructMember {
     pub description: Option<Text>,
     /// The schema of its values, without the description.
     pub schema: Schema,
-    /// Whether each value of the struct has it.
+    /// Whether it is told to be required: where the argument and the struct's schema both say so, and never
+    /// where it comes from `any_of`.
     pub required: bool,
 }
 
@@ -114,7 +115,8 @@ fn text_of(alloc: Global, name: &str) -> Result<Text, AllocError>
 /// struct has other subschemas; `InvalidType` where it is anything else; `Dangling` and `Cycle` as
 /// `resolve` has them, also along `any_of` and `all_of`.
 ///
-/// A definition is looked into anew at each reference to it.
+/// A definition is looked into anew at each reference to it, so the time and the number of members may be
+/// exponential in the number of definitions where they share others.
 pub fn schema2struct(
     alloc: Global,
     schema: &Schema,

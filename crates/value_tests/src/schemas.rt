@@ -1,3 +1,4 @@
+use crate::tables::{list, option, push, reference, structure, text};
 use schema_values::{Boxed, Json, List, Text};
 use std::alloc::{AllocError, Global};
 use std::test::Fail;
@@ -113,6 +114,57 @@ fn types_have_titles_and_references_have_none(rt: HostRuntime) -> Result<(), Fai
     let reference = Desc::Ref(Text::from_str(alloc, "Point")?);
     let bare = written(alloc, &reference)?.compact(alloc)?;
     assert_eq!(rt; bare.as_str(), "{\"$ref\":\"#/components/schemas/Point\"}");
+    Ok(())
+}
+
+const MANY_FORMS: &str = concat!(
+    r##"{"title":"T","type":"object","properties":{"##,
+    r##""map":{"type":"object","additionalProperties":{"type":"string"}},"##,
+    r##""more":{"nullable":true,"allOf":[{"$ref":"#/components/schemas/Substruct"}]},"##,
+    r##""more_strings":{"type":"array","items":{"type":"string"},"minItems":3,"maxItems":3},"##,
+    r##""string":{"type":"string"},"##,
+    r##""strings":{"type":"array","items":{"type":"string"}},"##,
+    r##""substruct":{"$ref":"#/components/schemas/Substruct"},"##,
+    r##""union":{"$ref":"#/components/schemas/Union"}},"##,
+    r##""required":["map","more_strings","string","strings","substruct","union"]}"##
+);
+
+fn three_of(alloc: Global, item: Desc) -> Result<Desc, AllocError> {
+    Ok(Desc::List {
+        item: Boxed::new(alloc, item)?,
+        min: Some(3),
+        max: Some(3),
+    })
+}
+
+fn need(alloc: Global, fields: &mut List<Field>, name: &str, desc: Desc) -> Result<(), AllocError> {
+    push(alloc, fields, name, Presence::Required, desc)
+}
+
+// The struct of many forms of the Rust crate's own tests, without its floats.
+fn many_forms(alloc: Global) -> Result<Desc, AllocError> {
+    let mut fields = List::new(alloc);
+    need(alloc, &mut fields, "string", text())?;
+    need(alloc, &mut fields, "strings", list(alloc, text())?)?;
+    need(alloc, &mut fields, "more_strings", three_of(alloc, text())?)?;
+    need(
+        alloc,
+        &mut fields,
+        "substruct",
+        reference(alloc, "Substruct")?,
+    )?;
+    let more = option(alloc, reference(alloc, "Substruct")?)?;
+    push(alloc, &mut fields, "more", Presence::Nullable, more)?;
+    need(alloc, &mut fields, "union", reference(alloc, "Union")?)?;
+    need(alloc, &mut fields, "map", map_of(alloc, text())?)?;
+    Ok(structure(fields))
+}
+
+#[test]
+fn a_struct_of_many_forms_is_written(rt: HostRuntime) -> Result<(), Fail> {
+    let alloc = rt.alloc();
+    let text = written(alloc, &many_forms(alloc)?)?.compact(alloc)?;
+    assert_eq!(rt; text.as_str(), MANY_FORMS);
     Ok(())
 }
 

@@ -20,7 +20,7 @@ pub(crate) fn list(alloc: Global, item: Desc) -> Result<Desc, AllocError> {
     })
 }
 
-fn text() -> Desc {
+pub(crate) fn text() -> Desc {
     Desc::Text {
         min: None,
         max: None,

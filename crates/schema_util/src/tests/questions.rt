@@ -134,6 +134,13 @@ fn a_description_is_taken_out(rt: HostRuntime) -> Result<(), Fail> {
 }
 
 #[test]
+fn a_truth_value_has_no_description(rt: HostRuntime) -> Result<(), Fail> {
+    let (description, rest) = schema_extract_description(rt.alloc(), &Schema::Bool(false))?;
+    assert!(rt; description.is_none() && matches!(rest, Schema::Bool(false)));
+    Ok(())
+}
+
+#[test]
 fn one_schema_of_all_is_taken_out(rt: HostRuntime) -> Result<(), Fail> {
     let alloc = rt.alloc();
     let lone = schema(alloc, AllOf(&[Typed(Kind::String)]))?;
