@@ -12,4 +12,4 @@ components-requires g c =
 
 pub returns : goal.returns
 returns g c =
-    rw (c.in_ok-copy.ensures, c.from_string.ensures, c.in_ok-to_string.ensures.ok, c.in_ok-paths.ensures, c.in_ok-components.ensures, c.endpoints-endpoints.ensures, c.new-tags.ensures) at c.to_json.ensures
+    rw (c.in_ok-from_ascii.ensures, c.in_ok-copy.ensures, c.from_string.ensures, c.in_ok-to_string.ensures.ok, c.in_ok-paths.ensures, c.in_ok-components.ensures, c.endpoints-endpoints.ensures, c.new-tags.ensures) at c.to_json.ensures
