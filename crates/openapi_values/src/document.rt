@@ -7,21 +7,28 @@ use crate::tags::TagObject;
 use schema_values::{Json, List, Text};
 use std::alloc::{AllocError, Global};
 
-/// What an API is: an OpenAPI 3.0.3 document.
+/// What an API is: a document by OpenAPI 3.0.3, OpenAPI Object. In it and in its parts a member is left out
+/// where its field is `None`, an empty list or false; `paths` and `components` always stand.
 #[derive(Drop)]
 pub struct OpenApi {
     /// The version of OpenAPI, `3.0.3`.
     pub openapi: Text,
+    /// What the API is called, and its version.
     pub info: Info,
+    /// The operations, by the templates of their paths.
     pub paths: List<(Text, PathItem)>,
+    /// What other parts refer to.
     pub components: Components,
+    /// What the operations are grouped under.
     pub tags: List<TagObject>,
 }
 
-/// What other parts refer to by names: responses and schemas.
+/// What other parts refer to by names (Components Object).
 #[derive(Drop)]
 pub struct Components {
+    /// Responses by names.
     pub responses: List<(Text, ResponseObject)>,
+    /// Schemas by names.
     pub schemas: List<(Text, Json)>,
 }
 

@@ -3,30 +3,40 @@ use crate::part::{Part, copy_option, option_json};
 use schema_values::{Json, List, Text};
 use std::alloc::{AllocError, Global};
 
-/// What an API is called, its version, and who stands behind it.
+/// What an API is called, its version, and who stands behind it (OpenAPI 3.0.3, Info Object).
 #[derive(Drop)]
 pub struct Info {
+    /// The API's name.
     pub title: Text,
+    /// What is said of it.
     pub description: Option<Text>,
     /// Where the terms of service are found.
     pub terms_of_service: Option<Text>,
+    /// Whom to ask about it.
     pub contact: Option<Contact>,
+    /// What it may be used under.
     pub license: Option<License>,
+    /// The version of the API, not of OpenAPI.
     pub version: Text,
 }
 
-/// Whom to ask about an API.
+/// Whom to ask about an API (OpenAPI 3.0.3, Contact Object).
 #[derive(Drop)]
 pub struct Contact {
+    /// Their name.
     pub name: Option<Text>,
+    /// Where more is found.
     pub url: Option<Text>,
+    /// Where to write to.
     pub email: Option<Text>,
 }
 
-/// What an API may be used under.
+/// What an API may be used under (OpenAPI 3.0.3, License Object).
 #[derive(Drop)]
 pub struct License {
+    /// The licence's name.
     pub name: Text,
+    /// Where its text is found.
     pub url: Option<Text>,
 }
 

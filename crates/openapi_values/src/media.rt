@@ -6,25 +6,32 @@ use crate::part::{Part, copy_map, copy_option, map_unless_empty, option_json};
 use schema_values::{Json, List, Text};
 use std::alloc::{AllocError, Global};
 
-/// A body of one media type.
+/// A body of one media type (OpenAPI 3.0.3, Media Type Object).
 #[derive(Drop)]
 pub struct MediaType {
+    /// The schema of the body.
     pub schema: Json,
 }
 
-/// The body of a request, by media types.
+/// The body of a request (OpenAPI 3.0.3, Request Body Object).
 #[derive(Drop)]
 pub struct RequestBody {
+    /// The body by its media types.
     pub content: List<(Text, MediaType)>,
+    /// Whether a request must have a body.
     pub required: bool,
 }
 
-/// A response: its description, its headers by names and its bodies by media types, or a reference alone.
+/// A response, or a reference to one (OpenAPI 3.0.3, Response Object and Reference Object).
 #[derive(Drop)]
 pub struct ResponseObject {
+    /// What is said of it.
     pub description: Option<Text>,
+    /// Its headers, by names.
     pub headers: List<(Text, HeaderObject)>,
+    /// Its body, by media types.
     pub content: List<(Text, MediaType)>,
+    /// The reference, which then is written alone.
     pub reference: Option<Text>,
 }
 

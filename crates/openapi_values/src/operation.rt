@@ -11,23 +11,31 @@ use crate::part::{
 use schema_values::{Json, List, Text};
 use std::alloc::{AllocError, Global};
 
-/// An operation: a method on a path.
+/// A method on a path (OpenAPI 3.0.3, Operation Object).
 #[derive(Drop)]
 pub struct Operation {
+    /// The names of its tags.
     pub tags: List<Text>,
+    /// What is said of it in short.
     pub summary: Option<Text>,
+    /// What is said of it.
     pub description: Option<Text>,
+    /// Its name in the API.
     pub operation_id: Text,
+    /// What a request has beside its body.
     pub parameters: List<Parameter>,
+    /// The body that a request has.
     pub request_body: Option<RequestBody>,
+    /// Its responses, by status codes, `4XX`, `5XX` or `default`.
     pub responses: List<(Text, ResponseObject)>,
+    /// Whether it may be gone later.
     pub deprecated: bool,
     /// Of an operation that answers in pages: the names that its first request must have. The extension
     /// `x-dropshot-pagination`.
     pub pagination: Option<List<Text>>,
 }
 
-/// The operations of a path, by methods.
+/// The operations of a path, by methods (OpenAPI 3.0.3, Path Item Object).
 #[derive(Drop)]
 pub struct PathItem {
     pub get: Option<Operation>,

@@ -3,24 +3,31 @@ use crate::part::{Part, copy_option, option_json};
 use schema_values::{Json, List, Text};
 use std::alloc::{AllocError, Global};
 
-/// A part of a request beside its body: where it stands, its name, and the schema of its text.
+/// A part of a request beside its body (OpenAPI 3.0.3, Parameter Object).
 #[derive(Drop)]
 pub struct Parameter {
     /// `path`, `query` or `header`: the member `in`.
     pub location: Text,
+    /// Its name.
     pub name: Text,
+    /// What is said of it.
     pub description: Option<Text>,
+    /// Whether a request must have it.
     pub required: bool,
+    /// The schema of its text.
     pub schema: Json,
 }
 
-/// A header of a response. Its name stands beside it.
+/// A header of a response (OpenAPI 3.0.3, Header Object). Its name stands beside it.
 #[derive(Drop)]
 pub struct HeaderObject {
+    /// What is said of it.
     pub description: Option<Text>,
     /// How its value is written, `simple`.
     pub style: Text,
+    /// Whether a response must have it.
     pub required: bool,
+    /// The schema of its text.
     pub schema: Json,
 }
 

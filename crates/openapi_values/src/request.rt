@@ -3,10 +3,12 @@ ghost use Rattle.std.specs.Prelude.{◌≡◌, IfOk};
 use schema_values::{List, Text, VariableSet, copy_variables};
 use std::alloc::{AllocError, Global};
 
-/// A header line: its name, and the bytes of its value.
+/// A header line (RFC 9110, section 5).
 #[derive(Drop)]
 pub struct HeaderLine {
+    /// Its name, in any case.
     pub name: Text,
+    /// The bytes of its value.
     pub value: List<u8>,
 }
 

@@ -3,18 +3,23 @@ use crate::part::{Part, copy_option, option_json};
 use schema_values::{Json, List, Text};
 use std::alloc::{AllocError, Global};
 
-/// What operations are grouped under.
+/// What operations are grouped under (OpenAPI 3.0.3, Tag Object).
 #[derive(Drop)]
 pub struct TagObject {
+    /// Its name.
     pub name: Text,
+    /// What is said of it.
     pub description: Option<Text>,
+    /// Where more is written of it.
     pub external_docs: Option<ExternalDocs>,
 }
 
-/// Where more is written.
+/// Where more is written (OpenAPI 3.0.3, External Documentation Object).
 #[derive(Drop)]
 pub struct ExternalDocs {
+    /// What is written there.
     pub description: Option<Text>,
+    /// Where it is found.
     pub url: Text,
 }
 

@@ -41,6 +41,7 @@ pub struct SchemaObject {
     pub write_only: bool,
     /// Whether null is a value too, whatever the instance type.
     pub nullable: bool,
+    /// The types that the value may have. Any type where it is absent.
     pub instance_type: Option<InstanceTypes>,
     /// The format's name, as `int64`.
     pub format: Option<Text>,
@@ -48,14 +49,20 @@ pub struct SchemaObject {
     pub enum_values: Option<List<Json>>,
     /// The only value, where it is given. OpenAPI 3.0.3 has no such part.
     pub const_value: Option<Json>,
+    /// Schemas of the same value.
     pub subschemas: Option<Subschemas>,
+    /// The bounds of a value that is a number.
     pub number: Option<NumberBounds>,
+    /// The length of a value that is a text.
     pub string: Option<LengthBounds>,
+    /// The items of a value that is an array.
     pub array: Option<ArrayParts>,
+    /// The members of a value that is an object.
     pub object: Option<ObjectParts>,
     /// The reference, as `#/components/schemas/NAME`.
     pub reference: Option<Text>,
-    /// Annotations of other names. Of them, those whose names begin with `x-` are written.
+    /// Annotations of other names. Of them, `example` and those whose names begin with `x-` are written
+    /// (OpenAPI 3.0.3, Schema Object and Specification Extensions).
     pub extensions: List<Member>,
 }
 
@@ -137,19 +144,24 @@ pub struct NumberBounds {
     pub exclusive_maximum: Option<i128>,
 }
 
-/// The least and the greatest number of characters of a text.
+/// The length of a text, in characters.
 #[derive(Drop)]
 pub struct LengthBounds {
+    /// The least number of characters.
     pub min: Option<u32>,
+    /// The greatest number of characters.
     pub max: Option<u32>,
 }
 
-/// The items of an array, and the least and the greatest number of them.
+/// The items of an array.
 #[derive(Drop)]
 #[cycle(schema)]
 pub struct ArrayParts {
+    /// What each item is. Any value where it is absent.
     pub items: Option<Items>,
+    /// The least number of items.
     pub min: Option<u32>,
+    /// The greatest number of items.
     pub max: Option<u32>,
 }
 
@@ -168,7 +180,9 @@ pub enum Items {
 #[derive(Drop)]
 #[cycle(schema)]
 pub struct ObjectParts {
+    /// The members that are named, with their schemas.
     pub properties: List<Property>,
+    /// The names of the members that must stand.
     pub required: List<Text>,
     /// The schema of the members that are no properties. Any value where it is absent.
     pub additional: Option<Schema>,
@@ -182,6 +196,8 @@ pub struct ObjectParts {
 #[derive(Drop)]
 #[cycle(schema)]
 pub struct Property {
+    /// The member's name.
     pub name: Text,
+    /// The schema of its values.
     pub schema: Schema,
 }
