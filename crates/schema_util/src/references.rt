@@ -10,13 +10,16 @@ ghost use Rattle.schema_util.specs.References.{follow, reason_of};
 use crate::form::Form;
 use crate::met::{Met, is_met};
 use schema_values::{Definitions, Schema};
+use thiserror::Error;
 
 /// Why a reference leads to no schema.
-#[derive(Clone, Copy, Debug, PartialEq, Eq)]
+#[derive(Clone, Copy, Debug, PartialEq, Eq, Error)]
 pub enum ResolveError<'a> {
     /// No definition has this name. The whole reference where it is none of a definition.
+    #[error("no definition {0}")]
     Dangling(&'a str),
     /// This name comes again on the way.
+    #[error("{0} comes again")]
     Cycle(&'a str),
 }
 

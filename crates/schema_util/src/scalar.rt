@@ -17,18 +17,23 @@ use crate::references::{ResolveError, follow, resolve};
 use schema_values::{
     ArrayParts, Definitions, InstanceType, InstanceTypes, Items, Schema, SchemaObject, Subschemas,
 };
+use thiserror::Error;
 
 /// Why a schema is not what is asked for: the first cause, from left to right, inner schemas where they
 /// stand.
-#[derive(Clone, Copy, Debug, PartialEq, Eq)]
+#[derive(Clone, Copy, Debug, PartialEq, Eq, Error)]
 pub enum ScalarError<'a> {
     /// A schema is not that of a scalar value.
+    #[error("no scalar value")]
     NotScalar,
     /// A schema is not that of texts.
+    #[error("no list of texts")]
     NotStringList,
     /// No definition has this name. The whole reference where it is none of a definition.
+    #[error("no definition {0}")]
     Dangling(&'a str),
     /// This name comes again on the way along references, `all_of`, `any_of` and `one_of`.
+    #[error("{0} comes again")]
     Cycle(&'a str),
 }
 

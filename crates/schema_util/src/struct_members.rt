@@ -19,6 +19,7 @@ use crate::met::Met;
 use crate::references::{ResolveError, follow};
 use schema_values::{Definitions, List, ObjectParts, Property, Schema, Subschemas, Text, in_order};
 use std::alloc::{AllocError, Global};
+use thiserror::Error;
 
 /// A member of a struct.
 #[derive(Drop)]
@@ -49,19 +50,25 @@ impl StructMember {
 }
 
 /// Why a schema is that of no struct.
-#[derive(Debug, Drop)]
+#[derive(Debug, Drop, Error)]
 pub enum Schema2StructError {
     /// No definition has this name. The whole reference where it is none of a definition.
+    #[error("no definition {0}")]
     Dangling(Text),
     /// This name comes again on the way along references, `any_of` and `all_of`.
+    #[error("{0} comes again")]
     Cycle(Text),
     /// A struct has other subschemas than one `any_of` or an `all_of` of one.
+    #[error("a struct with subschemas that are none of its own")]
     InvalidSubschema,
     /// The schema is that of an enumeration.
+    #[error("an enumeration")]
     InvalidEnum,
     /// The schema is that of no object.
+    #[error("no object")]
     InvalidType,
     /// There was not enough memory.
+    #[error("out of memory")]
     OutOfMemory,
 }
 
@@ -166,10 +173,8 @@ fn add_struct(
             add_properties(alloc, members, parts, required)?;
             add_each(alloc, members, schemas, definitions, may_require, met)
         }
-        Form::Combination(_) => Err(Schema2StructError::InvalidEnum),
-        Form::Values => Err(Schema2StructError::InvalidEnum),
-        Form::Bare => Err(Schema2StructError::InvalidType),
-        Form::Other => Err(Schema2StructError::InvalidType),
+        Form::Combination(_) | Form::Values => Err(Schema2StructError::InvalidEnum),
+        Form::Bare | Form::Other => Err(Schema2StructError::InvalidType),
     }
 }
 
