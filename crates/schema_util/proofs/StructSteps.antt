@@ -1,14 +1,17 @@
 -- The steps by which a struct's members are given.
-use Rattle.std.proofs.Common.{◌≡◌, ◌++◌, ◌<◌, ◌≤◌, ℕ, Bool, List, [], ◌∷◌, Option, Some, None, Result, Ok, Err, IfSome, drop, get_or, length, ◌+◌, add-one, refl, sym, ◌∙◌, ap, subst, append_assoc, append-nil}
+use Rattle.std.proofs.Common.{◌≡◌, ◌++◌, ◌<◌, ◌≤◌, ℕ, Bool, List, [], ◌∷◌, Option, Some, None, Result, Ok, Err, IfSome, drop, get_or, length, ◌+◌, add-one, true, ◌⊎◌, inl, inr, refl, sym, ◌∙◌, ap, subst, append_assoc, append-nil}
 use Rattle.std.proofs.Math.ListN.{drop_of_length-le}
+use Rattle.std.specs.Borrow.{Bor}
 use Rattle.std.specs.Str.{encode_utf8_all}
 use Rattle.schema_values.specs.declared.schema.ObjectParts.{ObjectParts}
 use Rattle.schema_values.specs.declared.schema.Schema.{Schema, Object}
 use Rattle.schema_values.specs.declared.schema.SchemaObject.{SchemaObject}
 use Rattle.schema_values.specs.declared.schema.Subschemas.{Subschemas}
-use Rattle.schema_util.specs.Forms.{SchemaForm, schema_form, form_of, reference, struct}
+use Rattle.schema_util.specs.declared.form.Form.{Form}
+use Rattle.schema_util.specs.declared.form.Form.TheVariants as code
+use Rattle.schema_util.specs.Forms.{SchemaForm, schema_form, form_of, form_value, reference, struct}
 use Rattle.schema_util.specs.References.{Names, reference_of, reference_in, follow}
-use Rattle.schema_util.specs.StructMembers.{flattened, behind, own_members, Misfit, Gives, goes_on, adds, GiveAll, none_left, stops, then_rest, HasGiven, HaveGiven}
+use Rattle.schema_util.specs.StructMembers.{flattened, behind, own_members, is_enumeration, is_no_object, Misfit, Gives, goes_on, adds, GiveAll, none_left, stops, then_rest, HasGiven, HaveGiven}
 use Rattle.schema_util.specs.declared.struct_members.StructMember.{StructMember}
 use Rattle.schema_util.proofs.Levels.{form_of_object}
 use Rattle.schema_util.proofs.ScalarSteps.{next_member}
@@ -20,6 +23,16 @@ behind_twice own more (Err why) = refl
 -- the form of a schema that the code has looked into
 pub formed : (s : Schema) (o got : SchemaObject) (form : SchemaForm) → s ≡ Object o → got ≡ o → form ≡ form_of got → schema_form s ≡ form
 formed s o got form is same seen = ap schema_form is ∙ form_of_object o ∙ ap form_of (sym same) ∙ sym seen
+
+-- values, or subschemas alone, are an enumeration
+pub enumerated : (form : Form) → ((subschemas : Bor Subschemas) × (form ≡ code.Combination subschemas)) ⊎ (form ≡ code.Values) → is_enumeration (form_value form) ≡ true
+enumerated form (inl found) = ap (λ f. is_enumeration (form_value f)) found.1
+enumerated form (inr is) = ap (λ f. is_enumeration (form_value f)) is
+
+-- a schema without parts, or with others, is that of no object
+pub without_object : (form : Form) → (form ≡ code.Bare) ⊎ (form ≡ code.Other) → is_no_object (form_value form) ≡ true
+without_object form (inl is) = ap (λ f. is_no_object (form_value f)) is
+without_object form (inr is) = ap (λ f. is_no_object (form_value f)) is
 
 pub refers_to : (s : Schema) (r text : List ℕ) → schema_form s ≡ reference r → encode_utf8_all r ≡ text → reference_of s ≡ Some text
 refers_to s r text form same = ap reference_in form ∙ ap Some same

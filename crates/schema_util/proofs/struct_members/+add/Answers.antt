@@ -13,7 +13,7 @@ use Rattle.schema_util.proofs.Chains.{met_longer}
 use Rattle.schema_util.proofs.Levels.{form_of_truth}
 use Rattle.schema_util.proofs.Sizes.{falls}
 use Rattle.schema_util.proofs.Steps.{followed}
-use Rattle.schema_util.proofs.StructSteps.{formed, refers_to, reference_given, reference_refused, struct_given, struct_refused, one_more, one_stops, all_given}
+use Rattle.schema_util.proofs.StructSteps.{formed, enumerated, without_object, refers_to, reference_given, reference_refused, struct_given, struct_refused, one_more, one_stops, all_given}
 use Rattle.schema_util.proofs.struct_members.+add.Goals as goal
 
 pub add_each-returns-in_err-add_struct-clause-refused : goal.add_each-returns-in_err-add_struct-clause-refused
@@ -89,16 +89,8 @@ add_struct-returns-in_ok-add_properties-in-Struct-clause-refused t c =
 
 pub add_struct-returns-in-Combination-clause-refused : goal.add_struct-returns-in-Combination-clause-refused
 add_struct-returns-in-Combination-clause-refused t c =
-    of_enumeration (ap is_enumeration (formed c.args.schema.now c.in-Object.object c.get.result.now _ c.in-Object.is c.get.ensures c.in-Combination.ensures))
-
-pub add_struct-returns-in-Values-clause-refused : goal.add_struct-returns-in-Values-clause-refused
-add_struct-returns-in-Values-clause-refused t c =
-    of_enumeration (ap is_enumeration (formed c.args.schema.now c.in-Object.object c.get.result.now _ c.in-Object.is c.get.ensures c.in-Values.ensures))
+    of_enumeration (ap is_enumeration (formed c.args.schema.now c.in-Object.object c.get.result.now _ c.in-Object.is c.get.ensures c.of.ensures) ∙ enumerated c.of.result c.in-Combination.is)
 
 pub add_struct-returns-in-Bare-clause-refused : goal.add_struct-returns-in-Bare-clause-refused
 add_struct-returns-in-Bare-clause-refused t c =
-    of_no_object (ap is_no_object (formed c.args.schema.now c.in-Object.object c.get.result.now _ c.in-Object.is c.get.ensures c.in-Bare.ensures))
-
-pub add_struct-returns-in-Other-clause-refused : goal.add_struct-returns-in-Other-clause-refused
-add_struct-returns-in-Other-clause-refused t c =
-    of_no_object (ap is_no_object (formed c.args.schema.now c.in-Object.object c.get.result.now _ c.in-Object.is c.get.ensures c.in-Other.ensures))
+    of_no_object (ap is_no_object (formed c.args.schema.now c.in-Object.object c.get.result.now _ c.in-Object.is c.get.ensures c.of.ensures) ∙ without_object c.of.result c.in-Bare.is)
