@@ -1,6 +1,6 @@
 //! What has names, in the order of its names.
 
-ghost use Rattle.std.specs.Prelude.{◌≡◌, map, IfOk, OnOk};
+ghost use Rattle.std.specs.Prelude.{◌≡◌, map, IfOk, OnErr, OnOk};
 ghost use Rattle.schema_values.specs.Order.{sorted_by};
 
 use crate::json_value::Member;
@@ -57,9 +57,11 @@ impl<T: HasName> HasName for &T {
     }
 }
 
-/// Puts items in the order of their names. Those of one name keep their order.
+/// Puts items in the order of their names. Those of one name keep their order. Fails only for want of memory,
+/// and then changes nothing.
 pub fn sort_by_name<T: HasName + Drop>(items: &mut Vec<T>) -> Result<(), AllocError>
-    ensures { OnOk result (items.new.items ≡ sorted_by T.name_of items.old.items) }
+    ensures sorted { OnOk result (items.new.items ≡ sorted_by T.name_of items.old.items) }
+    ensures err { OnErr result (items.new.items ≡ items.old.items) }
 {
     items.sort_by(|first, second| first.name().cmp(second.name()))
 }
