@@ -25,7 +25,7 @@ use Rattle.openapi_values.specs.Smaller.{smaller_admits as written_smaller}
 use Rattle.openapi_values.proofs.Steps.{admits-zero as written-zero, admits-suc as written-suc}
 use Rattle.schema_meaning.specs.Accepted.{IsEmpty, SubschemasAreRead, IsAccepted}
 use Rattle.schema_meaning.specs.Asked.{parts_hold}
-use Rattle.schema_meaning.specs.Definitions.{Definitions, schema_named, name_referred}
+use Rattle.schema_meaning.specs.Definitions.{NamedSchemas, schema_named, name_referred}
 use Rattle.schema_meaning.specs.Forms.{SchemaLevel, level_by_form}
 use Rattle.schema_meaning.specs.Meaning.{object_admits, admits_within}
 use Rattle.schema_meaning.specs.Reached.{combined_schemas, if_any, smaller_schemas, stands_alone, beside_in, below_in, beside, below, LeadsTo, subschema, referred, IsReached, same_value, smaller_value}
@@ -69,14 +69,14 @@ truth_alone doc q (suc n) j b =
     written-suc doc q j n (Truth b)
     ∙ ap (λ (x : Level Json). is_some_and (as_object x) (members_admit doc (written_smaller doc q) (written_within doc q j n) j (out-Json j))) (json.outs-Bool b)
 
-truth_meant : (definitions : Definitions) (r n : ℕ) (j : Json) (s : Schema) (b : Bool) → 1 ≤ n → out-Schema s ≡ Schema-F.Bool b → admits_within definitions r j n s ≡ b
+truth_meant : (definitions : NamedSchemas) (r n : ℕ) (j : Json) (s : Schema) (b : Bool) → 1 ≤ n → out-Schema s ≡ Schema-F.Bool b → admits_within definitions r j n s ≡ b
 truth_meant definitions r zero j s b le e = absurd (omega (arith, le))
 truth_meant definitions r (suc n) j s b le e =
     admits-suc definitions r j n s
     ∙ ap (λ (z : SchemaLevel). level_by_form (λ b. b) (object_admits definitions (smaller_admits definitions r) (admits_within definitions r j n) j (out-Json j)) z) e
 
 -- the empty schema admits all
-empty_meant : (definitions : Definitions) (r n : ℕ) (j : Json) (s : Schema) → 1 ≤ n → IsEmpty s → admits_within definitions r j n s ≡ true
+empty_meant : (definitions : NamedSchemas) (r n : ℕ) (j : Json) (s : Schema) → 1 ≤ n → IsEmpty s → admits_within definitions r j n s ≡ true
 empty_meant definitions r n j s le (inl e) = truth_meant definitions r n j s true le e
 empty_meant definitions r zero j s le (inr (o, e, f)) = absurd (omega (arith, le))
 empty_meant definitions r (suc n) j s le (inr (o, e, f)) =
@@ -98,7 +98,7 @@ empty_meant definitions r (suc n) j s le (inr (o, e, f)) =
 of_some : {A : Type 0} (P : A → Type 0) (o : Option A) (x : A) → o ≡ Some x → IfSome o P → P x
 of_some {A} P o x e h = subst (λ (o : Option A). IfSome o P) e h
 
-some_left : (definitions : Definitions) (n : ℕ) (s : Schema) → Rests definitions n s → 1 ≤ n
+some_left : (definitions : NamedSchemas) (n : ℕ) (s : Schema) → Rests definitions n s → 1 ≤ n
 unfolding Rests
 some_left definitions zero s h = absurd h
 some_left definitions (suc n) s h = omega arith
@@ -114,7 +114,7 @@ beside-is s o e f g = ap (λ (z : SchemaLevel). level_by_form (λ b. []) beside_
 below-is : (s : Schema) (o : SchemaObject) → out-Schema s ≡ Schema-F.Object o → (out-SchemaObject o).reference ≡ None → without_values (out-SchemaObject o).enum_values ≡ false → below s ≡ smaller_schemas (out-SchemaObject o).instance_type (out-SchemaObject o)
 below-is s o e f g = ap (λ (z : SchemaLevel). level_by_form (λ b. []) below_in z) e ∙ inside_is (out-SchemaObject o) [] (smaller_schemas (out-SchemaObject o).instance_type (out-SchemaObject o)) f g
 
-module _ (definitions : Definitions) (whole : Schema) (doc : Json) (accepted : IsAccepted definitions whole) (defines : DefinesReached doc definitions whole) (q r : ℕ)
+module _ (definitions : NamedSchemas) (whole : Schema) (doc : Json) (accepted : IsAccepted definitions whole) (defines : DefinesReached doc definitions whole) (q r : ℕ)
     (rests_written : (s : Schema) → IsReached definitions whole s → Rests definitions q s) (rests : (s : Schema) → IsReached definitions whole s → Rests definitions r s) (some : 1 ≤ r) where
   -- at a value, each schema that is reached admits what it is written as does
   abbrev AgreesAt : Json → ℕ → Schema → Type 0

@@ -4,8 +4,8 @@ use Rattle.std.specs.Prelude.{Contains}
 use Rattle.std.proofs.Math.Nat.{min-le_right, min-eq_left}
 use Rattle.schema_values.specs.declared.schema.Schema.{Schema}
 use Rattle.openapi_values.specs.Find.{value_at}
-use Rattle.schema_meaning.specs.Definitions.{Definitions, schema_named, name_referred}
-use Rattle.schema_meaning.specs.Reached.{beside, below, LeadsTo, subschema, referred, ComesTo, at_once, IsReached, itself, same_value, smaller_value}
+use Rattle.schema_meaning.specs.Definitions.{NamedSchemas, schema_named, name_referred}
+use Rattle.schema_meaning.specs.Reached.{beside, below, LeadsTo, subschema, referred, LeadsOnTo, at_once, IsReached, itself, same_value, smaller_value}
 use Rattle.schema_meaning.proofs.Among.{map_alike, one_fits, sums_fit, others_fit}
 use Rattle.schema_meaning.proofs.Chains.{Rests, go_on}
 use Rattle.schema_meaning.proofs.Sizes.{Sizes, same_or_not, without, summed, taken, sums_below, named_without}
@@ -15,11 +15,11 @@ abbrev pub HasRoomFor : Sizes → List ℕ → ℕ → Type 0
 HasRoomFor sizes name n = (k : ℕ) × (value_at name sizes ≡ Some k) × (n ≤ k)
 
 -- A size of each schema that counts for those inside it, and under the names of the definitions no less than their sizes.
-pub record Sized (definitions : Definitions) (whole : Schema) (size : Schema → ℕ) (sizes : Sizes) : Type 0 where
+pub record Sized (definitions : NamedSchemas) (whole : Schema) (size : Schema → ℕ) (sizes : Sizes) : Type 0 where
   pub counts : (s : Schema) → IsReached definitions whole s → suc (sum (map size (beside s)) + sum (map size (below s))) ≤ size s
   pub named : (r : Schema) (name : List ℕ) (y : Schema) → IsReached definitions whole r → name_referred r ≡ Some name → schema_named definitions name ≡ Some y → HasRoomFor sizes name (size y)
 
-module _ (definitions : Definitions) (whole : Schema) (size : Schema → ℕ) (sizes : Sizes) (sized : Sized definitions whole size sizes) (no_way_back : (s : Schema) → IsReached definitions whole s → ComesTo definitions s s → ⊥) where
+module _ (definitions : NamedSchemas) (whole : Schema) (size : Schema → ℕ) (sizes : Sizes) (sized : Sized definitions whole size sizes) (no_way_back : (s : Schema) → IsReached definitions whole s → LeadsOnTo definitions s s → ⊥) where
   abbrev Reached : Schema → Type 0
   Reached = IsReached definitions whole
 
@@ -68,7 +68,7 @@ module _ (definitions : Definitions) (whole : Schema) (size : Schema → ℕ) (s
 
   -- each step from `s` is the end of a chain from `y`
   Leads : Schema → Schema → Type 0
-  Leads y s = (t : Schema) → LeadsTo definitions s t → ComesTo definitions y t
+  Leads y s = (t : Schema) → LeadsTo definitions s t → LeadsOnTo definitions y t
 
   leads_on : (y s x : Schema) → LeadsTo definitions s x → Leads y s → Leads y x
   unfolding Leads

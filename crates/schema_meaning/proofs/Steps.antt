@@ -22,13 +22,13 @@ use Rattle.openapi_values.specs.Levels.{Level, is_null, has_member}
 use Rattle.openapi_values.specs.Options.{is_some_and, is_none_or}
 use Rattle.openapi_values.proofs.Steps.{has_changed, all_same}
 use Rattle.schema_meaning.specs.Asked.{count_holds, places_hold, items_hold, array_holds, member_holds, object_holds, is_of_types, is_null_form, subschemas_hold, parts_hold}
-use Rattle.schema_meaning.specs.Definitions.{Definitions, schema_named}
+use Rattle.schema_meaning.specs.Definitions.{NamedSchemas, schema_named}
 use Rattle.openapi_values.specs.Lookup.{name_in}
 use Rattle.schema_meaning.specs.Forms.{SchemaLevel, ItemsLevel, level_by_form, items_by_form}
 use Rattle.schema_meaning.specs.Meaning.{object_admits, schema_admits, Admission, admitted_beside, admits_at, admits_within}
 
 -- whether a smaller value is admitted by a schema, with as many steps as at any value
-abbrev pub smaller_admits : Definitions → ℕ → Json → Schema → Bool
+abbrev pub smaller_admits : NamedSchemas → ℕ → Json → Schema → Bool
 smaller_admits definitions room value schema = admits_within definitions room value room schema
 
 none_alike : {X : Type 0} (p q : X → Bool) → ((x : X) → p x ≡ q x) → (o : Option X) → is_none_or o p ≡ is_none_or o q
@@ -84,11 +84,11 @@ module _ {X : Type 0} (f : Json → X) (smaller : Beside X → Schema → Bool) 
     same_parts (Json-F.List xs) parts = ap (λ b. rest (Json-F.List xs) parts b) (none_alike _ _ (same_array xs) parts.array)
     same_parts (Json-F.Object ms) parts = ap (λ b. rest (Json-F.Object ms) parts b) (none_alike _ _ (same_object ms) parts.object)
 
-within_is : (definitions : Definitions) (room : ℕ) (j : Json) → admits_within definitions room j ≡ admits_at definitions room j (level_with (admits_within definitions room) (out-Json j))
+within_is : (definitions : NamedSchemas) (room : ℕ) (j : Json) → admits_within definitions room j ≡ admits_at definitions room j (level_with (admits_within definitions room) (out-Json j))
 unfolding admits_within
 within_is definitions room j = made-out (admits_at definitions room) j
 
-same_schema : {X : Type 0} (definitions : Definitions) (f : Json → X) (smaller : Beside X → Schema → Bool) (next : Schema → Bool) (json : Json) (x : Level Json) (s : Schema)
+same_schema : {X : Type 0} (definitions : NamedSchemas) (f : Json → X) (smaller : Beside X → Schema → Bool) (next : Schema → Bool) (json : Json) (x : Level Json) (s : Schema)
     → schema_admits definitions smaller next json (level_with f x) s ≡ schema_admits definitions (λ y. smaller (beside_with f y)) next json x s
 same_schema definitions f smaller next json x s = by_level (out-Schema s)
   where
@@ -98,7 +98,7 @@ same_schema definitions f smaller next json x s = by_level (out-Schema s)
         ap (option_map_or (λ text. is_some_and (option_and_then (schema_named definitions) (name_in (Some text))) next) (out-SchemaObject o).reference) (same_parts f smaller next json x (out-SchemaObject o))
 
 -- one step of a schema
-pub admits-suc : (definitions : Definitions) (room : ℕ) (j : Json) (n : ℕ) (s : Schema)
+pub admits-suc : (definitions : NamedSchemas) (room : ℕ) (j : Json) (n : ℕ) (s : Schema)
     → admits_within definitions room j (suc n) s ≡ schema_admits definitions (smaller_admits definitions room) (admits_within definitions room j n) j (out-Json j) s
 unfolding admits_at
 admits-suc definitions room j n s =

@@ -9,10 +9,10 @@ use Rattle.openapi_values.specs.Room.{values, room as written_room}
 use Rattle.openapi_values.specs.SchemaJson.{schema_json}
 use Rattle.schema_meaning.specs.Accepted.{IsAccepted}
 use Rattle.schema_meaning.specs.Count.{schemas, room}
-use Rattle.schema_meaning.specs.Definitions.{Definitions, schema_named}
+use Rattle.schema_meaning.specs.Definitions.{NamedSchemas, schema_named}
 use Rattle.schema_meaning.specs.Meaning.{admits_within, SchemaAdmits}
 use Rattle.schema_meaning.specs.Reached.{IsReached, itself}
-use Rattle.schema_meaning.specs.Steps.{StepsSuffice, MeaningStepsSuffice}
+use Rattle.schema_meaning.specs.Steps.{WrittenStepsSuffice, MeaningStepsSuffice}
 use Rattle.schema_meaning.specs.Written.{DefinesReached}
 use Rattle.schema_meaning.proofs.Agreement.{agree}
 use Rattle.schema_meaning.proofs.Bounds.{Sized, each_rests}
@@ -25,10 +25,10 @@ use Rattle.schema_meaning.proofs.WrittenSizes.{written_size, written_counts, tit
 use Rattle.std.proofs.lemmas.List.Sums.{sum_by-cons}
 
 -- the number of schemas in each definition, under its name
-abbrev sizes_of : Definitions → Sizes
+abbrev sizes_of : NamedSchemas → Sizes
 sizes_of = map (λ d. (d.0, schemas d.1))
 
-count_named : (name : List ℕ) (ds : Definitions) → value_at name (sizes_of ds) ≡ option_map schemas (schema_named ds name)
+count_named : (name : List ℕ) (ds : NamedSchemas) → value_at name (sizes_of ds) ≡ option_map schemas (schema_named ds name)
 count_named name [] = refl
 count_named name (d ∷ ds) = by_name (bytes_eq name d.0) (count_named name ds)
   where
@@ -37,12 +37,12 @@ count_named name (d ∷ ds) = by_name (bytes_eq name d.0) (count_named name ds)
     by_name true later = refl
     by_name false later = later
 
-counts_summed : (ds : Definitions) → summed (λ name k. k) (sizes_of ds) ≡ sum (map (λ d. schemas d.1) ds)
+counts_summed : (ds : NamedSchemas) → summed (λ name k. k) (sizes_of ds) ≡ sum (map (λ d. schemas d.1) ds)
 counts_summed [] = refl
 counts_summed (d ∷ ds) =
     omega (arith, counts_summed ds, sum_by-cons (λ n. n) (schemas d.1) (map (λ (e : List ℕ × ℕ). e.1) (sizes_of ds)), sum_by-cons (λ n. n) (schemas d.1) (map (λ (d : List ℕ × Schema). schemas d.1) ds))
 
-module _ (doc : Json) (definitions : Definitions) (whole : Schema) (title : Option (List ℕ)) (accepted : IsAccepted definitions whole) (defines : DefinesReached doc definitions whole) where
+module _ (doc : Json) (definitions : NamedSchemas) (whole : Schema) (title : Option (List ℕ)) (accepted : IsAccepted definitions whole) (defines : DefinesReached doc definitions whole) where
   abbrev written : Json
   written = schema_json title whole
 
@@ -78,11 +78,11 @@ module _ (doc : Json) (definitions : Definitions) (whole : Schema) (title : Opti
       (λ h. subst IsTrue is h, λ h. subst IsTrue (sym is) h)
 
   -- from the room on the steps are never spent
-  pub written_steps : StepsSuffice doc written
+  pub written_steps : WrittenStepsSuffice doc written
   written_steps json steps enough =
       same steps (room definitions whole) enough (omega arith) json ∙ sym (same (written_room doc written) (room definitions whole) (omega arith) (omega arith) json)
 
-pub meant_steps : (definitions : Definitions) (whole : Schema) → IsAccepted definitions whole → MeaningStepsSuffice definitions whole
+pub meant_steps : (definitions : NamedSchemas) (whole : Schema) → IsAccepted definitions whole → MeaningStepsSuffice definitions whole
 meant_steps definitions whole accepted json steps enough =
     let doc = document_of definitions in
     let q = written_room doc (schema_json None whole) in

@@ -8,8 +8,8 @@ use Rattle.schema_values.specs.declared.schema.SchemaObject.{SchemaObject, out-S
 use Rattle.schema_values.specs.declared.schema.Subschemas.{Subschemas}
 use Rattle.schema_values.specs.Parts.{Parts, no_parts}
 use Rattle.openapi_values.specs.Refusal.{refusal_of}
-use Rattle.schema_meaning.specs.Definitions.{Definitions}
-use Rattle.schema_meaning.specs.Reached.{ComesTo, IsReached}
+use Rattle.schema_meaning.specs.Definitions.{NamedSchemas}
+use Rattle.schema_meaning.specs.Reached.{LeadsOnTo, IsReached}
 
 -- the schema that admits every value and says nothing: the truth value true, or an object without any part
 abbrev pub IsEmpty : Schema → Type 0
@@ -47,11 +47,11 @@ abbrev pub PartsAreRead : Schema → Type 0
 PartsAreRead schema = (object : SchemaObject) → out-Schema schema ≡ Schema-F.Object object → (out-SchemaObject object).reference ≡ None → AreRead (out-SchemaObject object)
 
 -- a schema is not refused, its parts are read, and no chain of references and subschemas comes back to it
-pub record IsReadable (definitions : Definitions) (schema : Schema) : Type 0 where
+pub record IsReadable (definitions : NamedSchemas) (schema : Schema) : Type 0 where
   pub not_refused : refusal_of schema ≡ None
   pub parts_read : PartsAreRead schema
-  pub no_way_back : ComesTo definitions schema schema → ⊥
+  pub no_way_back : LeadsOnTo definitions schema schema → ⊥
 
 -- the accepted subset: each schema that is reached, the schema itself among them, is readable
-abbrev pub IsAccepted : Definitions → Schema → Type 0
+abbrev pub IsAccepted : NamedSchemas → Schema → Type 0
 IsAccepted definitions whole = (schema : Schema) → IsReached definitions whole schema → IsReadable definitions schema

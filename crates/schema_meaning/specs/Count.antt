@@ -8,7 +8,7 @@ use Rattle.schema_values.specs.declared.schema.Property.{Property-F}
 use Rattle.schema_values.specs.declared.schema.Schema.{Schema, Schema-F, fold-Schema}
 use Rattle.schema_values.specs.declared.schema.SchemaObject.{SchemaObject-F}
 use Rattle.schema_values.specs.declared.schema.Subschemas.{Subschemas-F}
-use Rattle.schema_meaning.specs.Definitions.{Definitions}
+use Rattle.schema_meaning.specs.Definitions.{NamedSchemas}
 
 -- one level of each type, where each smaller part stands as the number of schemas in it
 abbrev pub Counted : ((A B C D E F G : Type 0) → Type 0) → Type 0
@@ -44,5 +44,5 @@ unfoldable pub schemas : Schema → ℕ
 schemas = fold-Schema ℕ ℕ ℕ ℕ ℕ ℕ ℕ items_step schema_step array_step object_parts_step property_step object_step subschemas_step
 
 -- the steps at each value, for definitions and a schema
-abbrev pub room : Definitions → Schema → ℕ
+abbrev pub room : NamedSchemas → Schema → ℕ
 room definitions schema = suc (sum (map (λ definition. schemas definition.1) definitions) + schemas schema)

@@ -7,11 +7,11 @@ use Rattle.openapi_values.specs.Lookup.{name_in}
 use Rattle.schema_meaning.specs.Forms.{by_form}
 
 -- schemas under their names
-abbrev pub Definitions : Type 0
-Definitions = List (List ℕ × Schema)
+abbrev pub NamedSchemas : Type 0
+NamedSchemas = List (List ℕ × Schema)
 
 -- the schema of a name, the first
-abbrev pub schema_named : Definitions → List ℕ → Option Schema
+abbrev pub schema_named : NamedSchemas → List ℕ → Option Schema
 schema_named definitions name = value_at name definitions
 
 -- the name that a schema refers to, where it is a reference to `#/components/schemas/NAME`

@@ -12,7 +12,7 @@ use Rattle.schema_values.specs.declared.schema.SchemaObject.{SchemaObject, out-S
 use Rattle.schema_values.specs.declared.schema.Subschemas.{Subschemas}
 use Rattle.schema_values.specs.Parts.{Parts}
 use Rattle.openapi_values.specs.SchemaJson.{without_values}
-use Rattle.schema_meaning.specs.Definitions.{Definitions, schema_named, name_referred}
+use Rattle.schema_meaning.specs.Definitions.{NamedSchemas, schema_named, name_referred}
 use Rattle.schema_meaning.specs.Forms.{by_form, by_items}
 
 -- a list of one schema or none
@@ -63,17 +63,17 @@ abbrev pub below : Schema → List Schema
 below = by_form (λ truth. []) below_in
 
 -- one step at the same value: to a subschema, or to the definition that a reference names
-pub data LeadsTo (definitions : Definitions) : Schema → Schema → Type 0 where
+pub data LeadsTo (definitions : NamedSchemas) : Schema → Schema → Type 0 where
   subschema : {schema : Schema} (next : Schema) → Contains (beside schema) next → LeadsTo definitions schema next
   referred : {schema : Schema} (name : List ℕ) (next : Schema) → name_referred schema ≡ Some name → schema_named definitions name ≡ Some next → LeadsTo definitions schema next
 
 -- a chain of such steps
-pub data ComesTo (definitions : Definitions) : Schema → Schema → Type 0 where
-  at_once : {schema : Schema} (next : Schema) → LeadsTo definitions schema next → ComesTo definitions schema next
-  through : {schema : Schema} (next last : Schema) → LeadsTo definitions schema next → ComesTo definitions next last → ComesTo definitions schema last
+pub data LeadsOnTo (definitions : NamedSchemas) : Schema → Schema → Type 0 where
+  at_once : {schema : Schema} (next : Schema) → LeadsTo definitions schema next → LeadsOnTo definitions schema next
+  through : {schema : Schema} (next last : Schema) → LeadsTo definitions schema next → LeadsOnTo definitions next last → LeadsOnTo definitions schema last
 
 -- the schema itself, and what it leads to at the same value or at smaller ones
-pub data IsReached (definitions : Definitions) (whole : Schema) : Schema → Type 0 where
+pub data IsReached (definitions : NamedSchemas) (whole : Schema) : Schema → Type 0 where
   itself : IsReached definitions whole whole
   same_value : (schema next : Schema) → IsReached definitions whole schema → LeadsTo definitions schema next → IsReached definitions whole next
   smaller_value : (schema next : Schema) → IsReached definitions whole schema → Contains (below schema) next → IsReached definitions whole next

@@ -4,9 +4,9 @@ ghost use Rattle.schema_values.specs.declared.schema.Schema.{Schema as SchemaVal
 ghost use Rattle.openapi_values.specs.JsonAdmits.{JsonAdmits};
 ghost use Rattle.openapi_values.specs.SchemaJson.{schema_json};
 ghost use Rattle.schema_meaning.specs.Accepted.{IsAccepted};
-ghost use Rattle.schema_meaning.specs.Definitions.{Definitions};
+ghost use Rattle.schema_meaning.specs.Definitions.{NamedSchemas};
 ghost use Rattle.schema_meaning.specs.Meaning.{SchemaAdmits};
-ghost use Rattle.schema_meaning.specs.Steps.{StepsSuffice, MeaningStepsSuffice};
+ghost use Rattle.schema_meaning.specs.Steps.{WrittenStepsSuffice, MeaningStepsSuffice};
 ghost use Rattle.schema_meaning.specs.Written.{DefinesReached};
 
 /// An accepted schema means the same as what `j2oas_schema` writes for it, under any title: in a document
@@ -15,7 +15,7 @@ ghost use Rattle.schema_meaning.specs.Written.{DefinesReached};
 /// read, and that the document has nothing under a name without a definition, since what stood there would
 /// be read as one.
 pub fn schemas_agree()
-    ensures { (doc : JsonValue) (definitions : Definitions) (schema : SchemaValue) (title : Option (List ℕ))
+    ensures { (doc : JsonValue) (definitions : NamedSchemas) (schema : SchemaValue) (title : Option (List ℕ))
         → IsAccepted definitions schema → DefinesReached doc definitions schema → (json : JsonValue)
         → JsonAdmits doc (schema_json title schema) json ↔ SchemaAdmits definitions schema json }
 {}
@@ -23,9 +23,9 @@ pub fn schemas_agree()
 /// Steps are never spent: more of them change neither what an accepted schema admits nor, in such a document,
 /// what is written for it.
 pub fn steps_suffice()
-    ensures meant { (definitions : Definitions) (schema : SchemaValue) → IsAccepted definitions schema
+    ensures meant { (definitions : NamedSchemas) (schema : SchemaValue) → IsAccepted definitions schema
         → MeaningStepsSuffice definitions schema }
-    ensures written { (doc : JsonValue) (definitions : Definitions) (schema : SchemaValue)
+    ensures written { (doc : JsonValue) (definitions : NamedSchemas) (schema : SchemaValue)
         (title : Option (List ℕ)) → IsAccepted definitions schema → DefinesReached doc definitions schema
-        → StepsSuffice doc (schema_json title schema) }
+        → WrittenStepsSuffice doc (schema_json title schema) }
 {}
