@@ -10,7 +10,7 @@ use std::alloc::{AllocError, Global};
 use typed_values::{AddError, DescTable, TableError, check_desc, check_table};
 
 /// Why a type has no table.
-#[derive(Drop)]
+#[derive(Debug, Drop)]
 pub enum TypeError {
     /// Two of the type's definitions differ and have this name. The first clash is told.
     Clash(Text),
@@ -23,7 +23,7 @@ pub enum TypeError {
 }
 
 /// What is wrong with a table or a descriptor, as `TableError` tells, without a borrow.
-#[derive(Drop)]
+#[derive(Debug, Drop)]
 pub enum Flaw {
     /// Two fields, names or variants of one descriptor have one name.
     DoubledName,

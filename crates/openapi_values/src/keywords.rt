@@ -5,33 +5,58 @@ ghost use Rattle.openapi_values.specs.Keywords.{after, is_annotation, bound_or, 
 
 use schema_values::Text;
 
-/// The members of a schema object, by their names.
-#[derive(Drop, Clone, Copy)]
+/// The members of a schema object, by their names (OpenAPI 3.0.3, Schema Object).
+#[derive(Clone, Copy, Debug, PartialEq, Eq)]
 pub enum Keyword {
+    /// `$ref`.
     Reference,
+    /// `nullable`.
     Nullable,
+    /// A member that admits nothing and refuses nothing, as `title` or `x-kind`.
     Annotation,
+    /// `type`.
     OfType,
+    /// `format`.
     Format,
+    /// `enum`.
     Enum,
+    /// `minimum`.
     Minimum,
+    /// `maximum`.
     Maximum,
+    /// `exclusiveMinimum`.
     ExclusiveMinimum,
+    /// `exclusiveMaximum`.
     ExclusiveMaximum,
+    /// `minLength`.
     MinLength,
+    /// `maxLength`.
     MaxLength,
+    /// `items`.
     Items,
+    /// `minItems`.
     MinItems,
+    /// `maxItems`.
     MaxItems,
+    /// `properties`.
     Properties,
+    /// `required`.
     Required,
+    /// `additionalProperties`.
     AdditionalProperties,
+    /// `minProperties`.
     MinProperties,
+    /// `maxProperties`.
     MaxProperties,
+    /// `allOf`.
     AllOf,
+    /// `anyOf`.
     AnyOf,
+    /// `oneOf`.
     OneOf,
+    /// `not`.
     Not,
+    /// Any other name: a schema that has one admits nothing.
     Other,
 }
 

@@ -8,7 +8,7 @@ ghost use Rattle.schema_util.specs.Descriptions.{says_nothing, undescribed};
 ghost use Rattle.schema_util.specs.Forms.{form_of, kind_of, schema_form};
 
 use crate::form::{Form, Kind};
-use schema_values::{Boxed, List, Member, Schema, SchemaObject, Subschemas, Text};
+use schema_values::{Boxed, List, Member, Schema, SchemaObject, Subschemas, Text, copy_text};
 use std::alloc::{AllocError, Global};
 
 /// The description of a schema, and the schema without it: the one member of an `all_of` that is the only
@@ -28,16 +28,6 @@ pub fn schema_extract_description(
     match lone_member(object) {
         Some(member) => Ok((description, member.copy(alloc)?)),
         None => Ok((description, without_annotations(alloc, object)?)),
-    }
-}
-
-/// A text equal to another, where there is one.
-pub(crate) fn copy_text(alloc: Global, text: &Option<Text>) -> Result<Option<Text>, AllocError>
-    ensures { IfOk result (λ copy. copy ≡ text.now) }
-{
-    match text {
-        Some(text) => Ok(Some(text.copy(alloc)?)),
-        None => Ok(None),
     }
 }
 

@@ -13,11 +13,13 @@ ghost use Rattle.schema_util.specs.StructMembers.{flattened, flattened_of_kind, 
 ghost use Rattle.schema_util.specs.StructMembers.{member_of, misfit_of, own_members, Gives, GiveAll};
 ghost use Rattle.schema_util.specs.StructMembers.{HasGiven, HaveGiven, is_named, unresolved};
 
-use crate::description::{copy_text, schema_extract_description};
+use crate::description::schema_extract_description;
 use crate::form::{Form, Kind};
 use crate::met::Met;
 use crate::references::{ResolveError, follow};
-use schema_values::{Definitions, List, ObjectParts, Property, Schema, Subschemas, Text, in_order};
+use schema_values::{
+    Definitions, List, ObjectParts, Property, Schema, Subschemas, Text, copy_text, in_order,
+};
 use std::alloc::{AllocError, Global};
 use thiserror::Error;
 

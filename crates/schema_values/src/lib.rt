@@ -33,6 +33,7 @@ pub use schema::{
     ArrayParts, Definitions, InstanceType, InstanceTypes, Items, LengthBounds, NumberBounds,
     ObjectParts, Property, Schema, SchemaObject, Subschemas,
 };
+pub use schema_copy::copy_text;
 pub use text::Text;
 pub use value::ValueError;
 pub use variables::{VariableSet, VariableValue, copy_variables};

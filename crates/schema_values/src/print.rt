@@ -123,6 +123,6 @@ fn hex_digit_of(digit: u32) -> char
 {
     match char::from_digit(digit, 16) {
         Some(character) => character,
-        None => '0',
+        None => unreachable!(),
     }
 }

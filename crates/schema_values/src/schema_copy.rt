@@ -167,7 +167,8 @@ impl Property {
     }
 }
 
-fn copy_text(alloc: Global, text: &Option<Text>) -> Result<Option<Text>, AllocError>
+/// A text equal to another, where there is one.
+pub fn copy_text(alloc: Global, text: &Option<Text>) -> Result<Option<Text>, AllocError>
     ensures { IfOk result (λ copy. copy ≡ text.now) }
 {
     match text {

@@ -15,7 +15,7 @@ use crate::table::{Definition, DescTable};
 use schema_values::Text;
 
 /// What is wrong with a table or a descriptor.
-#[derive(Clone, Copy)]
+#[derive(Clone, Copy, Debug, PartialEq, Eq)]
 pub enum TableError<'a> {
     /// Two fields, two names of an enumeration or two variants of one name.
     DoubledName,

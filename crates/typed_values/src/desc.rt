@@ -1,7 +1,7 @@
 ghost use Rattle.std.specs.Prelude.{◌≡◌, IfOk};
 
 use crate::tree::Tree;
-use schema_values::{Boxed, List, Text};
+use schema_values::{Boxed, List, Text, copy_text};
 use std::alloc::{AllocError, Global};
 
 /// A kind of whole numbers: its width in bits, and whether it has a sign.
@@ -312,14 +312,5 @@ fn copy_int(kind: IntKind, min: &Option<i128>, max: &Option<i128>) -> Desc
         kind,
         min: *min,
         max: *max,
-    }
-}
-
-pub(crate) fn copy_text(alloc: Global, text: &Option<Text>) -> Result<Option<Text>, AllocError>
-    ensures { IfOk result (λ copy. copy ≡ text.now) }
-{
-    match text {
-        Some(text) => Ok(Some(text.copy(alloc)?)),
-        None => Ok(None),
     }
 }

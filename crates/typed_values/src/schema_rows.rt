@@ -3,10 +3,11 @@ ghost use Rattle.schema_values.specs.declared.schema.SchemaObject.{out-SchemaObj
 ghost use Rattle.typed_values.specs.SchemaTable as table;
 ghost use Rattle.typed_values.specs.Schemas as meant;
 
-use crate::desc::{IntKind, copy_text};
+use crate::desc::IntKind;
 use crate::schema_parts::{length_bounds, no_subschemas, number_bounds, of_single};
 use schema_values::{
     ArrayParts, InstanceType, Items, List, ObjectParts, Property, Schema, SchemaObject, Text,
+    copy_text,
 };
 use std::alloc::{AllocError, Global};
 

@@ -7,13 +7,13 @@ ghost use Rattle.typed_values.specs.Checks.{TablePasses};
 ghost use Rattle.typed_values.specs.SchemaTable.{bare_names as names_alone};
 ghost use Rattle.typed_values.specs.Schemas as meant;
 
-use crate::desc::{Named, TaggedVariant, Variant, copy_text};
+use crate::desc::{Named, TaggedVariant, Variant};
 use crate::schema_names::{choices_of, enumerated, one_of};
 use crate::schema_parts::{object_of, with_description};
 use crate::schema_rows::struct_parts;
 use crate::schemas::{parts_of, properties_of, property, required_names};
 use crate::table::DescTable;
-use schema_values::{Json, List, Schema, SchemaObject, Text};
+use schema_values::{Json, List, Schema, SchemaObject, Text, copy_text};
 use std::alloc::{AllocError, Global};
 
 /// One of the names without payload, or an object of one payload.

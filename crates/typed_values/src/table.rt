@@ -6,10 +6,10 @@ ghost use Rattle.schema_values.specs.Sound.{AreDistinct};
 ghost use Rattle.typed_values.specs.Definitions.{definition, definition_with, entry_of, definition_name};
 ghost use Rattle.typed_values.specs.Adding.{Adds, IsRefused};
 
-use crate::desc::{Desc, copy_text};
+use crate::desc::Desc;
 use crate::equal::same_text;
 use crate::index::search_places;
-use schema_values::{List, Text};
+use schema_values::{List, Text, copy_text};
 use std::alloc::{AllocError, Global};
 use std::marker::Model;
 
@@ -33,16 +33,18 @@ pub struct DescTable {
 /// What `add` found.
 #[derive(Clone, Copy, Debug, PartialEq, Eq)]
 pub enum Added {
+    /// The name stood for nothing.
     New,
     /// The name stands there with the same descriptor and description.
     Same,
 }
 
 /// Why a definition was not added.
-#[derive(Drop)]
+#[derive(Debug, Drop)]
 pub enum AddError {
     /// The name stands there with another descriptor or description.
     Clash(Text),
+    /// There was not enough memory.
     OutOfMemory,
 }
 
