@@ -359,7 +359,9 @@ impl Admitter<'_> {
     }
 }
 
-/// Whether a schema of a document admits a value. It takes no memory, and ends on every document.
+/// Whether a schema of a document admits a value (OpenAPI 3.0.3, Schema Object). It takes no memory, and ends
+/// on every document. A definition is tried anew at each reference to it under `oneOf`, `anyOf` and `allOf`,
+/// so the time may be exponential in the number of definitions where they share others.
 pub fn json_admits(doc: &Json, schema: &Json, value: &Json) -> bool
     ensures { IsTrue result ↔ JsonAdmits doc.now schema.now value.now }
 {

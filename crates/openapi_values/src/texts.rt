@@ -226,7 +226,8 @@ fn number_admitted(doc: &Json, schema: &Json, text: &str) -> bool
 }
 
 /// Whether a schema of a document admits a text, as a parameter has it. It takes no memory, and ends on every
-/// document.
+/// document. A definition is tried anew at each reference to it under `oneOf`, `anyOf` and `allOf`, so the
+/// time may be exponential in the number of definitions where they share others.
 pub fn text_admits(doc: &Json, schema: &Json, text: &str) -> bool
     requires doc { IsSound doc.now }
     requires schema { IsSound schema.now }
