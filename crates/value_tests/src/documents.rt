@@ -47,7 +47,7 @@ const DOCUMENT: &str = r##"{
 }"##;
 
 // A schema, a value, and whether it is admitted.
-const CASES: [(&str, &str, bool); 48] = [
+const CASES: [(&str, &str, bool); 61] = [
     ("{}", "[null]", true),
     ("true", "1", false),
     (r#"{"not":{}}"#, "1", false),
@@ -57,6 +57,35 @@ const CASES: [(&str, &str, bool); 48] = [
     (r#"{"type":"integer","format":"uint8"}"#, "256", false),
     (r#"{"type":"integer","format":"int8"}"#, "-128", true),
     (r#"{"format":"int8"}"#, "128", true),
+    (r#"{"type":"integer","format":"int16"}"#, "32768", false),
+    (
+        r#"{"type":"integer","format":"int32"}"#,
+        "2147483648",
+        false,
+    ),
+    (
+        r#"{"type":"integer","format":"int64"}"#,
+        "9223372036854775808",
+        false,
+    ),
+    (
+        r#"{"type":"integer","format":"int64"}"#,
+        "-9223372036854775808",
+        true,
+    ),
+    (r#"{"type":"integer","format":"uint16"}"#, "65536", false),
+    (
+        r#"{"type":"integer","format":"uint32"}"#,
+        "4294967296",
+        false,
+    ),
+    (r#"{"type":"integer","format":"uint64"}"#, "-1", false),
+    (
+        r#"{"type":"integer","format":"uint64"}"#,
+        "18446744073709551615",
+        true,
+    ),
+    (r#"{"type":"integer","format":"other"}"#, "256", true),
     (r#"{"type":"string","enum":["a","b"]}"#, r#""b""#, true),
     (r#"{"type":"string","enum":["a","b"]}"#, r#""c""#, false),
     (r#"{"type":"integer","enum":[1,-2]}"#, "-2", true),
@@ -103,6 +132,7 @@ const CASES: [(&str, &str, bool); 48] = [
     ),
     (r#"{"minimum":1,"exclusiveMinimum":true}"#, "1", false),
     (r#"{"maximum":1}"#, "1", true),
+    (r#"{"maximum":1,"exclusiveMaximum":true}"#, "1", false),
     (r#"{"minLength":2}"#, r#""é""#, false),
     (r#"{"maxLength":1}"#, r#""é""#, true),
     (
@@ -123,6 +153,7 @@ const CASES: [(&str, &str, bool); 48] = [
         true,
     ),
     (r#"{"minProperties":1}"#, "{}", false),
+    (r#"{"maxProperties":1}"#, r#"{"a":1,"b":2}"#, false),
     (r#"{"oneOf":[{"minimum":1},{"minimum":2}]}"#, "2", false),
     (r#"{"oneOf":[{"minimum":1},{"minimum":2}]}"#, "1", true),
     (r#"{"anyOf":[{"minimum":1},{"minimum":2}]}"#, "1", true),
@@ -144,6 +175,12 @@ const CASES: [(&str, &str, bool); 48] = [
         false,
     ),
     (r##"{"$ref":"#/components/schemas/Loop"}"##, "1", false),
+    (r##"{"$ref":"#/components/schemas/Missing"}"##, "1", false),
+    (
+        r##"{"$ref":"#/definitions/Point"}"##,
+        r#"{"label":"a"}"#,
+        false,
+    ),
 ];
 
 fn is_admitted(alloc: Global, doc: &Json, schema: &str, value: &str) -> Result<bool, Fail> {
