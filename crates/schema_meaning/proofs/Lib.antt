@@ -22,3 +22,4 @@ pub mod WrittenSizes
 pub mod Documents
 pub mod OwnDocument
 pub mod Whole
+pub mod Resolved

@@ -61,11 +61,11 @@ module _ (doc : Json) (definitions : NamedSchemas) (whole : Schema) (title : Opt
 
   -- any steps that are no fewer than the two rooms
   module _ (q r : ℕ) (enough : written_room doc written ≤ q) (also : room definitions whole ≤ r) where
-    rests_written : (s : Schema) → IsReached definitions whole s → Rests definitions q s
+    pub rests_written : (s : Schema) → IsReached definitions whole s → Rests definitions q s
     rests_written s reached =
         rests_more definitions _ q s (omega (arith, enough, sizes_fit doc, titled_fits title whole)) (each_rests definitions whole written_size (sizes_in doc) written_sized (λ t i. (accepted t i).no_way_back) s reached)
 
-    rests : (s : Schema) → IsReached definitions whole s → Rests definitions r s
+    pub rests : (s : Schema) → IsReached definitions whole s → Rests definitions r s
     rests s reached =
         rests_more definitions _ r s (omega (arith, also, counts_summed definitions)) (each_rests definitions whole schemas (sizes_of definitions) sized (λ t i. (accepted t i).no_way_back) s reached)
 

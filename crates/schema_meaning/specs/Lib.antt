@@ -7,3 +7,4 @@ pub mod Accepted
 pub mod Count
 pub mod Written
 pub mod Steps
+pub mod Resolved

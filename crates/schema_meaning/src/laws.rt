@@ -1,11 +1,13 @@
-ghost use Rattle.std.specs.Prelude.{◌↔◌, ℕ, List, Option};
+ghost use Rattle.std.specs.Prelude.{◌↔◌, ℕ, List, [], Ok, Option};
 ghost use Rattle.schema_values.specs.declared.json_value.Json.{Json as JsonValue};
 ghost use Rattle.schema_values.specs.declared.schema.Schema.{Schema as SchemaValue};
 ghost use Rattle.openapi_values.specs.JsonAdmits.{JsonAdmits};
 ghost use Rattle.openapi_values.specs.SchemaJson.{schema_json};
+ghost use Rattle.schema_util.specs.References.{ComesTo, Names};
 ghost use Rattle.schema_meaning.specs.Accepted.{IsAccepted};
 ghost use Rattle.schema_meaning.specs.Definitions.{NamedSchemas};
 ghost use Rattle.schema_meaning.specs.Meaning.{SchemaAdmits};
+ghost use Rattle.schema_meaning.specs.Resolved.{HasTheSame};
 ghost use Rattle.schema_meaning.specs.Steps.{WrittenStepsSuffice, MeaningStepsSuffice};
 ghost use Rattle.schema_meaning.specs.Written.{DefinesReached};
 
@@ -28,4 +30,14 @@ pub fn steps_suffice()
     ensures written { (doc : JsonValue) (definitions : NamedSchemas) (schema : SchemaValue)
         (title : Option (List ℕ)) → IsAccepted definitions schema → DefinesReached doc definitions schema
         → WrittenStepsSuffice doc (schema_json title schema) }
+{}
+
+/// What `resolve` comes to means the same as the schema: where a map of definitions, whose names stand in
+/// UTF-8, has the same schemas as a list of them under names in characters, an accepted schema admits the
+/// same JSON values as the schema that it comes to along references.
+pub fn resolved_means_the_same()
+    ensures { (names : Names) (definitions : NamedSchemas) (schema found : SchemaValue)
+        → HasTheSame names definitions → IsAccepted definitions schema
+        → ComesTo names [] schema (Ok found) → (json : JsonValue)
+        → SchemaAdmits definitions schema json ↔ SchemaAdmits definitions found json }
 {}

@@ -3,4 +3,4 @@
 
 mod laws;
 
-pub use laws::{schemas_agree, steps_suffice};
+pub use laws::{resolved_means_the_same, schemas_agree, steps_suffice};

@@ -8,6 +8,7 @@ pub mod Collected
 pub mod DistinctLemmas
 pub mod ReadingLemmas
 pub mod Utf8Order
+pub mod Characters
 pub mod PrettyLemmas
 pub mod Grammar
 pub mod Escapes
