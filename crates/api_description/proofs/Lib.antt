@@ -19,3 +19,5 @@ pub mod Followed
 pub mod CloneLemmas
 mod Options
 pub mod ErrorBodies
+mod OrderedNames
+pub mod SoundOpenApi

@@ -17,3 +17,6 @@ pub mod TextSteps
 pub mod TextWithin
 pub mod Words
 pub mod SchemasOfDocument
+pub mod Keyed
+mod SoundObjects
+pub mod SoundDocuments

@@ -25,3 +25,4 @@ pub mod Refusal
 pub mod Info
 pub mod Tags
 pub mod Parameters
+pub mod SoundParts

@@ -3,6 +3,7 @@ ghost use Rattle.std.specs.Prelude.{IsTrue};
 ghost use Rattle.std.specs.List.{list_all};
 ghost use Rattle.schema_values.specs.declared.json_value.Json.{Json as JsonValue, out-Json};
 ghost use Rattle.schema_values.specs.Reading.{Reads};
+ghost use Rattle.schema_values.specs.Sound.{IsSound};
 ghost use Rattle.openapi_values.specs.declared.document.OpenApi.{OpenApi as Document};
 ghost use Rattle.openapi_values.specs.declared.media.MediaType.{MediaType as Media};
 ghost use Rattle.openapi_values.specs.declared.media.RequestBody.{RequestBody as Body};
@@ -18,6 +19,7 @@ ghost use Rattle.openapi_values.specs.Operation.{operation_json};
 ghost use Rattle.openapi_values.specs.Parameters.{parameter_json};
 ghost use Rattle.openapi_values.specs.RequestParameters.{parameter_holds};
 ghost use Rattle.openapi_values.specs.Smaller.{smaller_admits};
+ghost use Rattle.openapi_values.specs.SoundParts.{HasSoundParts};
 
 /// With no step left nothing is admitted. One step asks a schema of the value, and of smaller values with all
 /// steps.
@@ -56,4 +58,9 @@ pub fn bodies_admitted()
         (map parameter_json listed.parameters))
         × HasJsonType request.headers × (json : JsonValue) × Reads request.body json
         × JsonAdmits (open_api_json document) media.schema json) }
+{}
+
+/// A document of sound parts is written as sound JSON.
+pub fn documents_sound()
+    ensures { (document : Document) → HasSoundParts document → IsSound (open_api_json document) }
 {}

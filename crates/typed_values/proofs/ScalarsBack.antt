@@ -46,11 +46,14 @@ kind_within U16 = (le_z_yes tt, le_z_yes tt)
 kind_within U32 = (le_z_yes tt, le_z_yes tt)
 kind_within U64 = (le_z_yes tt, le_z_yes tt)
 
-whole_number : (kind : IntKind) (min max : Option ℤ) (n : ℤ) → is_number_of kind min max n ≡ true → IsWhole n
-whole_number kind min max n fit =
-    let within = and_parts (int_le (least_of kind) n && int_le n (greatest_of kind)) _ fit in
-    let ends = and_parts (int_le (least_of kind) n) (int_le n (greatest_of kind)) within.0 in
+-- a number of a kind fits 64 bits
+pub kind_whole : (kind : IntKind) (n : ℤ) → (int_le (least_of kind) n && int_le n (greatest_of kind)) ≡ true → IsWhole n
+kind_whole kind n within =
+    let ends = and_parts (int_le (least_of kind) n) (int_le n (greatest_of kind)) within in
     (through _ (least_of kind) n (kind_within kind).0 (in_order (least_of kind) n ends.0), through n (greatest_of kind) _ (in_order n (greatest_of kind) ends.1) (kind_within kind).1)
+
+whole_number : (kind : IntKind) (min max : Option ℤ) (n : ℤ) → is_number_of kind min max n ≡ true → IsWhole n
+whole_number kind min max n fit = kind_whole kind n (and_parts (int_le (least_of kind) n && int_le n (greatest_of kind)) _ fit).0
 
 -- the tree of null is one
 pub nought_is : (x : TreeOf Tree) (t : Tree) → roll-Tree x ≡ t → nought_fits x ≡ true → t ≡ Nought

@@ -32,7 +32,7 @@ pub enum TableError<'a> {
     /// A field of a tagged variant that is named as the tag.
     TagClash,
     /// A least bound above the greatest, an integer's bound outside its kind, or more than 2^32 names,
-    /// variants or alternatives.
+    /// variants or alternatives. A length has 32 bits by its type.
     BadRange,
     /// `Nullable` over no option, `Skipped` over a descriptor that takes null, or a `Default` that does not
     /// fit.

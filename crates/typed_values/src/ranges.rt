@@ -13,8 +13,8 @@ pub(crate) fn are_bounds_right(desc: &Desc) -> bool
         Desc::Int { kind, min, max } => {
             is_number_order(min, max) && is_bound_of(*kind, min) && is_bound_of(*kind, max)
         }
-        Desc::Text { min, max, .. } => is_length_order(*min, *max),
-        Desc::List { min, max, .. } => is_length_order(*min, *max),
+        Desc::Text { min, max, .. } => are_lengths_right(*min, *max),
+        Desc::List { min, max, .. } => are_lengths_right(*min, *max),
         Desc::Enumeration { names } => names.len() <= 0x1_0000_0000,
         Desc::External { variants } => variants.len() <= 0x1_0000_0000,
         Desc::Tagged { variants, .. } => variants.len() <= 0x1_0000_0000,
@@ -41,8 +41,9 @@ fn is_bound_of(kind: IntKind, bound: &Option<i128>) -> bool
     }
 }
 
-fn is_length_order(min: Option<u32>, max: Option<u32>) -> bool
-    ensures { result ≡ checks.is_length_order min max }
+// Each length is below 2^32 by its type.
+fn are_lengths_right(min: Option<u32>, max: Option<u32>) -> bool
+    ensures { result ≡ checks.are_lengths_right min max }
 {
     match (min, max) {
         (Some(min), Some(max)) => min <= max,

@@ -30,3 +30,6 @@ pub mod Rooms
 pub mod Whole
 pub mod MoreSteps
 pub mod BodyLemmas
+pub mod KeyedMembers
+pub mod SoundForms
+pub mod SoundSchemas

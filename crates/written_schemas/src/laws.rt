@@ -1,6 +1,7 @@
 ghost use Rattle.std.specs.Prelude.{◌≡◌, ◌↔◌, ℕ, ◌≤◌, List, Option, Some, None};
 ghost use Rattle.schema_values.specs.declared.json_value.Json.{Json as JsonValue};
 ghost use Rattle.schema_values.specs.Reading.{Reads};
+ghost use Rattle.schema_values.specs.Sound.{IsSound};
 ghost use Rattle.openapi_values.specs.declared.document.OpenApi.{OpenApi as Document};
 ghost use Rattle.openapi_values.specs.declared.request.WireRequest.{WireRequest as Request};
 ghost use Rattle.openapi_values.specs.Admits.{Admits};
@@ -88,4 +89,15 @@ pub fn schemas_written()
     ensures header_titled { (table : List Entry) (desc : Descriptor) (name : List ℕ)
         → json_written (Some name) (schema_value table (in_header desc))
         ≡ schema_json_titled table name (in_header desc) }
+{}
+
+/// In a table that passes its checks the schema of a descriptor that passes them is sound JSON; so it is under
+/// a title or a description.
+pub fn schemas_sound()
+    ensures plain { (table : List Entry) (desc : Descriptor) → TablePasses table → DescPasses table desc
+        → IsSound (schema_json table desc) }
+    ensures titled { (table : List Entry) (desc : Descriptor) (name : List ℕ) → TablePasses table
+        → DescPasses table desc → IsSound (schema_json_titled table name desc) }
+    ensures described { (table : List Entry) (desc : Descriptor) (text : Option (List ℕ)) → TablePasses table
+        → DescPasses table desc → IsSound (schema_json_described table text desc) }
 {}

@@ -4,6 +4,7 @@ ghost use Rattle.std.specs.Io.KnownBytes.{Appends};
 ghost use Rattle.std.specs.Str.{chars, encode_utf8_all};
 ghost use Rattle.line_session.specs.Causes.{Rose};
 ghost use Rattle.line_session.specs.Parts.{AppendsPart};
+ghost use Rattle.schema_values.specs.Sound.{IsSound};
 ghost use Rattle.semver.specs.Identifiers.{parts_of};
 ghost use Rattle.api_description.specs.Endpoints.{boxed};
 ghost use Rattle.api_description.specs.Documents.{document_of, document_text};
@@ -72,9 +73,10 @@ impl OpenApiDefinition<'_> {
     pub fn json(&self, alloc: Global) -> Result<Json, AllocError>
         requires { AreAccepted
             (boxed ⟦<dyn RouteHandler as RouteHandler>⟧) [] self.now.api.now.endpoints.items }
-        ensures { IfOk result (λ json. json ≡ document_of
+        ensures written { IfOk result (λ json. json ≡ document_of
             (boxed ⟦<dyn RouteHandler as RouteHandler>⟧) self.now.api.now.endpoints.items
             self.now.title (parts_of self.now.version)) }
+        ensures sound { IfOk result IsSound }
     {
         let endpoints = self.api.endpoints();
         let tags = List::new(alloc);

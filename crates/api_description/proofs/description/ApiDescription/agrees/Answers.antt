@@ -4,12 +4,16 @@ use Rattle.api_description.specs.Documents.{document_of}
 use Rattle.api_description.proofs.Agreed.{request_agrees}
 use Rattle.api_description.proofs.Followed.{answers_follow}
 use Rattle.api_description.proofs.Listed.{is_listed, accepted_methods}
+use Rattle.api_description.proofs.SoundOpenApi.{document_is_sound}
 use Rattle.api_description.proofs.description.ApiDescription.agrees.Goals as goal
 
 pub returns-clause-listed : goal.returns-clause-listed
 returns-clause-listed g c = λ title version.
     is_listed (λ e. goal.RouteHandler-dyn g (e.handler.vtable, e.handler.value)) version c.args.self.now.endpoints.items title
     (accepted_methods (λ e. goal.RouteHandler-dyn g (e.handler.vtable, e.handler.value)) [] c.args.self.now.endpoints.items c.requires)
+
+pub returns-clause-sound : goal.returns-clause-sound
+returns-clause-sound g c = document_is_sound (λ e. goal.RouteHandler-dyn g (e.handler.vtable, e.handler.value)) c.args.self.now.endpoints.items c.requires
 
 pub returns-clause-agreed : goal.returns-clause-agreed
 returns-clause-agreed g c = λ title version request body sent sends asked.
