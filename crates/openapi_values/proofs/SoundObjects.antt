@@ -1,9 +1,9 @@
 -- Objects, lists and maps of a document are sound where what stands in them is.
-use Rattle.std.proofs.Common.{◌≡◌, ℕ, Bool, true, false, List, [], ◌∷◌, map, Option, Some, None, option_map, MatchOption, sym, ap, subst, refl}
+use Rattle.std.proofs.Common.{◌≡◌, ℕ, Bool, true, false, List, [], ◌∷◌, map, Option, Some, None, option_map, MatchOption, codes, sym, ap, subst, refl}
 use Rattle.std.specs.List.{AllByRecursion}
 use Rattle.std.specs.Prelude.{⊤}
 use Rattle.std.proofs.lemmas.Bool.{and_parts}
-use Rattle.schema_values.specs.declared.json_value.Json.{Json, Text, List as ListOf, Object}
+use Rattle.schema_values.specs.declared.json_value.Json.{Json, Text}
 use Rattle.schema_values.specs.declared.json_value.Member.{Member}
 use Rattle.schema_values.specs.Member.{name_of}
 use Rattle.schema_values.specs.Sound.{IsSound, AreDistinct}
@@ -36,7 +36,7 @@ pub object_sound : (es : List Entry) → are_distinct (map (λ e. e.0) es) ≡ t
 object_sound es distinct sound = (IsSound-Object (members_of es)).1 (entries_keyed es sound distinct).sound
 
 pub reference_is_sound : (reference : List ℕ) → IsSound (reference_json reference)
-reference_is_sound reference = object_sound _ refl (tt, tt)
+reference_is_sound reference = object_sound ((codes "$ref", Some (Text reference)) ∷ []) refl (tt, tt)
 
 -- ---- optional values
 
