@@ -10,8 +10,6 @@ mod met;
 mod references;
 mod scalar;
 mod struct_members;
-#[cfg(test)]
-mod tests;
 
 pub use description::{is_empty, schema_extensions, schema_extract_description};
 pub use laws::{comes_to_once, first_fault_once, gives_once, list_fault_once};

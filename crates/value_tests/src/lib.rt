@@ -6,8 +6,6 @@ mod documents;
 #[cfg(test)]
 mod errors;
 #[cfg(test)]
-mod given;
-#[cfg(test)]
 mod parts;
 #[cfg(test)]
 mod refusals;
@@ -19,7 +17,3 @@ mod tables;
 mod texts;
 #[cfg(test)]
 mod trees;
-#[cfg(test)]
-mod unwritten;
-#[cfg(test)]
-mod written;

@@ -1,6 +1,0 @@
-//! Questions about small schemas.
-
-mod forms;
-mod questions;
-mod scalar;
-mod struct_members;
