@@ -94,6 +94,26 @@ fn what_is_empty(rt: HostRuntime) -> Result<(), Fail> {
     Ok(())
 }
 
+#[test]
+fn extensions_are_those_that_stand(rt: HostRuntime) -> Result<(), Fail> {
+    let alloc = rt.alloc();
+    let asked = schema(
+        alloc,
+        r#"{"type":"string","x-a":{"b":[]},"title":"T","other":1}"#,
+    )?;
+    let Some(extensions) = schema_extensions(&asked) else {
+        return Err(Fail::new("no extensions"));
+    };
+    let [other, own] = extensions.as_slice() else {
+        return Err(Fail::new("not two extensions"));
+    };
+    assert_eq!(rt; other.name.as_str(), "other");
+    assert_eq!(rt; other.value.compact(alloc)?.as_str(), "1");
+    assert_eq!(rt; own.name.as_str(), "x-a");
+    assert_eq!(rt; own.value.compact(alloc)?.as_str(), r#"{"b":[]}"#);
+    Ok(())
+}
+
 // A schema, its description, and what the rest is written as.
 const DESCRIBED: [(&str, Option<&str>, &str); 5] = [
     (

@@ -15,13 +15,14 @@ pub(crate) fn written(
 }
 
 // Schemas that are written as they stand.
-const KEPT: [&str; 20] = [
+const KEPT: [&str; 21] = [
     "{}",
     r#"{"nullable":true}"#,
     r#"{"readOnly":true}"#,
     r#"{"writeOnly":true}"#,
     r#"{"deprecated":true}"#,
     r#"{"example":{"a":1}}"#,
+    r#"{"x-stuff":{"a":"b","c":["d","e"]},"type":"object"}"#,
     r#"{"title":"T"}"#,
     r#"{"type":"boolean"}"#,
     r#"{"type":"string","format":"uuid","enum":["a","b"],"minLength":1,"maxLength":2}"#,
@@ -206,8 +207,29 @@ fn each_member_stands_in_its_order(rt: HostRuntime) -> Result<(), Fail> {
 
 const FOO: &str = r##"{"$ref":"#/components/schemas/Foo"}"##;
 
+// The struct and the enumeration beside that of many forms in the Rust crate's own tests, without floats.
+const SUBSTRUCT: &str = r#"{"type":"object","required":["b","ii32","uu64"],"properties":{
+    "b":{"type":"boolean"},"ii32":{"type":"integer","format":"int32"},
+    "uu64":{"type":"integer","format":"uint64","minimum":0}}}"#;
+
+const SUBSTRUCT_WRITTEN: &str = concat!(
+    r#"{"title":"Substruct","type":"object","properties":{"b":{"type":"boolean"},"#,
+    r#""ii32":{"type":"integer","format":"int32"},"#,
+    r#""uu64":{"type":"integer","format":"uint64","minimum":0}},"required":["b","ii32","uu64"]}"#
+);
+
+const UNION: &str = r#"{"oneOf":[{"type":"object","required":["A"],"additionalProperties":false,
+    "properties":{"A":{"type":"object","required":["a"],
+    "properties":{"a":{"type":"integer","format":"uint32","minimum":0}}}}}]}"#;
+
+const UNION_WRITTEN: &str = concat!(
+    r#"{"title":"Union","oneOf":[{"type":"object","properties":{"A":{"type":"object","properties":"#,
+    r#"{"a":{"type":"integer","format":"uint32","minimum":0}},"required":["a"]}},"required":["A"],"#,
+    r#""additionalProperties":false}]}"#
+);
+
 // A reference shows no name and stands alone, also beside what would be refused. Truth values show no name.
-const NAMED: [(&str, &str, &str); 10] = [
+const NAMED: [(&str, &str, &str); 12] = [
     (
         "Empty",
         r#"{"type":"object"}"#,
@@ -242,6 +264,8 @@ const NAMED: [(&str, &str, &str); 10] = [
             "allOf":[{"type":"number"}]}"##,
         FOO,
     ),
+    ("Substruct", SUBSTRUCT, SUBSTRUCT_WRITTEN),
+    ("Union", UNION, UNION_WRITTEN),
     ("Named", "true", "{}"),
     ("Named", "false", r#"{"not":{}}"#),
 ];
