@@ -99,6 +99,10 @@ impl<T: Drop> List<T> {
 }
 
 impl<T: fmt::Debug> fmt::Debug for List<T> {
+    ghost use Rattle.std.specs.Fmt.{debug_list};
+
+    ghost debug_output = { λ list. debug_list T.debug_output list };
+
     fn fmt<W: fmt::Write>(&self, f: &mut fmt::Formatter<W>) -> fmt::Result {
         self.as_slice().fmt(f)
     }

@@ -260,6 +260,11 @@ impl fmt::Display for Text {
 }
 
 impl fmt::Debug for Text {
+    ghost use Rattle.std.specs.Fmt.{debug_str};
+    ghost use Rattle.std.specs.Str.{encode_utf8_all};
+
+    ghost debug_output = { λ text. debug_str (encode_utf8_all text) };
+
     fn fmt<W: fmt::Write>(&self, f: &mut fmt::Formatter<W>) -> fmt::Result {
         fmt::Debug::fmt(self.as_str(), f)
     }
