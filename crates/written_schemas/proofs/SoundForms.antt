@@ -1,5 +1,5 @@
 -- The schema of each form of descriptor is sound, where those that it is made of are.
-use Rattle.std.proofs.Common.{◌≡◌, ◌≢◌, ℕ, ℤ, pos, negsuc, ◌≤ℤ◌, ◌≤◌, Bool, true, false, ◌&&◌, nat_le, int_le, not, List, [], ◌∷◌, ◌++◌, map, filter, Option, Some, None, option_map, MatchOption, if◌then◌else◌, codes, refl, sym, ◌∙◌, ap, subst, arith}
+use Rattle.std.proofs.Common.{◌≡◌, ℕ, ℤ, pos, ◌≤◌, Bool, true, false, nat_le, not, List, [], ◌∷◌, ◌++◌, map, filter, Option, Some, None, MatchOption, if◌then◌else◌, codes, refl, arith}
 use Rattle.std.proofs.lemmas.Bool.Decides.{nat_tests}
 use Rattle.std.proofs.lemmas.Int.{ints}
 use Rattle.std.specs.List.{AllByRecursion, list_any, list_all}
@@ -9,18 +9,17 @@ use Rattle.schema_values.specs.declared.json_value.Json.{Json, Null as NullJson,
 use Rattle.schema_values.specs.declared.json_value.Member.{Member}
 use Rattle.schema_values.specs.Member.{member, name_of}
 use Rattle.schema_values.specs.Order.{sorted_by, same_name}
-use Rattle.schema_values.specs.Sound.{IsSound, IsWhole, AreDistinct}
+use Rattle.schema_values.specs.Sound.{IsSound, IsWhole}
 use Rattle.schema_values.specs.SoundMembers.{HasSoundValue, HasSoundMembers}
 use Rattle.schema_values.proofs.DistinctLemmas.{AreDistinct-sorted}
 use Rattle.schema_values.proofs.SortedLemmas.{all_sorted}
 use Rattle.schema_values.proofs.SoundLemmas.{IsSound-List, IsSound-Object}
 use Rattle.typed_values.specs.declared.desc.IntKind.{IntKind}
-use Rattle.typed_values.specs.declared.desc.IntKind.TheVariants.{I8, I16, I32, I64, U8, U16, U32, U64}
 use Rattle.typed_values.specs.declared.desc.Named.{Named}
-use Rattle.typed_values.specs.SchemaTable.{Drawn, plain, all_or_none, reference, enumerated, enumeration, described, described_choice, plain_choice, choices_of, drawn_json, format_of, if_count, if_denied, if_members, if_names, if_number, if_text, is_described, least_shown, null_alone, of_type, one_character, other_members, property, struct_drawn}
+use Rattle.typed_values.specs.SchemaTable.{Drawn, plain, all_or_none, reference, enumerated, enumeration, described, described_choice, plain_choice, choices_of, drawn_json, format_of, if_count, if_denied, if_number, if_text, is_described, null_alone, of_type, one_character, other_members, struct_drawn}
 use Rattle.typed_values.specs.Definitions.{listed_name}
 use Rattle.typed_values.proofs.Ordered.{sorted_ascends}
-use Rattle.openapi_values.proofs.Keyed.{IsKeyed, is_new, none_keyed, passed, put}
+use Rattle.openapi_values.proofs.Keyed.{IsKeyed, is_new, none_keyed, put}
 use Rattle.written_schemas.proofs.KeyedMembers.{IsSoundlyDrawn, notes, count_keyed, denied_keyed, described_sound, drawn_sound, members_keyed, names_keyed, number_keyed, text_keyed, texts_sound}
 
 -- in order, members are as sound

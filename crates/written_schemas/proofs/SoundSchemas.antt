@@ -1,9 +1,8 @@
 -- The schema of a descriptor that passes its checks is sound.
-use Rattle.std.proofs.Common.{◌≡◌, ◌≢◌, ℕ, ℤ, Bool, true, false, ◌&&◌, List, [], ◌∷◌, ◌++◌, map, Option, Some, None, option_map, MatchOption, refl, sym, ◌∙◌, ap, ap₂, subst}
+use Rattle.std.proofs.Common.{◌≡◌, ◌≢◌, ℕ, ℤ, Bool, true, false, List, [], ◌∷◌, map, Option, Some, None, option_map, MatchOption, refl, sym, ◌∙◌, ap, subst}
 use Rattle.std.specs.List.{AllByRecursion}
 use Rattle.std.specs.Prelude.{⊤, Contains}
 use Rattle.std.proofs.lemmas.Bool.{and_parts, true_from_ne_false}
-use Rattle.schema_values.specs.declared.json_value.Json.{Json}
 use Rattle.schema_values.specs.declared.json_value.Member.{Member}
 use Rattle.schema_values.specs.Member.{name_of}
 use Rattle.schema_values.specs.Sound.{IsSound, IsWhole, AreDistinct}
@@ -20,13 +19,13 @@ use Rattle.typed_values.specs.declared.desc.Presence.TheVariants.{Required, Null
 use Rattle.typed_values.specs.declared.desc.TaggedVariant.{TaggedVariant}
 use Rattle.typed_values.specs.declared.desc.Variant.{Variant}
 use Rattle.typed_values.specs.declared.table.Definition.{Definition}
-use Rattle.typed_values.specs.Checks.{are_bounds_right, is_bound_of, is_length, is_length_order, is_number_order, names_of_fields, IsBadField, IsFieldOf, IsPlainlyRight, default_misfits, of_struct, of_variant, TablePasses, DescPasses}
+use Rattle.typed_values.specs.Checks.{are_bounds_right, is_bound_of, is_length, is_length_order, is_number_order, names_of_fields, IsBadField, IsPlainlyRight, default_misfits, of_struct, of_variant, TablePasses, DescPasses}
 use Rattle.typed_values.specs.Definitions.{field_name, tagged_description, tagged_fields, tagged_name}
-use Rattle.typed_values.specs.DescBeside.{Beside, LevelBeside, beside_with, field_with, level_with, tagged_with, variant_with}
+use Rattle.typed_values.specs.DescBeside.{Beside, beside_with, field_with, level_with, tagged_with, variant_with}
 use Rattle.typed_values.specs.Fits.{fits_under}
 use Rattle.typed_values.specs.Levels.{DescLevel}
 use Rattle.typed_values.specs.Parts.{StandsIn, the_whole, in_option, in_list, in_map, in_field, in_payload, in_variant, in_alternative}
-use Rattle.typed_values.specs.SchemaTable.{Drawn, bare_names, choices_of, default_of, defaulted, described, drawn, drawn_json, drawn_step, enumerated, external_choices, least_shown, payload_choices, property, property_of, required_names, schema_json, schema_json_described, schema_json_titled, struct_drawn, tagged_choice, titled}
+use Rattle.typed_values.specs.SchemaTable.{Drawn, bare_names, choices_of, default_of, defaulted, described, drawn, drawn_json, drawn_step, enumerated, external_choices, least_shown, payload_choices, property, property_of, required_names, schema_json, schema_json_described, schema_json_titled, tagged_choice, titled}
 use Rattle.typed_values.proofs.Fields.{distinct_at, fields_distinct, names_apart}
 use Rattle.typed_values.proofs.Induction.{InField, InFields, InTagged, InVariant, KnownLevel, firsts, by_levels, each_holds}
 use Rattle.typed_values.proofs.DescBesides.{made_row}
