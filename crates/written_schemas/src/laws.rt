@@ -91,8 +91,8 @@ pub fn schemas_written()
         ≡ schema_json_titled table name (in_header desc) }
 {}
 
-/// In a table that passes its checks the schema of a descriptor that passes them is sound JSON; so it is under
-/// a title or a description.
+/// In a table that passes its checks the schema of a descriptor that passes them is sound JSON; so it is
+/// under a title or a description.
 pub fn schemas_sound()
     ensures plain { (table : List Entry) (desc : Descriptor) → TablePasses table → DescPasses table desc
         → IsSound (schema_json table desc) }
