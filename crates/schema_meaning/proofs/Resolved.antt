@@ -208,6 +208,6 @@ resolved_agrees names definitions schema found same accepted comes json =
     let end = same_end names definitions same schema accepted r (omega arith) comes found refl itself in
     let at = rest names definitions same schema accepted r (omega arith) in
     let is = sym (meant_steps definitions schema accepted json r (omega arith))
-        ∙ end.1 json r r (at schema itself) (at found end.0)
-        ∙ meant_steps definitions found (λ t i. accepted t (reached_further definitions schema found t end.0 i)) json r (omega arith) in
+    ∙ end.1 json r r (at schema itself) (at found end.0)
+    ∙ meant_steps definitions found (λ t i. accepted t (reached_further definitions schema found t end.0 i)) json r (omega arith) in
     (λ h. subst IsTrue is h, λ h. subst IsTrue (sym is) h)
