@@ -22,22 +22,22 @@ below name other greater = nat_list_cmp_total.antisymm other name ∙ ap orderin
 
 all_with : (P : List ℕ → Type 0) (names : List (List ℕ)) (name : List ℕ) → P name → AllByRecursion P names → AllByRecursion P (insert_key text_order names name)
 all_with P [] name here all = (here, tt)
-all_with P (first ∷ names) name here all = by_order (text_order name first)
+all_with P (first ∷ names) name here all = by_order (text_order name first) (all_with P names name here all.1)
   where
-    by_order : (o : Ordering) → AllByRecursion P (match_ordering o (name ∷ first ∷ names) (first ∷ names) (first ∷ insert_key text_order names name))
-    by_order Less = (here, all)
-    by_order Equal = all
-    by_order Greater = (all.0, all_with P names name here all.1)
+    by_order : (o : Ordering) → AllByRecursion P (insert_key text_order names name) → AllByRecursion P (match_ordering o (name ∷ first ∷ names) (first ∷ names) (first ∷ insert_key text_order names name))
+    by_order Less later = (here, all)
+    by_order Equal later = all
+    by_order Greater later = (all.0, later)
 
 key_ascends : (names : List (List ℕ)) (name : List ℕ) → Ascend names → Ascend (insert_key text_order names name)
 unfolding IsStrictlySortedBy
 key_ascends [] name h = (tt, tt)
-key_ascends (first ∷ names) name h = by_order (text_order name first) refl
+key_ascends (first ∷ names) name h = by_order (text_order name first) refl (key_ascends names name h.1)
   where
-    by_order : (o : Ordering) → text_order name first ≡ o → Ascend (match_ordering o (name ∷ first ∷ names) (first ∷ names) (first ∷ insert_key text_order names name))
-    by_order Less e = ((e, below_all name first names e h.0), h)
-    by_order Equal e = h
-    by_order Greater e = (all_with (Below first) names name (below name first e) h.0, key_ascends names name h.1)
+    by_order : (o : Ordering) → text_order name first ≡ o → Ascend (insert_key text_order names name) → Ascend (match_ordering o (name ∷ first ∷ names) (first ∷ names) (first ∷ insert_key text_order names name))
+    by_order Less e later = ((e, below_all name first names e h.0), h)
+    by_order Equal e later = h
+    by_order Greater e later = (all_with (Below first) names name (below name first e) h.0, later)
 
 texts_from : (more names : List (List ℕ)) → Ascend names → Ascend (with_texts names more)
 texts_from [] names h = h
@@ -52,13 +52,14 @@ texts_ascend more = texts_from more [] tt
 module _ {X : Type 0} where
   named_with : (entries : List (List ℕ × X)) (name : List ℕ) (x : X) → names_of_map (insert_entry text_order entries name x) ≡ insert_key text_order (names_of_map entries) name
   named_with [] name x = refl
-  named_with (first ∷ entries) name x = by_order (text_order name first.0)
+  named_with (first ∷ entries) name x = by_order (text_order name first.0) (named_with entries name x)
     where
-      by_order : (o : Ordering) → names_of_map (match_ordering o ((name, x) ∷ first ∷ entries) ((first.0, x) ∷ entries) (first ∷ insert_entry text_order entries name x))
+      by_order : (o : Ordering) → names_of_map (insert_entry text_order entries name x) ≡ insert_key text_order (names_of_map entries) name
+          → names_of_map (match_ordering o ((name, x) ∷ first ∷ entries) ((first.0, x) ∷ entries) (first ∷ insert_entry text_order entries name x))
           ≡ match_ordering o (name ∷ first.0 ∷ names_of_map entries) (first.0 ∷ names_of_map entries) (first.0 ∷ insert_key text_order (names_of_map entries) name)
-      by_order Less = refl
-      by_order Equal = refl
-      by_order Greater = ap (λ (names : List (List ℕ)). first.0 ∷ names) (named_with entries name x)
+      by_order Less later = refl
+      by_order Equal later = refl
+      by_order Greater later = ap (λ (names : List (List ℕ)). first.0 ∷ names) later
 
   entry_ascends : (entries : List (List ℕ × X)) (entry : List ℕ × X) → Ascend (names_of_map entries) → Ascend (names_of_map (with_entry entries entry))
   entry_ascends entries entry h = by_test (is_some (lookup (is_at (text_order entry.0)) entries))
@@ -77,12 +78,12 @@ module _ {X : Type 0} where
 
     each_inserted : (entries : List (List ℕ × X)) (name : List ℕ) (x : X) → P x → EachValue entries → EachValue (insert_entry text_order entries name x)
     each_inserted [] name x here all = (here, tt)
-    each_inserted (first ∷ entries) name x here all = by_order (text_order name first.0)
+    each_inserted (first ∷ entries) name x here all = by_order (text_order name first.0) (each_inserted entries name x here all.1)
       where
-        by_order : (o : Ordering) → EachValue (match_ordering o ((name, x) ∷ first ∷ entries) ((first.0, x) ∷ entries) (first ∷ insert_entry text_order entries name x))
-        by_order Less = (here, all)
-        by_order Equal = (here, all.1)
-        by_order Greater = (all.0, each_inserted entries name x here all.1)
+        by_order : (o : Ordering) → EachValue (insert_entry text_order entries name x) → EachValue (match_ordering o ((name, x) ∷ first ∷ entries) ((first.0, x) ∷ entries) (first ∷ insert_entry text_order entries name x))
+        by_order Less later = (here, all)
+        by_order Equal later = (here, all.1)
+        by_order Greater later = (all.0, later)
 
     each_with : (entries : List (List ℕ × X)) (entry : List ℕ × X) → P entry.1 → EachValue entries → EachValue (with_entry entries entry)
     each_with entries entry here all = by_test (is_some (lookup (is_at (text_order entry.0)) entries))

@@ -1,21 +1,20 @@
 -- The document of accepted endpoints is sound.
 use Rattle.std.proofs.Common.{◌≡◌, ◌≢◌, ◌⊎◌, inl, inr, ℕ, Bool, true, false, cond, List, [], ◌∷◌, ◌++◌, map, filter, Option, Some, None, option_map, MatchOption, bytes_eq, codes, refl, sym, ◌∙◌, ap, subst}
-use Rattle.std.specs.Fmt.{decimal}
+use Rattle.std.specs.Fmt.{decimal, digits}
 use Rattle.std.specs.List.{AllByRecursion, flat_map}
 use Rattle.std.specs.Prelude.{⊤, All, Contains}
 use Rattle.std.specs.Str.{encode_utf8_all}
 use Rattle.std.proofs.lemmas.List.Elements.{All-cons, All-head, All-nil, All-tail}
 use Rattle.std.proofs.lemmas.Slice.Eq.{bytes_eq-Decides}
-use Rattle.schema_values.specs.declared.json_value.Json.{Json}
 use Rattle.schema_values.specs.Sound.{IsSound, AreDistinct}
 use Rattle.schema_values.proofs.Contained.{contains_first, contains_later}
 use Rattle.schema_values.proofs.DistinctLemmas.{AreDistinct-sorted}
-use Rattle.openapi_values.specs.declared.operation.Operation.{Operation}
+use Rattle.openapi_values.specs.declared.operation.PathItem.{PathItem}
 use Rattle.openapi_values.specs.SoundParts.{IsSoundBody, IsSoundItem, IsSoundMap, IsSoundMedia, IsSoundOperation, IsSoundResponse, names_of_map}
 use Rattle.openapi_values.proofs.SoundDocuments.{document_sound}
 use Rattle.semver.specs.Parse.{Parts}
 use Rattle.typed_values.specs.declared.table.Definition.{Definition}
-use Rattle.typed_values.specs.Checks.{TablePasses, DescPasses}
+use Rattle.typed_values.specs.Checks.{TablePasses}
 use Rattle.written_schemas.proofs.SoundForms.{appended}
 use Rattle.written_schemas.proofs.SoundSchemas.{schema_described_sound, schema_titled_sound}
 use Rattle.api_description.specs.declared.api_extract.slot.ApiEndpointBodyContentType.{ApiEndpointBodyContentType}
@@ -26,7 +25,7 @@ use Rattle.api_description.specs.declared.api_respond.shape.ApiEndpointResponse.
 use Rattle.api_description.specs.declared.api_respond.shape.ContentShape.{ContentShape}
 use Rattle.api_description.specs.declared.api_respond.shape.ContentShape.TheVariants.{Json as JsonShape}
 use Rattle.api_description.specs.declared.endpoint.ApiEndpoint.{ApiEndpoint}
-use Rattle.api_description.specs.Documents.{body_of, content_of, document_of, entries_of_error, error_entries, error_references, open_api_of, operation_at, operation_of, path_item_of, paths_of, reached_definitions, responses_by, schema_entries, schema_entry, templates, template_of}
+use Rattle.api_description.specs.Documents.{body_of, content_of, document_of, entries_of_error, error_entries, open_api_of, operation_at, operation_of, path_item_of, responses_by, schema_entries, schema_entry, templates, template_of}
 use Rattle.api_description.specs.Endpoints.{Meanings, shape_at, held_at, endpoint_for}
 use Rattle.api_description.specs.Registering.{AreAccepted, IsBuiltShape}
 use Rattle.api_description.specs.Replies.{ContentPasses, ErrorPasses, ShapePasses}
@@ -60,6 +59,7 @@ module _ (table : List Definition) (passes : TablePasses table) where
 
   responses_sound : (success : Option ℕ) (response : ApiEndpointResponse) (error : Option ApiEndpointErrorResponse) → (success ≡ Some 200) ⊎ (success ≡ Some 201)
       → ContentPasses table response.content → IsSoundMap IsSoundResponse (responses_by success table response error)
+  unfolding digits
   responses_sound success response error (inl e) pass = subst (λ (o : Option ℕ). IsSoundMap IsSoundResponse (responses_by o table response error)) (sym e) (coded_sound 200 response error refl refl pass)
   responses_sound success response error (inr e) pass = subst (λ (o : Option ℕ). IsSoundMap IsSoundResponse (responses_by o table response error)) (sym e) (coded_sound 201 response error refl refl pass)
 
@@ -125,7 +125,7 @@ module _ {X : Type 0} {F : X → Type 0} (m : Meanings X F) where
         trace = method_sound template (codes "TRACE");
       }
 
-      items_sound : (texts : List (List ℕ)) → AllByRecursion (λ entry. IsSoundItem entry.1) (map (λ template. (template, path_item_of m version endpoints template)) texts)
+      items_sound : (texts : List (List ℕ)) → AllByRecursion (λ (entry : List ℕ × PathItem). IsSoundItem entry.1) (map (λ template. (template, path_item_of m version endpoints template)) texts)
       items_sound [] = tt
       items_sound (template ∷ texts) = (item_is_sound template, items_sound texts)
 
