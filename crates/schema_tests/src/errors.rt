@@ -42,8 +42,8 @@ const RESOLVING: [(ResolveError<'static>, &str); 2] = [
 ];
 
 const TESTING: [(ScalarError<'static>, &str); 4] = [
-    (ScalarError::NotScalar, "no scalar value"),
-    (ScalarError::NotStringList, "no list of texts"),
+    (ScalarError::NotScalar, "not of scalar values"),
+    (ScalarError::NotStringList, "not of texts"),
     (ScalarError::Dangling("N"), "no definition N"),
     (ScalarError::Cycle("A"), "A comes again"),
 ];
@@ -73,7 +73,7 @@ fn each_error_of_structs_is_printed_as_its_text(rt: HostRuntime) -> Result<(), F
         (cycle, "A comes again"),
         (
             Schema2StructError::InvalidSubschema,
-            "a struct with subschemas that are none of its own",
+            "a struct with other subschemas than one anyOf or an allOf of one",
         ),
         (Schema2StructError::InvalidEnum, "an enumeration"),
         (Schema2StructError::InvalidType, "no object"),

@@ -24,10 +24,10 @@ use thiserror::Error;
 #[derive(Clone, Copy, Debug, PartialEq, Eq, Error)]
 pub enum ScalarError<'a> {
     /// A schema is not that of a scalar value.
-    #[error("no scalar value")]
+    #[error("not of scalar values")]
     NotScalar,
     /// A schema is not that of texts.
-    #[error("no list of texts")]
+    #[error("not of texts")]
     NotStringList,
     /// No definition has this name. The whole reference where it is none of a definition.
     #[error("no definition {0}")]

@@ -61,7 +61,7 @@ pub enum Schema2StructError {
     #[error("{0} comes again")]
     Cycle(Text),
     /// A struct has other subschemas than one `any_of` or an `all_of` of one.
-    #[error("a struct with subschemas that are none of its own")]
+    #[error("a struct with other subschemas than one anyOf or an allOf of one")]
     InvalidSubschema,
     /// The schema is that of an enumeration.
     #[error("an enumeration")]
