@@ -19,6 +19,7 @@ use Rattle.api_description.specs.Exchanges.{Answers}
 use Rattle.api_description.specs.Registering.{AreAccepted}
 use Rattle.api_description.specs.Stores.{Tables}
 use Rattle.schema_values.specs.declared.json_value.Json.{Json}
+use Rattle.schema_values.specs.Sound.{IsSound}
 use Rattle.std.specs.declared.alloc.Global.{Global}
 use Rattle.std.specs.declared.string.String.{String}
 use Rattle.semver.specs.Identifiers.{parts_of}
@@ -83,13 +84,14 @@ told-is-answer outcome told tells same = subst (λ (o : Result Exchange Exchange
 module _ {X : Type 0} {F : X → Type 0} (m : Meanings X F) where
   -- a session is opened of accepted endpoints that agree with their document
   pub opened : (config : ToolConfig) (version : Parts) (es : List (ApiEndpoint X F)) (words : List (String Global)) → AskForSession words version → AreAccepted m [] es
-      → IsListed m version es (document_of m es config.title version) → IsAgreed m version es (document_of m es config.title version)
+      → IsSound (document_of m es config.title version) → IsListed m version es (document_of m es config.title version) → IsAgreed m version es (document_of m es config.title version)
       → ((request : RequestParts) (body : List ℕ) (before : Tables) (outcome : Result Exchange ExchangeError) (after : Tables) → Answers m config.server es request body before outcome after
       → FollowsDocument (document_of m es config.title (parts_of request.version)) request body outcome)
       → IsOpened m config version es words
-  opened config version es words asked accepted listed agreed follow = record {
+  opened config version es words asked accepted sound listed agreed follow = record {
     asked = asked;
     accepted = accepted;
+    sound = sound;
     listed = listed;
     agreed = agreed;
     followed = λ before line reply after x id sent sends.

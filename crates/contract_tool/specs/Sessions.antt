@@ -6,6 +6,7 @@ use Rattle.line_session.specs.Session.{IsAnswered}
 use Rattle.line_session.specs.declared.serving.SessionEnd.{SessionEnd}
 use Rattle.line_session.specs.declared.serving.SessionEnd.TheVariants as ended
 use Rattle.semver.specs.Parse.{Parts}
+use Rattle.schema_values.specs.Sound.{IsSound}
 use Rattle.openapi_values.specs.declared.request.WireRequest.{WireRequest}
 use Rattle.api_description.specs.declared.endpoint.ApiEndpoint.{ApiEndpoint}
 use Rattle.api_description.specs.Agreement.{IsAdmitted, IsAgreed, IsHandled, IsListed, SendsJson}
@@ -32,12 +33,13 @@ LinesFollowDocument m config version endpoints = (before : Tables) (line reply :
     → HasId exchanged.request → (sent : WireRequest) → SendsJson sent exchanged.body
     → IsHandled exchanged.outcome ↔ IsAdmitted (document_of m endpoints config.title version) exchanged.request sent
 
--- The words ask for a session of a version, and the endpoints are accepted. Their document lists them, and of the
+-- The words ask for a session of a version, and the endpoints are accepted. Their document is sound JSON and lists them, and of the
 -- requests of the version that are sent with a media type of JSON it admits exactly those that one of them takes; and
 -- such a request that is answered is handled exactly where it admits it.
 pub record IsOpened {X : Type 0} {F : X → Type 0} (m : Meanings X F) (config : ToolConfig) (version : Parts) (endpoints : List (ApiEndpoint X F)) (words : List (String Global)) : Type 0 where
   pub asked : AskForSession words version
   pub accepted : AreAccepted m [] endpoints
+  pub sound : IsSound (document_of m endpoints config.title version)
   pub listed : IsListed m version endpoints (document_of m endpoints config.title version)
   pub agreed : IsAgreed m version endpoints (document_of m endpoints config.title version)
   pub followed : LinesFollowDocument m config version endpoints

@@ -27,6 +27,7 @@ returns-clause-session g c is all written left taken =
       version = parts_of c.in-Ok.version;
       opened = subst (λ es. IsOpened (λ e. goal.RouteHandler-dyn g (e.handler.vtable, e.handler.value)) c.args.config.now (parts_of c.in-Ok.version) es c.args.words.now) c.in-Ok-of_endpoints.ensures.items
           (opened (λ e. goal.RouteHandler-dyn g (e.handler.vtable, e.handler.value)) c.args.config.now (parts_of c.in-Ok.version) _ c.args.words.now c.in-Ok.ensures.session c.in-Ok-of_endpoints.ensures.registered
+          (c.agrees.ensures.sound c.args.config.now.title (parts_of c.in-Ok.version))
           (c.agrees.ensures.listed c.args.config.now.title (parts_of c.in-Ok.version)) (c.agrees.ensures.agreed c.args.config.now.title (parts_of c.in-Ok.version))
           (c.agrees.ensures.followed c.args.config.now.title c.args.config.now.server));
       answered = answered-same _ c.args.config.now (parts_of c.in-Ok.version) _ c.args.endpoints.items _ _ all written _ _ _ _ c.in-Ok-of_endpoints.ensures.items front (c.serve.ensures.session end all written left taken);
@@ -39,6 +40,7 @@ returns-clause-ended g c =
       version = parts_of c.in-Ok.version;
       opened = subst (λ es. IsOpened (λ e. goal.RouteHandler-dyn g (e.handler.vtable, e.handler.value)) c.args.config.now (parts_of c.in-Ok.version) es c.args.words.now) c.in-Ok-of_endpoints.ensures.items
           (opened (λ e. goal.RouteHandler-dyn g (e.handler.vtable, e.handler.value)) c.args.config.now (parts_of c.in-Ok.version) _ c.args.words.now c.in-Ok.ensures.session c.in-Ok-of_endpoints.ensures.registered
+          (c.agrees.ensures.sound c.args.config.now.title (parts_of c.in-Ok.version))
           (c.agrees.ensures.listed c.args.config.now.title (parts_of c.in-Ok.version)) (c.agrees.ensures.agreed c.args.config.now.title (parts_of c.in-Ok.version))
           (c.agrees.ensures.followed c.args.config.now.title c.args.config.now.server));
       served = served-same _ c.args.config.now (parts_of c.in-Ok.version) _ c.args.endpoints.items _ _ _ _ _ _ _ _ _ _ _ c.in-Ok-of_endpoints.ensures.items front c.serve.ensures.served;
