@@ -8,17 +8,21 @@ ghost use Rattle.schema_values.specs.SoundTest.{is_sound};
 use crate::list::List;
 use crate::text::Text;
 
-/// A JSON value (RFC 8259) whose numbers are integers.
+/// A JSON value (RFC 8259) whose numbers are whole.
 #[derive(Drop)]
 #[cycle(json)]
 pub enum Json {
+    /// The value without content.
     Null,
+    /// A truth value.
     Bool(bool),
-    /// From -2^63 to 2^64-1 in a sound value.
+    /// A whole number, from -2^63 to 2^64-1 in a sound value.
     Int(i128),
+    /// A string of RFC 8259.
     Text(Text),
+    /// An array: the items in their order.
     List(List<Json>),
-    /// The members in their order. Names are distinct in a sound value.
+    /// An object: the members in their order. Names are distinct in a sound value.
     Object(List<Member>),
 }
 
@@ -26,7 +30,9 @@ pub enum Json {
 #[derive(Drop)]
 #[cycle(json)]
 pub struct Member {
+    /// Its name.
     pub name: Text,
+    /// Its value.
     pub value: Json,
 }
 

@@ -67,7 +67,7 @@ pub fn sort_by_name<T: HasName + Drop>(items: &mut Vec<T>) -> Result<(), AllocEr
 }
 
 /// The items in the order of their names, in one pass where they stand in it, as the members of a value that
-/// was read do.
+/// was read do. Those of one name keep their order. Fails only for want of memory.
 pub fn in_order<T: HasName>(alloc: Global, items: &[T]) -> Result<Vec<&T>, AllocError>
     ensures { IfOk result (λ ordered. map (λ item. item.now) ordered.items ≡ sorted_by T.name_of items.now) }
 {

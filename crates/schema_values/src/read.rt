@@ -19,6 +19,7 @@ pub enum ReadError {
     /// member that a later one of its name replaces is not held.
     #[error("not a JSON value over 64-bit integers")]
     Unreadable,
+    /// There was not enough memory.
     #[error("out of memory")]
     OutOfMemory,
 }

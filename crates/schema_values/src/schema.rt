@@ -106,14 +106,19 @@ pub enum InstanceTypes {
 /// A type of JSON values.
 #[derive(Clone, Copy, Debug, PartialEq, Eq)]
 pub enum InstanceType {
-    /// The type of null alone.
+    /// The type of null alone. OpenAPI 3.0.3 has no such type.
     Null,
+    /// The type of truth values.
     Boolean,
+    /// The type of objects.
     Object,
+    /// The type of lists.
     Array,
     /// The type of all numbers, whole or not.
     Number,
+    /// The type of texts.
     String,
+    /// The type of whole numbers.
     Integer,
 }
 

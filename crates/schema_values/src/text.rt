@@ -88,7 +88,7 @@ impl Text {
         self.as_str().is_empty()
     }
 
-    /// Each character of a text is a Unicode scalar value.
+    /// Each character of a text is a Unicode scalar value. It does nothing: its clause is for proofs.
     pub fn all_scalar(&self)
         ensures { IsScalarText self.now }
     {

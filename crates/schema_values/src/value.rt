@@ -21,6 +21,7 @@ pub enum ValueError {
     /// The value holds a number that is no integer of 64 bits.
     #[error("holds a number that is no 64-bit integer")]
     HoldsFloat,
+    /// There was not enough memory.
     #[error("out of memory")]
     OutOfMemory,
 }

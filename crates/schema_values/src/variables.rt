@@ -9,7 +9,9 @@ use std::collections::BTreeMap;
 /// What a variable of a path stands for: one component, or the components that are left of the path.
 #[derive(Drop)]
 pub enum VariableValue {
+    /// One component of the path.
     String(Text),
+    /// The components that are left of the path, in their order.
     Components(List<Text>),
 }
 
