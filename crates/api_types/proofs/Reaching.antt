@@ -6,15 +6,15 @@ use Rattle.typed_values.specs.declared.table.Definition.{Definition}
 use Rattle.typed_values.specs.Denotes.{room}
 use Rattle.typed_values.specs.Parts.{the_whole, of_whole}
 use Rattle.typed_values.specs.Reached.{Mentions, IsReached, directly, through}
-use Rattle.typed_values.specs.Sound.{Rests}
+use Rattle.typed_values.specs.Resting.{Rests}
 use Rattle.typed_values.specs.Levels.{DescLevel}
-use Rattle.typed_values.proofs.Soundness.{guarded_is_sound}
+use Rattle.typed_values.proofs.Soundness.{guarded_rests}
 use Rattle.typed_values.proofs.Within.{SomeChild, parts_at}
 use Rattle.api_types.specs.Types.{IsTableOf, ReachesExactly}
 
 -- steps are never spent
 pub rests : {ds : List Definition} {desc : Desc} {table : List Definition} → IsTableOf ds desc table → Rests table (room table desc) desc
-rests {desc = desc} {table = table} is = guarded_is_sound table desc is.table_passes.guarded desc (of_whole the_whole)
+rests {desc = desc} {table = table} is = guarded_rests table desc is.table_passes.guarded desc (of_whole the_whole)
 
 -- what mentions more reaches more
 pub reached_by : {table : List Definition} {a b : Desc} → ((name : List ℕ) → Mentions a name → Mentions b name) → (name : List ℕ) → IsReached table a name → IsReached table b name

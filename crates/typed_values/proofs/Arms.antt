@@ -21,7 +21,7 @@ use Rattle.typed_values.specs.declared.table.Definition.{Definition}
 use Rattle.typed_values.specs.Answer.{Tells}
 use Rattle.typed_values.specs.Definitions.{definition, tagged_name, variant_name}
 use Rattle.typed_values.specs.Denotes.{Told, told, below, refused, where_found, named_from, bare, without_payload, with_payload, chosen, at_tag, room, nought, truth, character, number, words, one_of_names, optional, just, external, tagged, first_told, at_definition}
-use Rattle.typed_values.specs.Sound.{Rests}
+use Rattle.typed_values.specs.Resting.{Rests}
 use Rattle.typed_values.specs.Parts.{IsPart, of_table, StandsIn, the_whole}
 use Rattle.typed_values.specs.Rows.{list_row, map_row, struct_row}
 use Rattle.typed_values.proofs.Found.{entry_found}

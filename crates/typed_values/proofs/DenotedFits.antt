@@ -32,7 +32,7 @@ use Rattle.typed_values.specs.Denotes.{Told, below, just, as_tree, if_absent, if
 use Rattle.typed_values.specs.Fits.{nought_fits, option_fits, field_desc, parts_fit, if_there, struct_of, fits_by, fits_under, Fits}
 use Rattle.typed_values.specs.Parts.{the_whole, IsPart, of_whole}
 use Rattle.typed_values.specs.Rows.{told_item, value_denotes, told_field, told_fields, told_struct, row, AreFieldsOf}
-use Rattle.typed_values.specs.Sound.{RestsBy, Rests}
+use Rattle.typed_values.specs.Resting.{RestsBy, Rests}
 use Rattle.typed_values.specs.Levels.{DescLevel}
 use Rattle.typed_values.proofs.Arms.{definition_is_part}
 use Rattle.typed_values.proofs.DenotedRows.{Gives, shown, below_gives, undenied, trees_of, whole_gives, nought_gives, truth_gives, character_gives, number_gives, words_give, name_gives, just_gives, optional_gives, items_give, entries_give, fields_give, choice_gives, bare_gives, payload_gives, tagged_gives}
@@ -42,7 +42,7 @@ use Rattle.schema_values.proofs.Contained.{contains_first, contains_later, conta
 use Rattle.typed_values.proofs.Inside.{part_of_option, part_of_list, part_of_map, parts_of_untagged, fields_of_struct, payloads_of_external, variants_of_tagged}
 use Rattle.typed_values.proofs.Narrower.{same_fits}
 use Rattle.typed_values.proofs.Rows.{row_at}
-use Rattle.typed_values.proofs.Soundness.{each_of, guarded_is_sound, is_right}
+use Rattle.typed_values.proofs.Soundness.{each_of, guarded_rests, is_right}
 
 -- ---- the parts of a level
 
@@ -101,7 +101,7 @@ module _ (table : List Definition) (whole : Desc) (passes : TablePasses table) (
   AgreesInside _ = Unit {0}
 
   rests : (d : Desc) → IsPart table whole d → Rests table (room table whole) d
-  rests = guarded_is_sound table whole passes.guarded
+  rests = guarded_rests table whole passes.guarded
 
   fits_at : (t : Tree) (d : Desc) → IsPart table whole d → (y : DescLevel) → out-Desc d ≡ y → fits_under table whole t d ≡ fits_by table (fits_under table whole) (fits_under table whole t) y (out-Tree t)
   fits_at t d part y e = fits_row table whole t d (rests d part) ∙ ap (λ (z : DescLevel). fits_by table (fits_under table whole) (fits_under table whole t) z (out-Tree t)) e

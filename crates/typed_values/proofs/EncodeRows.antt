@@ -24,7 +24,7 @@ use Rattle.typed_values.specs.Definitions.{definition, tagged_fields, tagged_nam
 use Rattle.typed_values.specs.Denotes.{room}
 use Rattle.typed_values.specs.Encoding.{is_left_out, unless, members_written, scalar_written, whole_written, name_written, listed_written, option_written, items_written, entries_written, parts_written, choice_written, variant_written, at_place, external_written, with_tag, tagged_written, written_if_there, written_by, written_under}
 use Rattle.typed_values.specs.Fits.{field_desc, struct_of}
-use Rattle.typed_values.specs.Sound.{Rests}
+use Rattle.typed_values.specs.Resting.{Rests}
 use Rattle.typed_values.specs.Levels.{DescLevel, TreeOf}
 use Rattle.typed_values.proofs.EncodeSteps.{struct_written, written_row, is_none_tree}
 use Rattle.typed_values.proofs.FitRows.{alternative_is}

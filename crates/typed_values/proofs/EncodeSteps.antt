@@ -18,7 +18,7 @@ use Rattle.typed_values.specs.Denotes.{room, nodes, nodes_of_table}
 use Rattle.typed_values.specs.Encoding.{Writing, is_left_out, unless, members_written, written_if_there, scalar_written, whole_written, listed_written, option_written, items_written, pair_written, entries_written, parts_written, choice_written, external_written, tagged_written, written_by, is_none_written, written_at, is_none_level, writing_step, writing, written_under}
 use Rattle.typed_values.specs.Fits.{field_desc}
 use Rattle.typed_values.specs.Levels.{DescLevel, TreeOf}
-use Rattle.typed_values.specs.Sound.{RestsBy, Rests}
+use Rattle.typed_values.specs.Resting.{RestsBy, Rests}
 use Rattle.typed_values.proofs.Rows.{two_maps}
 use Rattle.typed_values.proofs.TreeLevels.{pair_with, level_with, folded_level}
 

@@ -18,7 +18,7 @@ use Rattle.typed_values.specs.declared.table.Definition.{Definition}
 use Rattle.typed_values.specs.Definitions.{definition}
 use Rattle.typed_values.specs.Denotes.{room}
 use Rattle.typed_values.specs.Fits.{field_desc, fields_fit, whole_fits, nought_fits, truth_fits, number_fits, words_fit, character_fits, name_fits, option_fits, items_fit, entries_fit, parts_fit, choice_fits, if_there, alternative_at, payload_of, struct_of, fits_by, fits_under}
-use Rattle.typed_values.specs.Sound.{Rests}
+use Rattle.typed_values.specs.Resting.{Rests}
 use Rattle.typed_values.specs.Levels.{DescLevel}
 use Rattle.typed_values.proofs.FitSteps.{fits_row}
 use Rattle.schema_values.proofs.Contained.{contains_first, contains_later}

@@ -16,7 +16,7 @@ use Rattle.typed_values.specs.Definitions.{definition}
 use Rattle.typed_values.specs.Denotes.{room, nodes, nodes_of_table}
 use Rattle.typed_values.specs.Fits.{Fitting, whole_fits, nought_fits, truth_fits, number_fits, words_fit, character_fits, name_fits, option_fits, each_fits, items_fit, are_ascending, key_of, entries_fit, field_desc, fields_fit, parts_fit, if_there, choice_fits, payload_of, struct_of, fits_by, fits_at, fits_within, fits_under}
 use Rattle.typed_values.specs.Levels.{DescLevel, TreeOf, PairOf}
-use Rattle.typed_values.specs.Sound.{RestsBy, Rests}
+use Rattle.typed_values.specs.Resting.{RestsBy, Rests}
 use Rattle.typed_values.proofs.TreeLevels.{pair_with, level_with, folded_level}
 
 -- a row of smaller trees is that of what they stand for

@@ -8,7 +8,7 @@ use Rattle.typed_values.specs.declared.desc.Desc.TheOpen.{Desc-F}
 use Rattle.typed_values.specs.declared.table.Definition.{Definition}
 use Rattle.typed_values.specs.Definitions.{definition}
 use Rattle.typed_values.specs.Denotes.{room}
-use Rattle.typed_values.specs.Sound.{EachRests, RestsBy, Rests}
+use Rattle.typed_values.specs.Resting.{EachRests, RestsBy, Rests}
 use Rattle.typed_values.specs.Levels.{DescLevel}
 
 abbrev pub steps_after : (Desc → ℕ) → Option Desc → ℕ

@@ -22,13 +22,13 @@ use Rattle.typed_values.specs.Fits.{name_fits, option_fits, each_fits, items_fit
 use Rattle.typed_values.specs.Guarded.{IsGuarded}
 use Rattle.typed_values.specs.Levels.{DescLevel, TreeOf}
 use Rattle.typed_values.specs.Parts.{StandsIn, the_whole, in_option, in_list, in_map, in_field, in_payload, in_variant, in_alternative, IsPart, of_whole, of_table}
-use Rattle.typed_values.specs.Sound.{RestsBy, Rests}
+use Rattle.typed_values.specs.Resting.{RestsBy, Rests}
 use Rattle.typed_values.proofs.Arms.{definition_is_part}
 use Rattle.typed_values.proofs.FitRows.{alternative_inside, skipped_desc}
 use Rattle.typed_values.proofs.FitSteps.{fits_row, nought_row, skipped_row, struct_row}
 use Rattle.schema_values.proofs.Contained.{contains_first, contains_later}
 use Rattle.typed_values.proofs.Inside.{part_of}
-use Rattle.typed_values.proofs.Soundness.{guarded_is_sound, is_right}
+use Rattle.typed_values.proofs.Soundness.{guarded_rests, is_right}
 use Rattle.typed_values.proofs.TreeParts.{OfParts, by_parts, parts_weaker}
 use Rattle.typed_values.proofs.Within.{stands_through}
 
@@ -174,13 +174,13 @@ module _ (table : List Definition) (whole inner : Desc) (inside : IsPart table w
     unfolding SameWithin Rests
     same_within zero d rest part = absurd rest
     same_within (suc n) d rest part =
-        fits_row table whole t d (guarded_is_sound table whole guarded d (wider table whole inner inside d part))
+        fits_row table whole t d (guarded_rests table whole guarded d (wider table whole inner inside d part))
         ∙ same_row n (same_within n) d part (out-Desc d) refl rest
-        ∙ sym (fits_row table inner t d (guarded_is_sound table inner guarded d part))
+        ∙ sym (fits_row table inner t d (guarded_rests table inner guarded d part))
 
     same_in : Same t
     unfolding SameWithin
-    same_in d part = same_within (room table inner) d (guarded_is_sound table inner guarded d part) part
+    same_in d part = same_within (room table inner) d (guarded_rests table inner guarded d part) part
 
   known : (t : Tree) → SameFarInside t
   known = by_parts SameFarInside (λ t far. ((same_in t far, own_parts t far), parts t far))

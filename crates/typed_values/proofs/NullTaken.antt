@@ -12,7 +12,7 @@ use Rattle.typed_values.specs.Checks.{TakesNull, any_value, null_itself, an_opti
 use Rattle.typed_values.specs.Definitions.{definition}
 use Rattle.typed_values.specs.Denotes.{Told, room, told, or_else, first_told, at_definition}
 use Rattle.typed_values.specs.Rows.{row}
-use Rattle.typed_values.specs.Sound.{RestsBy, Rests, IsSound}
+use Rattle.typed_values.specs.Resting.{RestsBy, Rests, AllRest}
 use Rattle.typed_values.specs.Levels.{DescLevel}
 use Rattle.schema_values.proofs.Contained.{contains_first, contains_later}
 use Rattle.typed_values.proofs.Needed.{IsNeeded, needed_part, alternative_needed, definition_needed}
@@ -31,7 +31,7 @@ teller : (f : Desc → Told) (i : ℕ) (ds : List Desc) (t : Tree) → first_tol
 teller f i [] t e = absurd (cc e)
 teller f i (d ∷ ds) t e = teller_by f i d ds (f d) t refl (teller f (i + 1) ds t) e
 
-module _ (table : List Definition) (whole : Desc) (sound : IsSound table whole) (j : Json) (null : out-Json j ≡ Json-F.Null) where
+module _ (table : List Definition) (whole : Desc) (sound : AllRest table whole) (j : Json) (null : out-Json j ≡ Json-F.Null) where
   abbrev TakesWhere : Desc → Type 0
   TakesWhere d = (t : Tree) → told table whole j d ≡ Ok t → TakesNull table d
 

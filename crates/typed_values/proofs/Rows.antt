@@ -22,7 +22,7 @@ use Rattle.typed_values.specs.Faults.{Trouble}
 use Rattle.typed_values.specs.Definitions.{tagged_fields}
 use Rattle.typed_values.specs.Denotes.{Told, below, Meaning, NamedMeaning, Level, value_named, nought, truth, character, number, words, one_of_names, optional, items, entries, fields, all_told, field_told, by_presence, value_told, and_then, as_tree, as_pair, if_holds, unless_denied, denied_name, member_name, external, at_tag, by_tag, chosen, tagged, told_by, told_within, room, told}
 use Rattle.schema_values.specs.Order.{sorted_by}
-use Rattle.typed_values.specs.Sound.{Rests}
+use Rattle.typed_values.specs.Resting.{Rests}
 use Rattle.typed_values.specs.Rows.{told_item, told_entry, value_denotes, told_field, told_fields, list_row, map_row, struct_row, row}
 use Rattle.typed_values.specs.Levels.{DescLevel}
 use Rattle.schema_values.proofs.SortedLemmas.{map_sorted}

@@ -9,7 +9,7 @@ use Rattle.typed_values.specs.Definitions.{definition}
 use Rattle.typed_values.specs.Denotes.{room}
 use Rattle.typed_values.specs.Guarded.{named_here, Reaches, at_once, through, IsGuarded}
 use Rattle.typed_values.specs.Parts.{IsPart, of_whole, of_table}
-use Rattle.typed_values.specs.Sound.{EachRests, RestsBy, Rests, IsSound}
+use Rattle.typed_values.specs.Resting.{EachRests, RestsBy, Rests, AllRest}
 use Rattle.typed_values.specs.Checks.{IsPlainlyRight, TablePasses, DescPasses}
 use Rattle.typed_values.specs.Levels.{DescLevel}
 use Rattle.typed_values.proofs.Found.{other_name, same_name, same_or_not, entry_found}
@@ -170,14 +170,14 @@ module _ (table : List Definition) (guarded : IsGuarded table) where
   rests_within (suc n) left d le inv = rests_by n (rests_within n) left d le inv (out-Desc d) refl
 
 -- The steps are never spent.
-pub guarded_is_sound : (table : List Definition) (whole : Desc) → IsGuarded table → IsSound table whole
+pub guarded_rests : (table : List Definition) (whole : Desc) → IsGuarded table → AllRest table whole
 unfolding AreLeft Budget room
-guarded_is_sound table whole guarded d (of_whole s) =
+guarded_rests table whole guarded d (of_whole s) =
     elim (stands_inside table whole d s) [
       | inl a ↦ rests_within table guarded (room table whole) table d (omega (arith, a.fewer, top_fits whole, tops_fit table)) (none_taken table d)
       | inr b ↦ rests_within table guarded (room table whole) table d (omega (arith, b, top_fits d, tops_fit table)) (none_taken table d)
     ]
-guarded_is_sound table whole guarded d (of_table e c s) =
+guarded_rests table whole guarded d (of_table e c s) =
     elim (stands_inside table e.desc d s) [
       | inl a ↦ elim (found_or_hidden table e c) [
         | inl found ↦

@@ -9,7 +9,7 @@ use Rattle.typed_values.specs.declared.desc.Desc.TheOpen.{Desc-F}
 use Rattle.typed_values.specs.declared.table.Definition.{Definition}
 use Rattle.typed_values.specs.Definitions.{definition}
 use Rattle.typed_values.specs.Denotes.{Told, Meaning, Level, told_by, first_told, or_else, told_at, told_within, room, told, optional, at_definition}
-use Rattle.typed_values.specs.Sound.{EachRests, RestsBy, Rests}
+use Rattle.typed_values.specs.Resting.{EachRests, RestsBy, Rests}
 use Rattle.typed_values.specs.Levels.{DescLevel}
 
 -- one level of a JSON value, where each smaller value stands beside what it denotes

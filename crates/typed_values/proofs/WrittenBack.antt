@@ -39,7 +39,7 @@ use Rattle.typed_values.specs.Fits.{option_fits, each_fits, items_fit, are_ascen
 use Rattle.typed_values.specs.Levels.{DescLevel, TreeOf}
 use Rattle.typed_values.specs.Parts.{the_whole}
 use Rattle.typed_values.specs.Rows.{told_item, told_entry, value_denotes, told_field, told_fields, list_row, map_row, struct_row, row}
-use Rattle.typed_values.specs.Sound.{RestsBy, Rests}
+use Rattle.typed_values.specs.Resting.{RestsBy, Rests}
 use Rattle.typed_values.specs.Reached.{IsUntagged, ReachesNoUntagged}
 use Rattle.typed_values.proofs.Arms.{not_null}
 use Rattle.typed_values.proofs.AscendingKeys.{keys_sorted}
@@ -52,7 +52,7 @@ use Rattle.schema_values.proofs.Contained.{contains_first, contains_later}
 use Rattle.typed_values.proofs.Needed.{IsNeeded, of_whole, of_reached, needed_part, option_needed, list_needed, map_needed, field_needed, payload_needed, variant_needed, alternative_needed, definition_needed}
 use Rattle.typed_values.proofs.Ordered.{Ascends, sorted_stays}
 use Rattle.typed_values.proofs.Rows.{two_maps, row_at}
-use Rattle.typed_values.proofs.Soundness.{is_right, guarded_is_sound}
+use Rattle.typed_values.proofs.Soundness.{is_right, guarded_rests}
 use Rattle.typed_values.proofs.Fields.{names_apart, fields_distinct, distinct_at}
 use Rattle.typed_values.proofs.NullTaken.{null_taken}
 use Rattle.typed_values.proofs.ScalarsBack.{ReadsBack, nought_is, whole_back, nought_back, truth_back, character_back, number_back, words_back, name_back}
@@ -92,7 +92,7 @@ module _ (table : List Definition) (whole : Desc) (passes : TablePasses table) (
   inside_of t h = (h.0, parts_weaker {P = BackInside} {Q = Back} (λ s k. k.0) (out-Tree t) h.1)
 
   rests : (d : Desc) → IsNeeded table whole d → Rests table (room table whole) d
-  rests d need = guarded_is_sound table whole passes.guarded d (needed_part table whole d need)
+  rests d need = guarded_rests table whole passes.guarded d (needed_part table whole d need)
 
   untagged_refuted : (d : Desc) → IsNeeded table whole d → IsUntagged d → Exact → ⊥
   untagged_refuted d (of_whole s) untagged exact = exact.in_desc d s untagged
@@ -101,7 +101,7 @@ module _ (table : List Definition) (whole : Desc) (passes : TablePasses table) (
   never_null : (d x : Desc) → IsNeeded table whole d → out-Desc d ≡ Desc-F.Option x → (j : Json) (read : Tree) → told table whole j x ≡ Ok read → out-Json j ≡ Json-F.Null → ⊥
   never_null d x need e j read is null =
       (is_right table whole d passes right (needed_part table whole d need)).null_once
-      (x, e, null_taken table whole (guarded_is_sound table whole passes.guarded) j null x (option_needed table whole d x e need) read is)
+      (x, e, null_taken table whole (guarded_rests table whole passes.guarded) j null x (option_needed table whole d x e need) read is)
 
   -- ---- row by row
 

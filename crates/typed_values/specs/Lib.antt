@@ -11,7 +11,7 @@ pub mod Parts
 pub mod Guarded
 pub mod Search
 pub mod Reached
-pub mod Sound
+pub mod Resting
 pub mod Once
 pub mod Order
 pub mod Encoding

@@ -1,11 +1,11 @@
--- A table is sound in one way at most, so that a ghost field can say it.
+-- Lemmas that a ghost field cites: a descriptor rests in one way at most, so that the field can say it.
 use Rattle.std.specs.Prelude.{ℕ, zero, suc, ⊤, List, [], ◌∷◌, Option, Some, None, refl, MatchOption}
 use Rattle.typed_values.specs.declared.desc.Desc.{Desc, out-Desc}
 use Rattle.typed_values.specs.declared.desc.Desc.TheOpen.{Desc-F}
 use Rattle.typed_values.specs.declared.table.Definition.{Definition}
 use Rattle.typed_values.specs.Definitions.{definition}
 use Rattle.typed_values.specs.Denotes.{room}
-use Rattle.typed_values.specs.Sound.{EachRests, RestsBy, Rests, IsSound}
+use Rattle.typed_values.specs.Resting.{EachRests, RestsBy, Rests, AllRest}
 use Rattle.typed_values.specs.Levels.{DescLevel}
 
 -- there is one way at most to say it of the definition of a name
@@ -43,6 +43,6 @@ unfolding Rests
 once_rests table zero d = λ a b. absurd a
 once_rests table (suc n) d = once_by table (Rests table n) (once_rests table n) (out-Desc d)
 
--- a table and a whole descriptor are sound in one way at most
-pub once_sound : (table : List Definition) (whole : Desc) → IsProp (IsSound table whole)
-once_sound table whole = λ a b i d p. once_rests table (room table whole) d (a d p) (b d p) i
+-- each descriptor of a table and of a whole one rests in one way at most
+pub once_all_rest : (table : List Definition) (whole : Desc) → IsProp (AllRest table whole)
+once_all_rest table whole = λ a b i d p. once_rests table (room table whole) d (a d p) (b d p) i

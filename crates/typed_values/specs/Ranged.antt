@@ -1,4 +1,4 @@
--- What checks of a table give: bounds are in order, and there are no more alternatives than places.
+-- What checks of a table give: bounds are in order and of their kind, and there are no more alternatives than places.
 use Rattle.std.specs.Prelude.{List}
 use Rattle.typed_values.specs.declared.desc.Desc.{Desc}
 use Rattle.typed_values.specs.declared.table.Definition.{Definition}

@@ -7,13 +7,21 @@ use std::alloc::{AllocError, Global};
 /// A kind of whole numbers: its width in bits, and whether it has a sign.
 #[derive(Clone, Copy, Debug, PartialEq, Eq)]
 pub enum IntKind {
+    /// From -2^7 to 2^7-1.
     I8,
+    /// From -2^15 to 2^15-1.
     I16,
+    /// From -2^31 to 2^31-1.
     I32,
+    /// From -2^63 to 2^63-1.
     I64,
+    /// From 0 to 2^8-1.
     U8,
+    /// From 0 to 2^16-1.
     U16,
+    /// From 0 to 2^32-1.
     U32,
+    /// From 0 to 2^64-1.
     U64,
 }
 
@@ -25,15 +33,19 @@ pub enum Desc {
     Any,
     /// No value.
     Never,
+    /// Null alone.
     Null,
+    /// A truth value.
     Bool,
     /// A text of one character.
     Char,
+    /// A whole number of a kind, within its bounds.
     Int {
         kind: IntKind,
         min: Option<i128>,
         max: Option<i128>,
     },
+    /// A text whose number of characters is within its bounds. The format is shown and not tested.
     Text {
         min: Option<u32>,
         max: Option<u32>,
@@ -45,6 +57,7 @@ pub enum Desc {
     },
     /// `null`, or a value of the inner type.
     Option(Boxed<Desc>),
+    /// A list whose number of items is within its bounds, each item of one descriptor.
     List {
         item: Boxed<Desc>,
         min: Option<u32>,
@@ -52,6 +65,7 @@ pub enum Desc {
     },
     /// An object whose values are all of the inner type.
     Map(Boxed<Desc>),
+    /// An object of some fields, and of other names too unless they are denied.
     Struct {
         fields: List<Field>,
         deny_unknown: bool,
@@ -77,7 +91,9 @@ pub enum Desc {
 /// A name of an enumeration.
 #[derive(Drop)]
 pub struct Named {
+    /// The name.
     pub name: Text,
+    /// What a document says of it.
     pub description: Option<Text>,
 }
 
@@ -85,8 +101,11 @@ pub struct Named {
 #[derive(Drop)]
 #[cycle(desc)]
 pub struct Variant {
+    /// Its name.
     pub name: Text,
+    /// What a document says of it.
     pub description: Option<Text>,
+    /// What stands under its name. Without any, the name itself is the value.
     pub payload: Option<Desc>,
 }
 
@@ -94,8 +113,11 @@ pub struct Variant {
 #[derive(Drop)]
 #[cycle(desc)]
 pub struct TaggedVariant {
+    /// Its name, which stands under the tag.
     pub name: Text,
+    /// What a document says of it.
     pub description: Option<Text>,
+    /// Its fields, in the order in which they are written.
     pub fields: List<Field>,
 }
 
@@ -103,9 +125,13 @@ pub struct TaggedVariant {
 #[derive(Drop)]
 #[cycle(desc)]
 pub struct Field {
+    /// Its name.
     pub name: Text,
+    /// The descriptor of its values.
     pub desc: Desc,
+    /// What stands for it where it is absent.
     pub presence: Presence,
+    /// What a document says of it.
     pub description: Option<Text>,
 }
 

@@ -66,7 +66,9 @@ impl Fault {
 /// Why there is no tree.
 #[derive(Debug, Drop)]
 pub enum DecodeError {
+    /// The JSON denotes no tree, and this is the fault that is told first.
     Fault(Fault),
+    /// There was not enough memory.
     OutOfMemory,
 }
 

@@ -1,9 +1,9 @@
 ghost use Rattle.std.specs.Prelude.{◌≡◌};
 ghost use Rattle.typed_values.specs.Checks.{TablePasses, DescPasses};
 ghost use Rattle.typed_values.specs.Guarded.{IsGuarded};
-ghost use Rattle.typed_values.specs.Once.{once_sound};
+ghost use Rattle.typed_values.specs.Once.{once_all_rest};
 ghost use Rattle.typed_values.specs.Ranged.{AreRangesRight};
-ghost use Rattle.typed_values.specs.Sound.{IsSound};
+ghost use Rattle.typed_values.specs.Resting.{AllRest};
 
 use crate::desc::Desc;
 use crate::table::DescTable;
@@ -13,7 +13,7 @@ use crate::table::DescTable;
 pub(crate) struct Scope<'a> {
     pub table: &'a DescTable,
     pub whole: &'a Desc,
-    ghost sound: { IsSound table.now whole.now } by { once_sound table.now whole.now },
+    ghost sound: { AllRest table.now whole.now } by { once_all_rest table.now whole.now },
 }
 
 impl<'a> Scope<'a> {
@@ -31,7 +31,7 @@ impl<'a> Scope<'a> {
 pub(crate) struct Decoder<'a> {
     pub table: &'a DescTable,
     pub whole: &'a Desc,
-    ghost sound: { IsSound table.now whole.now } by { once_sound table.now whole.now },
+    ghost sound: { AllRest table.now whole.now } by { once_all_rest table.now whole.now },
     ghost ranged: { AreRangesRight table.now whole.now },
 }
 

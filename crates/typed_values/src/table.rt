@@ -16,8 +16,11 @@ use std::marker::Model;
 /// A named descriptor.
 #[derive(Drop)]
 pub struct Definition {
+    /// The name by which references mean it.
     pub name: Text,
+    /// What a document says of it.
     pub description: Option<Text>,
+    /// The descriptor.
     pub desc: Desc,
 }
 

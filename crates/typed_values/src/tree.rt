@@ -9,13 +9,19 @@ use std::alloc::{AllocError, Global};
 pub enum Tree {
     /// The value of null, and beside its place that of a name or of a variant without payload.
     Unit,
+    /// A truth value.
     Bool(bool),
+    /// A whole number.
     Int(i128),
+    /// A text, or one character.
     Text(Text),
+    /// No value: of an option, or of a field that is absent.
     None,
+    /// The value of an option, or of a field that may be absent.
     Some(Boxed<Tree>),
+    /// The items in their order.
     List(List<Tree>),
-    /// The keys of a value that fits ascend.
+    /// Keys and values. The keys of a value that fits ascend.
     Map(List<Pair>),
     /// One tree for each field, in the order in which the fields are declared.
     Fields(List<Tree>),
@@ -29,7 +35,9 @@ pub enum Tree {
 #[derive(Drop)]
 #[cycle(tree)]
 pub struct Pair {
+    /// The key.
     pub key: Text,
+    /// Its value.
     pub value: Tree,
 }
 

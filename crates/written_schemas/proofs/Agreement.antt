@@ -11,7 +11,7 @@ use Rattle.typed_values.specs.Checks.{TablePasses, DescPasses}
 use Rattle.typed_values.specs.Definitions.{definition, entry_of}
 use Rattle.typed_values.specs.Denotes.{Told, told, nought, truth, character, number, words, at_definition}
 use Rattle.typed_values.specs.Rows.{row}
-use Rattle.typed_values.specs.Sound.{EachRests, RestsBy, Rests, IsSound}
+use Rattle.typed_values.specs.Resting.{EachRests, RestsBy, Rests, AllRest}
 use Rattle.typed_values.specs.SchemaTable.{drawn, other_members, schema_json}
 use Rattle.typed_values.specs.Levels.{DescLevel}
 use Rattle.typed_values.proofs.Fields.{names_apart, fields_distinct}
@@ -36,7 +36,7 @@ at_most_of : (f : Desc → ℕ) (ds : List Desc) (x : Desc) → Contains ds x �
 at_most_of f [] x c = absurd (omega (arith, c.1))
 at_most_of f (y ∷ ds) x c = elim (contains_cases y ds x c) [ inl q ↦ omega (arith, ap f q) | inr k ↦ omega (arith, at_most_of f ds x k) ]
 
-module _ (table : List Definition) (whole : Desc) (doc : Json) (q : ℕ) (passes : TablePasses table) (right : DescPasses table whole) (sound : IsSound table whole) (defines : DefinesReached doc table whole) (some : 1 ≤ q) where
+module _ (table : List Definition) (whole : Desc) (doc : Json) (q : ℕ) (passes : TablePasses table) (right : DescPasses table whole) (sound : AllRest table whole) (defines : DefinesReached doc table whole) (some : 1 ≤ q) where
   told_row : (j : Json) (d : Desc) → IsNeeded table whole d → (z : DescLevel) → out-Desc d ≡ z → told table whole j d ≡ row table whole j (out-Json j) z
   told_row j d need z e = row_at table whole j d (out-Json j) z (sound d (needed_part table whole d need)) refl e
 

@@ -13,7 +13,7 @@ use Rattle.typed_values.specs.declared.desc.Desc.{Desc}
 use Rattle.typed_values.specs.declared.table.Definition.{Definition}
 use Rattle.typed_values.specs.Checks.{TablePasses, DescPasses}
 use Rattle.typed_values.specs.Denotes.{room}
-use Rattle.typed_values.specs.Sound.{IsSound}
+use Rattle.typed_values.specs.Resting.{AllRest}
 use Rattle.typed_values.proofs.Needed.{IsNeeded, needed_part}
 use Rattle.written_schemas.specs.Reached.{DefinesReached}
 use Rattle.written_schemas.proofs.Costs.{cost}
@@ -21,7 +21,7 @@ use Rattle.written_schemas.proofs.AtOneValue.{Agrees, Below}
 use Rattle.written_schemas.proofs.Agreement.{agree_at}
 use Rattle.schema_values.proofs.JsonParts.{OfParts, by_parts}
 
-module _ (table : List Definition) (whole : Desc) (doc : Json) (q : ℕ) (passes : TablePasses table) (right : DescPasses table whole) (sound : IsSound table whole) (defines : DefinesReached doc table whole) (some : 1 ≤ q)
+module _ (table : List Definition) (whole : Desc) (doc : Json) (q : ℕ) (passes : TablePasses table) (right : DescPasses table whole) (sound : AllRest table whole) (defines : DefinesReached doc table whole) (some : 1 ≤ q)
     (bounded : (d : Desc) → IsNeeded table whole d → cost table (room table whole) d ≤ q) where
   abbrev AgreesSound : Json → Type 0
   AgreesSound j = IsSoundValue j → Agrees table whole doc q j

@@ -23,7 +23,7 @@ use Rattle.typed_values.specs.Faults.{Trouble}
 use Rattle.schema_values.specs.Order.{sorted_by}
 use Rattle.typed_values.specs.Parts.{the_whole}
 use Rattle.typed_values.specs.Rows.{told_item, told_entry, value_denotes, told_field, list_row, map_row, struct_row, row}
-use Rattle.typed_values.specs.Sound.{EachRests, RestsBy, Rests, IsSound}
+use Rattle.typed_values.specs.Resting.{EachRests, RestsBy, Rests, AllRest}
 use Rattle.typed_values.specs.Levels.{DescLevel}
 use Rattle.typed_values.proofs.Found.{definition_is}
 use Rattle.schema_values.proofs.Contained.{contains_first, contains_later}
@@ -31,7 +31,7 @@ use Rattle.schema_values.proofs.JsonParts.{OfParts, by_parts}
 use Rattle.typed_values.proofs.Needed.{IsNeeded, of_whole, needed_part, option_needed, list_needed, map_needed, field_needed, payload_needed, variant_needed, alternative_needed, reference_needed}
 use Rattle.typed_values.proofs.Rows.{row_at}
 use Rattle.schema_values.proofs.SortedLemmas.{all_sorted}
-use Rattle.typed_values.proofs.Soundness.{guarded_is_sound, each_of}
+use Rattle.typed_values.proofs.Soundness.{guarded_rests, each_of}
 use Rattle.typed_values.proofs.Tops.{nodes_at}
 
 -- a descriptor under so many options
@@ -111,7 +111,7 @@ tag_alike tag f g vs h j (Json-F.Text w) e = rw e (found_alike tagged_name _ f g
 tag_alike tag f g vs h j (Json-F.List js) e = rw e refl
 tag_alike tag f g vs h j (Json-F.Object ms) e = rw e refl
 
-module _ (table : List Definition) (whole more : Desc) (sound : IsSound table whole) (le : room table whole ≤ room table more) where
+module _ (table : List Definition) (whole more : Desc) (sound : AllRest table whole) (le : room table whole ≤ room table more) where
   -- both tell the same of the descriptors that the whole one needs
   abbrev Same : Json → Type 0
   Same j = (d : Desc) → IsNeeded table whole d → told table more j d ≡ told table whole j d
@@ -250,4 +250,4 @@ more_steps table desc passes right json steps le =
     let k : ℕ = steps - room table desc in
     let is : room table (options k desc) ≡ steps = omega (arith, room_under table k desc, le) in
     sym (ap (λ (n : ℕ). told_within table n json n desc) is)
-    ∙ same table desc (options k desc) (guarded_is_sound table desc passes.guarded) (omega (arith, is, le)) json desc (of_whole the_whole)
+    ∙ same table desc (options k desc) (guarded_rests table desc passes.guarded) (omega (arith, is, le)) json desc (of_whole the_whole)

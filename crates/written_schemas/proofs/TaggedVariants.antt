@@ -18,7 +18,7 @@ use Rattle.typed_values.specs.Checks.{IsPlainlyRight, names_of_fields}
 use Rattle.typed_values.specs.Definitions.{field_name, tagged_name, tagged_fields}
 use Rattle.typed_values.specs.Denotes.{Told, told, room, nodes, nodes_of_table, chosen, at_tag, by_tag, tagged, one_of_names, by_presence, value_named}
 use Rattle.typed_values.specs.Rows.{value_denotes, told_field, told_fields, told_struct, struct_row}
-use Rattle.typed_values.specs.Sound.{RestsBy, Rests}
+use Rattle.typed_values.specs.Resting.{RestsBy, Rests}
 use Rattle.typed_values.specs.Levels.{DescLevel}
 use Rattle.typed_values.proofs.Denoted.{ok_below, ok_all, ok_struct}
 use Rattle.typed_values.proofs.Fields.{names_apart, distinct_at}

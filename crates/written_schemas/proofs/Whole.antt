@@ -14,7 +14,7 @@ use Rattle.typed_values.specs.Parts.{the_whole}
 use Rattle.typed_values.specs.SchemaTable.{Remarks, drawn, drawn_json, schema_json, schema_json_titled, schema_json_described}
 use Rattle.typed_values.specs.Levels.{DescLevel}
 use Rattle.typed_values.proofs.Needed.{of_whole}
-use Rattle.typed_values.proofs.Soundness.{guarded_is_sound}
+use Rattle.typed_values.proofs.Soundness.{guarded_rests}
 use Rattle.written_schemas.specs.Written.{IsWritten, AdmitsDenoted, StepsSuffice}
 use Rattle.written_schemas.proofs.Notes.{noted}
 use Rattle.written_schemas.proofs.EachValue.{agree}
@@ -30,7 +30,7 @@ module _ (doc : Json) (table : List Definition) (desc : Desc) (written : IsWritt
   pub agree_with : (q : ℕ) → values doc + bare table desc ≤ q → (json : Json) → IsSoundValue json → (t : Option (List ℕ)) (s : Remarks)
       → admits_within doc q json q (drawn_json (noted (drawn table desc).nullable t s (drawn table desc))) ≡ is_ok (told table desc json desc)
   agree_with q enough json sound t s =
-      agree table desc doc q written.table_passes written.desc_passes (guarded_is_sound table desc written.table_passes.guarded) written.defined (omega (arith, enough))
+      agree table desc doc q written.table_passes written.desc_passes (guarded_rests table desc written.table_passes.guarded) written.defined (omega (arith, enough))
       (λ d need. omega (arith, cost_bounded table desc doc written.table_passes written.defined (table_room table desc) d need, enough))
       json sound desc (of_whole the_whole) false t s
 

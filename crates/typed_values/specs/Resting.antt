@@ -26,5 +26,5 @@ Rests table zero d = ⊥
 Rests table (suc n) d = RestsBy table (Rests table n) (out-Desc d)
 
 -- each descriptor of the table and of the whole one rests within the room
-abbrev pub IsSound : List Definition → Desc → Type 0
-IsSound table whole = (d : Desc) → IsPart table whole d → Rests table (room table whole) d
+abbrev pub AllRest : List Definition → Desc → Type 0
+AllRest table whole = (d : Desc) → IsPart table whole d → Rests table (room table whole) d
