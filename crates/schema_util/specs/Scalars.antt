@@ -101,6 +101,20 @@ mutual
     at_rest : {met : List (List ℕ)} {schema : Schema} {rest : List Schema} (fault : Option Fault) → FirstFault asked names met schema None
         → FirstFaultAmong asked names met rest fault → FirstFaultAmong asked names met (schema ∷ rest) fault
 
+mutual
+  -- a schema is one of what is asked for, behind the names that were met: by its type, behind a reference, or by its members
+  pub data IsOf (asked : Asked) (names : Names) : List (List ℕ) → Schema → Type 0 where
+    by_type : {met : List (List ℕ)} {schema : Schema} → finding asked schema ≡ fits → IsOf asked names met schema
+    behind_reference : {met : List (List ℕ)} {schema : Schema} (text name : List ℕ) (next : Schema) → finding asked schema ≡ refers text
+        → follow names met text ≡ Ok (name, next) → IsOf asked names (name ∷ met) next → IsOf asked names met schema
+    by_members : {met : List (List ℕ)} {schema : Schema} (members : List Schema) → finding asked schema ≡ has_members members
+        → AreOf asked names met members → IsOf asked names met schema
+
+  -- each of some schemas is
+  pub data AreOf (asked : Asked) (names : Names) : List (List ℕ) → List Schema → Type 0 where
+    no_more : {met : List (List ℕ)} → AreOf asked names met []
+    one_more : {met : List (List ℕ)} {schema : Schema} {rest : List Schema} → IsOf asked names met schema → AreOf asked names met rest → AreOf asked names met (schema ∷ rest)
+
 -- the one schema of all items
 abbrev pub one_item : Option Items → Option Schema
 one_item None = None
