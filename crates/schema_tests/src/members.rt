@@ -10,12 +10,14 @@ const DEFINITIONS: &str = r##"{
     "C": {"type":"object","properties":{"c":{"type":"string"}},"required":["c"]},
     "All": {"type":"object","properties":{"a":true},"allOf":[{"$ref":"#/components/schemas/All"}]},
     "Any": {"type":"object","properties":{"a":true},"anyOf":[{"$ref":"#/components/schemas/Any"}]},
+    "Left": {"type":"object","allOf":[{"$ref":"#/components/schemas/Right"}]},
+    "Right": {"type":"object","anyOf":[{"$ref":"#/components/schemas/Left"}]},
     "Missing": {"type":"object","properties":{"a":true},"anyOf":[{"$ref":"#/components/schemas/N"}]},
     "A": {"$ref":"#/components/schemas/A"}
 }"##;
 
 // A schema that is no struct's, the cause, and the name that it tells.
-const REFUSED: [(&str, &str, &str); 22] = [
+const REFUSED: [(&str, &str, &str); 28] = [
     (
         r#"{"type":"array","items":{"type":"string"}}"#,
         "InvalidType",
@@ -30,6 +32,17 @@ const REFUSED: [(&str, &str, &str); 22] = [
     ),
     (r#"{"type":"object","format":"a"}"#, "InvalidType", ""),
     (r#"{"type":["object","null"]}"#, "InvalidType", ""),
+    (
+        r##"{"type":"object","$ref":"#/components/schemas/C"}"##,
+        "InvalidType",
+        "",
+    ),
+    (r#"{"enum":["a"]}"#, "InvalidEnum", ""),
+    (
+        r#"{"type":["string","null"],"enum":["a"]}"#,
+        "InvalidEnum",
+        "",
+    ),
     (r#"{"type":"boolean","enum":[true]}"#, "InvalidEnum", ""),
     (r#"{"type":"string","enum":["a"]}"#, "InvalidEnum", ""),
     (r#"{"allOf":[{"type":"object"}]}"#, "InvalidEnum", ""),
@@ -56,6 +69,16 @@ const REFUSED: [(&str, &str, &str); 22] = [
         "",
     ),
     (
+        r#"{"type":"object","anyOf":[{"type":"object"}],"allOf":[{"type":"object"}]}"#,
+        "InvalidSubschema",
+        "",
+    ),
+    (
+        r##"{"type":"object","anyOf":[{"enum":["a"]},{"$ref":"#/components/schemas/N"}]}"##,
+        "InvalidEnum",
+        "",
+    ),
+    (
         r#"{"type":"object","properties":{"a":true},"anyOf":[true]}"#,
         "InvalidType",
         "",
@@ -73,6 +96,7 @@ const REFUSED: [(&str, &str, &str); 22] = [
     ),
     (r##"{"$ref":"#/components/schemas/All"}"##, "Cycle", "All"),
     (r##"{"$ref":"#/components/schemas/Any"}"##, "Cycle", "Any"),
+    (r##"{"$ref":"#/components/schemas/Left"}"##, "Cycle", "Left"),
     (r##"{"$ref":"#/components/schemas/A"}"##, "Cycle", "A"),
 ];
 

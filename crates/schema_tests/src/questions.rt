@@ -3,7 +3,7 @@ use crate::reading::{definitions, schema};
 use crate::written::written;
 use schema_util::ResolveError::{Cycle, Dangling};
 use schema_util::{ResolveError, is_empty, resolve, schema_extensions, schema_extract_description};
-use schema_values::{Schema, Text};
+use schema_values::{InstanceType, InstanceTypes, Schema, SchemaObject, Text};
 use std::alloc::Global;
 use std::test::Fail;
 
@@ -18,7 +18,7 @@ const DEFINITIONS: &str = r##"{
 }"##;
 
 // A schema, and what the one that it leads to is written as, or why it leads to none.
-const LED: [(&str, Result<&str, ResolveError<'static>>); 8] = [
+const LED: [(&str, Result<&str, ResolveError<'static>>); 9] = [
     (r##"{"$ref":"#/components/schemas/A"}"##, Err(Cycle("A"))),
     (r##"{"$ref":"#/components/schemas/B"}"##, Err(Cycle("B"))),
     (
@@ -27,6 +27,10 @@ const LED: [(&str, Result<&str, ResolveError<'static>>); 8] = [
     ),
     (
         r##"{"$ref":"#/components/schemas/T"}"##,
+        Ok(r#"{"type":"string"}"#),
+    ),
+    (
+        r##"{"title":"a","nullable":true,"x-a":1,"$ref":"#/components/schemas/T"}"##,
         Ok(r#"{"type":"string"}"#),
     ),
     (
@@ -64,14 +68,43 @@ fn references_lead_to_definitions(rt: HostRuntime) -> Result<(), Fail> {
     Ok(())
 }
 
+fn is_object_with_reference(schema: &Schema) -> bool {
+    let Schema::Object(object) = schema else {
+        return false;
+    };
+    match object.get() {
+        SchemaObject {
+            instance_type: Some(InstanceTypes::Single(InstanceType::Object)),
+            reference: Some(reference),
+            ..
+        } => reference.equals_str("#/components/schemas/T"),
+        _ => false,
+    }
+}
+
+#[test]
+fn a_reference_beside_a_type_leads_nowhere(rt: HostRuntime) -> Result<(), Fail> {
+    let alloc = rt.alloc();
+    let definitions = definitions(alloc, DEFINITIONS)?;
+    let asked = schema(
+        alloc,
+        r##"{"type":"object","$ref":"#/components/schemas/T"}"##,
+    )?;
+    let found = resolve(&asked, &definitions);
+    assert!(rt; matches!(found, Ok(found) if is_object_with_reference(found)));
+    Ok(())
+}
+
 // A schema, whether it is empty, and whether it has extensions.
-const EMPTY: [(&str, bool, bool); 12] = [
+const EMPTY: [(&str, bool, bool); 14] = [
     ("false", true, false),
     ("true", false, false),
     ("{}", false, true),
     (r#"{"type":"null"}"#, false, true),
     (r#"{"not":true}"#, true, true),
     (r#"{"not":{}}"#, true, true),
+    (r#"{"title":"T","not":{"title":"U"}}"#, true, true),
+    (r#"{"not":true,"allOf":[true]}"#, false, true),
     (r#"{"not":false}"#, false, true),
     (r#"{"not":{"type":"object"}}"#, false, true),
     (r#"{"allOf":[true]}"#, false, true),
@@ -115,7 +148,7 @@ fn extensions_are_those_that_stand(rt: HostRuntime) -> Result<(), Fail> {
 }
 
 // A schema, its description, and what the rest is written as.
-const DESCRIBED: [(&str, Option<&str>, &str); 5] = [
+const DESCRIBED: [(&str, Option<&str>, &str); 6] = [
     (
         r#"{"title":"Thing","description":"a thing","default":true,"deprecated":true,"readOnly":true,
             "writeOnly":true,"nullable":true,"type":"string","format":"uuid"}"#,
@@ -129,6 +162,11 @@ const DESCRIBED: [(&str, Option<&str>, &str); 5] = [
     ),
     (
         r#"{"allOf":[{"type":"string"}]}"#,
+        None,
+        r#"{"type":"string"}"#,
+    ),
+    (
+        r#"{"nullable":true,"allOf":[{"type":"string"}]}"#,
         None,
         r#"{"type":"string"}"#,
     ),

@@ -19,18 +19,20 @@ const DEFINITIONS: &str = r##"{
     "All": {"allOf":[{"$ref":"#/components/schemas/All"}]},
     "Any": {"anyOf":[{"$ref":"#/components/schemas/Any"}]},
     "One": {"oneOf":[{"type":"string"},{"$ref":"#/components/schemas/One"}]},
+    "Own": {"type":"array","items":{"$ref":"#/components/schemas/Own"}},
     "Elsewhere": {"$ref":"#/definitions/T"},
     "O": {"type":"object"}
 }"##;
 
 // A schema, whether it is that of scalar values, and whether it is that of texts. The last four tell the
 // first fault from the left.
-const TYPES: [(&str, Answer, Answer); 35] = [
+const TYPES: [(&str, Answer, Answer); 40] = [
     (r#"{"type":"string"}"#, FITS, FITS),
     (r#"{"type":"boolean"}"#, FITS, NO_TEXT),
     (r#"{"type":"number"}"#, FITS, NO_TEXT),
     (r#"{"type":"integer"}"#, FITS, NO_TEXT),
     (r#"{"type":"boolean","enum":[true]}"#, FITS, NO_TEXT),
+    (r#"{"type":["string"]}"#, NO_SCALAR, NO_TEXT),
     (r#"{"type":"null"}"#, NO_SCALAR, NO_TEXT),
     (r#"{"type":"object"}"#, NO_SCALAR, NO_TEXT),
     (r#"{"type":"array"}"#, NO_SCALAR, NO_TEXT),
@@ -71,8 +73,28 @@ const TYPES: [(&str, Answer, Answer); 35] = [
         NO_SCALAR,
         NO_TEXT,
     ),
+    (
+        r#"{"type":"string","allOf":[{"type":"string"}]}"#,
+        NO_SCALAR,
+        NO_TEXT,
+    ),
+    (
+        r#"{"format":"a","allOf":[{"type":"string"}]}"#,
+        NO_SCALAR,
+        NO_TEXT,
+    ),
+    (
+        r#"{"allOf":[{"type":"string"}],"oneOf":[{"type":"string"}]}"#,
+        NO_SCALAR,
+        NO_TEXT,
+    ),
     (r#"{"not":{"type":"string"}}"#, NO_SCALAR, NO_TEXT),
     (r##"{"$ref":"#/components/schemas/T"}"##, FITS, FITS),
+    (
+        r##"{"title":"a","nullable":true,"x-a":1,"$ref":"#/components/schemas/T"}"##,
+        FITS,
+        FITS,
+    ),
     (
         r##"{"$ref":"#/components/schemas/N"}"##,
         Err(Dangling("N")),
@@ -132,13 +154,26 @@ const TYPES: [(&str, Answer, Answer); 35] = [
 ];
 
 // A schema, and whether it is that of lists of texts.
-const LISTS: [(&str, Answer); 13] = [
+const LISTS: [(&str, Answer); 17] = [
     (r#"{"type":"array","items":{"type":"string"}}"#, FITS),
     (
         r##"{"type":"array","items":{"$ref":"#/components/schemas/T"}}"##,
         FITS,
     ),
     (r##"{"$ref":"#/components/schemas/L"}"##, FITS),
+    (
+        r#"{"type":"array","items":{"type":"string"},"minItems":1}"#,
+        FITS,
+    ),
+    (
+        r#"{"type":"array","items":{"type":"string"},"enum":[[]]}"#,
+        NO_TEXT,
+    ),
+    (
+        r#"{"type":"array","items":{"type":"string"},"format":"a"}"#,
+        NO_TEXT,
+    ),
+    (r##"{"$ref":"#/components/schemas/Own"}"##, NO_TEXT),
     (r#"{"type":"array","items":{"type":"integer"}}"#, NO_TEXT),
     (r#"{"type":"array","items":[{"type":"string"}]}"#, NO_TEXT),
     (r##"{"$ref":"#/components/schemas/T"}"##, NO_TEXT),

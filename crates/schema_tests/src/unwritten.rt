@@ -9,9 +9,13 @@ use std::alloc::{AllocError, Global};
 use std::test::Fail;
 
 // Schemas that are refused for one cause, and that cause.
-const ALONE: [(&str, J2oasError); 29] = [
+const ALONE: [(&str, J2oasError); 30] = [
     (r#"{"type":["boolean","string"]}"#, TypeArray),
     (r#"{"type":["boolean","string"],"enum":[]}"#, TypeArray),
+    (
+        r#"{"title":"Uno","type":["object","string"],"enum":["One"]}"#,
+        TypeArray,
+    ),
     (r#"{"type":"number"}"#, FloatSchema),
     (
         r#"{"type":"array","items":[{"type":"boolean"}]}"#,

@@ -5,8 +5,7 @@ use Rattle.schema_values.specs.declared.schema.Items.TheOpen as open_types
 use Rattle.schema_values.specs.declared.schema.Schema.{Schema, Bool as Truth, Object, out-Schema}
 use Rattle.schema_values.specs.declared.schema.SchemaObject.{SchemaObject}
 use Rattle.schema_util.specs.Forms.{schema_form, form_of, truth}
-use Rattle.schema_util.specs.declared.scalar.Wanted.{Wanted}
-use Rattle.schema_util.specs.Scalars.{finding, finding_of_form, differs, single_type}
+use Rattle.schema_util.specs.Scalars.{Asked, finding, finding_of_form, differs, single_type}
 
 pub form_of_truth : (b : Bool) → schema_form (Truth b) ≡ truth b
 form_of_truth b = rw (outs-Bool b, schema_form) refl
@@ -14,11 +13,11 @@ form_of_truth b = rw (outs-Bool b, schema_form) refl
 pub form_of_object : (object : SchemaObject) → schema_form (Object object) ≡ form_of object
 form_of_object object = rw (outs-Object object, schema_form) refl
 
-pub finding_of_truth : (wanted : Wanted) (b : Bool) → finding wanted (Truth b) ≡ differs
-finding_of_truth wanted b = rw (outs-Bool b, finding) refl
+pub finding_of_truth : (asked : Asked) (b : Bool) → finding asked (Truth b) ≡ differs
+finding_of_truth asked b = rw (outs-Bool b, finding) refl
 
-pub finding_of_object : (wanted : Wanted) (object : SchemaObject) → finding wanted (Object object) ≡ finding_of_form wanted (form_of object) (single_type object)
-finding_of_object wanted object = rw (outs-Object object, finding) refl
+pub finding_of_object : (asked : Asked) (object : SchemaObject) → finding asked (Object object) ≡ finding_of_form asked (form_of object) (single_type object)
+finding_of_object asked object = rw (outs-Object object, finding) refl
 
 -- a schema is a truth value or an object
 pub by_level : (P : Schema → Type 0) → ((b : Bool) → P (Truth b)) → ((o : SchemaObject) → P (Object o)) → (s : Schema) → P s

@@ -6,3 +6,4 @@ pub mod ScalarSteps
 pub mod Once
 pub mod StructSteps
 pub mod GivesOnce
+pub mod Accepted

@@ -9,9 +9,10 @@ use Rattle.schema_values.specs.declared.schema.SchemaObject.{SchemaObject}
 use Rattle.schema_values.specs.declared.schema.Subschemas.{Subschemas}
 use Rattle.schema_util.specs.declared.form.Form.{Form}
 use Rattle.schema_util.specs.declared.form.Form.TheVariants as code
-use Rattle.schema_util.specs.Forms.{SchemaForm, schema_form, form_of, form_value, reference, struct}
+use Rattle.schema_util.specs.Code.{form_value, HasGiven, HaveGiven}
+use Rattle.schema_util.specs.Forms.{SchemaForm, schema_form, form_of, reference, struct}
 use Rattle.schema_util.specs.References.{Names, reference_of, reference_in, follow}
-use Rattle.schema_util.specs.StructMembers.{flattened, behind, own_members, is_enumeration, is_no_object, Misfit, Gives, goes_on, adds, GiveAll, none_left, stops, then_rest, HasGiven, HaveGiven}
+use Rattle.schema_util.specs.StructMembers.{flattened, behind, own_members, is_enumeration, is_no_object, Misfit, Gives, goes_on, adds, GiveAll, none_left, stops, then_rest}
 use Rattle.schema_util.specs.declared.struct_members.StructMember.{StructMember}
 use Rattle.schema_util.proofs.Levels.{form_of_object}
 use Rattle.schema_util.proofs.ScalarSteps.{next_member}

@@ -54,8 +54,12 @@ abbrev pub is_not_of_all : SchemaKind → Bool
 is_not_of_all (not_of schema) = says_nothing (schema_form schema)
 is_not_of_all kind = false
 
--- whether a schema says that there is no value: it is false, or nothing but the `not` of a schema that says nothing
-abbrev pub is_empty : SchemaForm → Bool
-is_empty (truth b) = not b
-is_empty (combination subschemas) = is_not_of_all (kind_of subschemas)
-is_empty form = false
+-- whether a form is false, or nothing but the `not` of a schema that says nothing
+abbrev pub is_empty_form : SchemaForm → Bool
+is_empty_form (truth b) = not b
+is_empty_form (combination subschemas) = is_not_of_all (kind_of subschemas)
+is_empty_form form = false
+
+-- whether a schema says that there is no value
+abbrev pub is_empty : Schema → Bool
+is_empty schema = is_empty_form (schema_form schema)

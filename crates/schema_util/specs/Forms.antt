@@ -1,6 +1,5 @@
 -- What a schema object has beside its annotations: the parts of JSON Schema that `schemars` writes.
 use Rattle.std.specs.Prelude.{◌||◌, ℕ, Bool, List, Option, Some, None, is_some, if◌then◌else◌}
-use Rattle.std.specs.Option.{option_copied}
 use Rattle.schema_values.specs.declared.json_value.Json.{Json}
 use Rattle.schema_values.specs.declared.schema.InstanceTypes.{InstanceTypes}
 use Rattle.schema_values.specs.declared.schema.InstanceTypes.TheVariants.{Single}
@@ -9,10 +8,6 @@ use Rattle.schema_values.specs.declared.schema.Schema.{Schema, out-Schema}
 use Rattle.schema_values.specs.declared.schema.Items.TheOpen as open_types
 use Rattle.schema_values.specs.declared.schema.SchemaObject.{SchemaObject, out-SchemaObject}
 use Rattle.schema_values.specs.declared.schema.Subschemas.{Subschemas, out-Subschemas}
-use Rattle.schema_util.specs.declared.form.Form.{Form}
-use Rattle.schema_util.specs.declared.form.Form.TheVariants as code
-use Rattle.schema_util.specs.declared.form.Kind.{Kind}
-use Rattle.schema_util.specs.declared.form.Kind.TheVariants as kinds
 
 -- what a schema is
 pub data SchemaForm : Type 0 where
@@ -47,15 +42,6 @@ form_of object = if is_limited object then other else by_parts
     (out-SchemaObject object).object
     (out-SchemaObject object).reference
 
--- a form of the code, as a value
-abbrev pub form_value : Form → SchemaForm
-form_value code.Bare = bare
-form_value (code.Reference text) = reference text.now
-form_value (code.Combination subschemas) = combination subschemas.now
-form_value (code.Struct object subschemas) = struct (option_copied object) (option_copied subschemas)
-form_value code.Values = values
-form_value code.Other = other
-
 -- the form of a schema
 abbrev pub schema_form : Schema → SchemaForm
 schema_form schema = elim (out-Schema schema) [ open_types.Bool b ↦ truth b | open_types.Object object ↦ form_of object ]
@@ -79,11 +65,3 @@ by_kinds all any one not = mixed
 -- the kind of some subschemas
 abbrev pub kind_of : Subschemas → SchemaKind
 kind_of s = by_kinds (out-Subschemas s).all_of (out-Subschemas s).any_of (out-Subschemas s).one_of (out-Subschemas s).not
-
--- a kind of the code, as a value
-abbrev pub kind_value : Kind → SchemaKind
-kind_value (kinds.AllOf schemas) = all_of schemas.now
-kind_value (kinds.AnyOf schemas) = any_of schemas.now
-kind_value (kinds.OneOf schemas) = one_of schemas.now
-kind_value (kinds.Not schema) = not_of schema.now
-kind_value kinds.Other = mixed

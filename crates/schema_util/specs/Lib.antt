@@ -4,3 +4,4 @@ pub mod References
 pub mod Scalars
 pub mod Descriptions
 pub mod StructMembers
+pub mod Code

@@ -1,6 +1,5 @@
 -- What references lead to (OpenAPI 3.0.3, Reference Object). Names and references stand in UTF-8.
 use Rattle.std.specs.Prelude.{◌≡◌, ℕ, Bool, List, ◌∷◌, Option, Some, None, Result, Ok, Err, length, drop, bytes_eq, nat_eq, codes, if◌then◌else◌}
-use Rattle.std.specs.Borrow.{Bor}
 use Rattle.std.specs.List.{list_any, starts_with}
 use Rattle.std.specs.Str.{encode_utf8_all}
 use Rattle.schema_values.specs.declared.schema.Schema.{Schema}
@@ -64,12 +63,3 @@ pub data ComesTo (names : Names) : List (List ℕ) → Schema → Result Schema 
 abbrev pub reason_of : ResolveError → Unresolved
 reason_of (Dangling name) = dangling name.now
 reason_of (Cycle name) = cycle name.now
-
--- what the code answers, as a value
-abbrev pub resolve_value : Result (Bor Schema) ResolveError → Result Schema Unresolved
-resolve_value (Ok found) = Ok found.now
-resolve_value (Err error) = Err (reason_of error)
-
-abbrev pub follow_value : Result (Bor (List ℕ) × Bor Schema) ResolveError → Result (List ℕ × Schema) Unresolved
-follow_value (Ok found) = Ok (found.0.now, found.1.now)
-follow_value (Err error) = Err (reason_of error)

@@ -1,7 +1,6 @@
 -- The members of a struct, as its schema has them (JSON Schema: `properties`, `required`, `anyOf`, `allOf`).
 use Rattle.std.specs.Prelude.{◌≡◌, ◌&&◌, ◌++◌, ℕ, Bool, true, false, List, [], ◌∷◌, map, Option, Some, None, Result, Ok, Err, bytes_eq}
 use Rattle.std.specs.List.{list_any}
-use Rattle.std.specs.Borrow.{Bor}
 use Rattle.std.specs.Str.{encode_utf8_all}
 use Rattle.schema_values.specs.declared.schema.ObjectParts.{ObjectParts, out-ObjectParts}
 use Rattle.schema_values.specs.declared.schema.Property.{Property, out-Property}
@@ -99,16 +98,3 @@ misfit_of code.InvalidSubschema = Some invalid_subschema
 misfit_of code.InvalidEnum = Some invalid_enum
 misfit_of code.InvalidType = Some invalid_type
 misfit_of code.OutOfMemory = None
-
--- what the code finds to flatten, as a value
-abbrev pub flattened_value : Option (Bool × Bor (List Schema)) → Option (Bool × List Schema)
-flattened_value None = None
-flattened_value (Some found) = Some (found.0, found.1.now)
-
--- a schema has given members behind those that were there
-abbrev pub HasGiven : Names → List (List ℕ) → Bool → Schema → List StructMember → List StructMember → Type 0
-HasGiven names met required s old new = (more : List StructMember) × Gives names met required s (Ok more) × (new ≡ old ++ more)
-
--- schemas have given members behind those that were there
-abbrev pub HaveGiven : Names → List (List ℕ) → Bool → List Schema → List StructMember → List StructMember → Type 0
-HaveGiven names met required schemas old new = (more : List StructMember) × GiveAll names met required schemas (Ok more) × (new ≡ old ++ more)

@@ -80,7 +80,7 @@ pub fn schema_extensions(schema: &Schema) -> Option<&List<Member>>
 /// Whether a schema says that there is no value: it is false, or its only part is the `not` of a schema
 /// that says nothing. Takes no memory, and follows no reference.
 pub fn is_empty(schema: &Schema) -> bool
-    ensures { result ≡ empty (schema_form schema.now) }
+    ensures { result ≡ empty schema.now }
 {
     match schema {
         Schema::Bool(truth) => !truth,

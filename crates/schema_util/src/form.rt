@@ -1,7 +1,8 @@
 //! What a schema object has beside its annotations, as far as this crate asks.
 
 ghost use Rattle.std.specs.Prelude.{◌≡◌};
-ghost use Rattle.schema_util.specs.Forms.{form_of, is_limited, kind_of, kind_value, form_value};
+ghost use Rattle.schema_util.specs.Code.{form_value, kind_value};
+ghost use Rattle.schema_util.specs.Forms.{form_of, is_limited, kind_of};
 
 use schema_values::{InstanceTypes, List, ObjectParts, Schema, SchemaObject, Subschemas, Text};
 

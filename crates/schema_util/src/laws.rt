@@ -1,10 +1,9 @@
-//! What is defined as a relation has one answer at most.
+//! What is defined as a relation has one answer at most, and what is accepted.
 
-ghost use Rattle.std.specs.Prelude.{◌≡◌, ℕ, Bool, List, Option, Result};
+ghost use Rattle.std.specs.Prelude.{◌≡◌, ◌↔◌, ℕ, Bool, List, Option, None, Result};
 ghost use Rattle.schema_values.specs.declared.schema.Schema.{Schema};
 ghost use Rattle.schema_util.specs.References.{Unresolved, ComesTo, Names};
-ghost use Rattle.schema_util.specs.Scalars.{Fault, FirstFault, FirstFaultOfList};
-ghost use Rattle.schema_util.specs.declared.scalar.Wanted.{Wanted};
+ghost use Rattle.schema_util.specs.Scalars.{Asked, Fault, FirstFault, FirstFaultOfList, IsOf};
 ghost use Rattle.schema_util.specs.StructMembers.{Gives, Misfit};
 ghost use Rattle.schema_util.specs.declared.struct_members.StructMember.{StructMember};
 
@@ -17,10 +16,16 @@ pub fn comes_to_once()
 
 /// A schema has one first fault under a type test, or none.
 pub fn first_fault_once()
-    ensures { (wanted : Wanted) (names : Names) (met : List (List ℕ)) (schema : Schema)
+    ensures { (asked : Asked) (names : Names) (met : List (List ℕ)) (schema : Schema)
         (fault other : Option Fault)
-        → FirstFault wanted names met schema fault
-        → FirstFault wanted names met schema other → fault ≡ other }
+        → FirstFault asked names met schema fault
+        → FirstFault asked names met schema other → fault ≡ other }
+{}
+
+/// A schema has no fault under a type test exactly where it is one of what is asked for.
+pub fn accepted_exactly()
+    ensures { (asked : Asked) (names : Names) (met : List (List ℕ)) (schema : Schema)
+        → (FirstFault asked names met schema None) ↔ (IsOf asked names met schema) }
 {}
 
 /// A schema has one first fault as one of lists of texts, or none.

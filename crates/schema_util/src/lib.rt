@@ -12,7 +12,7 @@ mod scalar;
 mod struct_members;
 
 pub use description::{is_empty, schema_extensions, schema_extract_description};
-pub use laws::{comes_to_once, first_fault_once, gives_once, list_fault_once};
+pub use laws::{accepted_exactly, comes_to_once, first_fault_once, gives_once, list_fault_once};
 pub use references::{ResolveError, resolve};
 pub use scalar::{ScalarError, type_is_scalar, type_is_string, type_is_string_enum};
 pub use struct_members::{Schema2StructError, StructMember, schema2struct};

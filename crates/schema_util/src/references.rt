@@ -4,7 +4,8 @@ ghost use Rattle.std.specs.Prelude.{◌≡◌, [], None, Ok, Err, IfOk, IfErr};
 ghost use Rattle.std.specs.HashMap.{get_by_text};
 ghost use Rattle.std.specs.Option.{option_copied};
 ghost use Rattle.schema_util.specs.Met.{names_met};
-ghost use Rattle.schema_util.specs.References.{ComesTo, resolve_value, follow_value, name_in, reference_of};
+ghost use Rattle.schema_util.specs.Code.{follow_value, resolve_value};
+ghost use Rattle.schema_util.specs.References.{ComesTo, name_in, reference_of};
 ghost use Rattle.schema_util.specs.References.{follow, reason_of};
 
 use crate::form::Form;
@@ -15,7 +16,8 @@ use thiserror::Error;
 /// Why a reference leads to no schema.
 #[derive(Clone, Copy, Debug, PartialEq, Eq, Error)]
 pub enum ResolveError<'a> {
-    /// No definition has this name. The whole reference where it is none of a definition.
+    /// No definition has this name; the whole reference, where it has another form than
+    /// `#/components/schemas/NAME`.
     #[error("no definition {0}")]
     Dangling(&'a str),
     /// This name comes again on the way.
@@ -25,10 +27,10 @@ pub enum ResolveError<'a> {
 
 /// The first schema on the way along references that is no reference itself. Takes no memory.
 ///
-/// A reference has the form `#/components/schemas/NAME` and stands alone beside annotations. Each name is
-/// compared with those that were met before it, so the time grows with the square of the chain's length.
-/// `Dangling` where a name has no definition or the reference is of another form, `Cycle` where a name
-/// comes a second time.
+/// A reference has the form `#/components/schemas/NAME` and stands alone beside annotations: beside other
+/// parts it is no reference here, and its schema is answered itself. Each name is compared with those that
+/// were met before it, so the time grows with the square of the chain's length. `Dangling` where a name has
+/// no definition or the reference is of another form, `Cycle` where a name comes a second time.
 pub fn resolve<'a>(
     schema: &'a Schema,
     definitions: &'a Definitions,

@@ -4,11 +4,11 @@ ghost use Rattle.std.specs.Prelude.{◌≡◌, [], Some, None, IfErr, OnOk};
 ghost use Rattle.std.specs.HashMap.{get_by_text};
 ghost use Rattle.std.specs.Option.{option_copied};
 ghost use Rattle.schema_values.specs.declared.schema.ArrayParts.{out-ArrayParts};
+ghost use Rattle.schema_util.specs.Code.{asked_of, finding_value};
 ghost use Rattle.schema_util.specs.Forms.{kind_of};
 ghost use Rattle.schema_util.specs.Met.{names_met};
-ghost use Rattle.schema_util.specs.declared.scalar.Wanted.TheVariants.{Scalar, Text};
-ghost use Rattle.schema_util.specs.Scalars.{fault_of, finding, finding_of_kind, finding_value};
-ghost use Rattle.schema_util.specs.Scalars.{is_wanted, item_of, mismatch, one_item, single_type};
+ghost use Rattle.schema_util.specs.Scalars.{fault_of, finding, finding_of_kind, is_wanted, item_of};
+ghost use Rattle.schema_util.specs.Scalars.{mismatch, one_item, scalars, single_type, texts};
 ghost use Rattle.schema_util.specs.Scalars.{FirstFault, FirstFaultAmong, FirstFaultOfList};
 
 use crate::form::{Form, Kind};
@@ -29,7 +29,8 @@ pub enum ScalarError<'a> {
     /// A schema is not that of texts.
     #[error("not of texts")]
     NotStringList,
-    /// No definition has this name. The whole reference where it is none of a definition.
+    /// No definition has this name; the whole reference, where it has another form than
+    /// `#/components/schemas/NAME`.
     #[error("no definition {0}")]
     Dangling(&'a str),
     /// This name comes again on the way along references, `all_of`, `any_of` and `one_of`.
@@ -46,7 +47,7 @@ enum Wanted {
 
 impl Wanted {
     fn refusal<'a>(self) -> ScalarError<'a>
-        ensures { fault_of result ≡ mismatch self }
+        ensures { fault_of result ≡ mismatch (asked_of self) }
     {
         match self {
             Wanted::Scalar => ScalarError::NotScalar,
@@ -55,7 +56,7 @@ impl Wanted {
     }
 
     fn takes(self, kind: InstanceType) -> bool
-        ensures { result ≡ is_wanted self kind }
+        ensures { result ≡ is_wanted (asked_of self) kind }
     {
         match kind {
             InstanceType::String => true,
@@ -79,8 +80,12 @@ enum Finding<'a> {
     Differs,
 }
 
-/// Tests that a schema is that of truth values, numbers or texts. Takes no memory. `NotScalar` where a
-/// schema on the way is that of anything else; `Dangling` and `Cycle` as `resolve` has them.
+/// Tests that a schema is that of scalar values. Accepts, behind references, a single type of truth values,
+/// numbers, whole numbers or texts without subschemas, array, object and reference; and subschemas alone:
+/// an `all_of` or an `any_of` of one, or a `one_of`, maybe of none, whose members are each accepted.
+/// `NotScalar` of any other schema; `Dangling` as `resolve` has it; `Cycle` where a name comes again on one
+/// way along references and subschemas. The first cause is told, depth first and from the left. Takes no
+/// memory.
 ///
 /// A definition is tested anew at each reference to it, so the time may be exponential in the number of
 /// definitions where they share others.
@@ -88,28 +93,33 @@ pub fn type_is_scalar<'a>(
     schema: &'a Schema,
     definitions: &'a Definitions,
 ) -> Result<(), ScalarError<'a>>
-    ensures scalar { OnOk result (FirstFault Scalar (get_by_text definitions.now) [] schema.now None) }
+    ensures scalar { OnOk result (FirstFault scalars (get_by_text definitions.now) [] schema.now None) }
     ensures refused { IfErr result
-        (λ error. FirstFault Scalar (get_by_text definitions.now) [] schema.now (Some (fault_of error))) }
+        (λ error. FirstFault scalars (get_by_text definitions.now) [] schema.now (Some (fault_of error))) }
 {
     tested(Wanted::Scalar, schema, definitions, None)
 }
 
-/// Tests that a schema is that of texts. Takes no memory, and as much time as `type_is_scalar`. Refuses as
-/// that does, with `NotStringList` in place of `NotScalar`.
+/// Tests that a schema is that of texts. Accepts, behind references, the single type of texts without
+/// subschemas, array, object and reference; and subschemas alone, as `type_is_scalar` does, whose members
+/// are each accepted here. `NotStringList` of any other schema; `Dangling` and `Cycle` as `type_is_scalar`
+/// has them, and the first cause is told as there. Takes no memory, and as much time as `type_is_scalar`.
 pub fn type_is_string<'a>(
     schema: &'a Schema,
     definitions: &'a Definitions,
 ) -> Result<(), ScalarError<'a>>
-    ensures text { OnOk result (FirstFault Text (get_by_text definitions.now) [] schema.now None) }
+    ensures text { OnOk result (FirstFault texts (get_by_text definitions.now) [] schema.now None) }
     ensures refused { IfErr result
-        (λ error. FirstFault Text (get_by_text definitions.now) [] schema.now (Some (fault_of error))) }
+        (λ error. FirstFault texts (get_by_text definitions.now) [] schema.now (Some (fault_of error))) }
 {
     tested(Wanted::Text, schema, definitions, None)
 }
 
-/// Tests that a schema is that of lists of texts. Takes no memory, and as much time as `type_is_scalar`.
-/// Refuses as `type_is_string` does, which tests the schema of the items.
+/// Tests that a schema is that of lists of texts. Accepts, behind references, a schema whose only parts are
+/// the single type of arrays and an array with one schema of its items, which `type_is_string` accepts: on
+/// a way of its own, so that a name on the way to the list may come again behind it. `NotStringList` of any
+/// other schema; `Dangling` and `Cycle` as `resolve` has them on the way to the list, and behind it as
+/// `type_is_string` does. Takes no memory, and as much time as `type_is_scalar`.
 pub fn type_is_string_enum<'a>(
     schema: &'a Schema,
     definitions: &'a Definitions,
@@ -148,8 +158,8 @@ fn tested<'a>(
     met: Option<&Met<'_>>,
 ) -> Result<(), ScalarError<'a>>
     ensures fits { OnOk result
-        (FirstFault wanted (get_by_text definitions.now) (names_met met.entry) schema.now None) }
-    ensures faulty { IfErr result (λ error. FirstFault wanted
+        (FirstFault (asked_of wanted) (get_by_text definitions.now) (names_met met.entry) schema.now None) }
+    ensures faulty { IfErr result (λ error. FirstFault (asked_of wanted)
         (get_by_text definitions.now) (names_met met.entry) schema.now (Some (fault_of error))) }
 {
     match look_into(wanted, schema) {
@@ -170,9 +180,9 @@ fn all_tested<'a>(
     definitions: &'a Definitions,
     met: Option<&Met<'_>>,
 ) -> Result<(), ScalarError<'a>>
-    ensures fit { OnOk result
-        (FirstFaultAmong wanted (get_by_text definitions.now) (names_met met.entry) members.now None) }
-    ensures faulty { IfErr result (λ error. FirstFaultAmong wanted
+    ensures fit { OnOk result (FirstFaultAmong (asked_of wanted)
+        (get_by_text definitions.now) (names_met met.entry) members.now None) }
+    ensures faulty { IfErr result (λ error. FirstFaultAmong (asked_of wanted)
         (get_by_text definitions.now) (names_met met.entry) members.now (Some (fault_of error))) }
 {
     for member in members {
@@ -182,7 +192,7 @@ fn all_tested<'a>(
 }
 
 fn look_into(wanted: Wanted, schema: &Schema) -> Finding<'_>
-    ensures { finding_value result ≡ finding wanted schema.now }
+    ensures { finding_value result ≡ finding (asked_of wanted) schema.now }
 {
     let Schema::Object(object) = schema else {
         return Finding::Differs;

@@ -6,12 +6,13 @@ ghost use Rattle.std.specs.Option.{option_copied};
 ghost use Rattle.std.specs.Str.{encode_utf8_all};
 ghost use Rattle.schema_values.specs.Order.{property_name, sorted_by};
 ghost use Rattle.schema_values.specs.declared.schema.ObjectParts.{out-ObjectParts};
+ghost use Rattle.schema_util.specs.Code.{HasGiven, HaveGiven, flattened_value};
 ghost use Rattle.schema_util.specs.Forms.{kind_of};
 ghost use Rattle.schema_util.specs.Met.{names_met};
 ghost use Rattle.schema_util.specs.References.{reason_of};
-ghost use Rattle.schema_util.specs.StructMembers.{flattened, flattened_of_kind, flattened_value};
+ghost use Rattle.schema_util.specs.StructMembers.{flattened, flattened_of_kind, is_named};
 ghost use Rattle.schema_util.specs.StructMembers.{member_of, misfit_of, own_members, Gives, GiveAll};
-ghost use Rattle.schema_util.specs.StructMembers.{HasGiven, HaveGiven, is_named, unresolved};
+ghost use Rattle.schema_util.specs.StructMembers.{unresolved};
 
 use crate::description::schema_extract_description;
 use crate::form::{Form, Kind};
@@ -54,7 +55,8 @@ impl StructMember {
 /// Why a schema is that of no struct.
 #[derive(Debug, Drop, Error)]
 pub enum Schema2StructError {
-    /// No definition has this name. The whole reference where it is none of a definition.
+    /// No definition has this name; the whole reference, where it has another form than
+    /// `#/components/schemas/NAME`.
     #[error("no definition {0}")]
     Dangling(Text),
     /// This name comes again on the way along references, `any_of` and `all_of`.
@@ -102,7 +104,10 @@ impl Schema2StructError {
         }
     }
 
-    fn of(alloc: Global, error: ResolveError<'_>) -> Result<Schema2StructError, AllocError>
+    fn of_reference(
+        alloc: Global,
+        error: ResolveError<'_>,
+    ) -> Result<Schema2StructError, AllocError>
         ensures { IfOk result (λ made. misfit_of made ≡ Some (unresolved (reason_of error.entry))) }
     {
         match error {
@@ -118,11 +123,14 @@ fn text_of(alloc: Global, name: &str) -> Result<Text, AllocError>
     Text::from_str(alloc, name)
 }
 
-/// The members of a struct: its properties in the order of their names, and then those of its subschemas,
-/// which no value must have where they stand in `any_of`. With `required` false no member is required.
-/// `InvalidEnum` where the schema has enumeration values, or subschemas alone; `InvalidSubschema` where a
-/// struct has other subschemas; `InvalidType` where it is anything else; `Dangling` and `Cycle` as
-/// `resolve` has them, also along `any_of` and `all_of`.
+/// The members that a schema with a single type, and no part beside it but an object and subschemas, gives:
+/// its properties in the order of their names, each without its description, required where `required` and
+/// the schema both say so; then those of a lone `any_of`, none of them required, or of an `all_of` of one.
+/// A reference gives those of its definition. `InvalidSubschema` where such a schema has other subschemas;
+/// `InvalidEnum` where the parts of a schema are values, with or without types, or subschemas alone;
+/// `InvalidType` where they are anything else. `Dangling` as `resolve` has it; `Cycle` where a name comes
+/// again on one way along references, `any_of` and `all_of`. The first cause is told, depth first and from
+/// the left.
 ///
 /// A definition is looked into anew at each reference to it, so the time and the number of members may be
 /// exponential in the number of definitions where they share others.
@@ -166,7 +174,7 @@ fn add_struct(
                 let met = Met { name, before: met };
                 add_struct(alloc, members, next, definitions, required, Some(&met))
             }
-            Err(error) => Err(Schema2StructError::of(alloc, error)?),
+            Err(error) => Err(Schema2StructError::of_reference(alloc, error)?),
         },
         Form::Struct(parts, subschemas) => {
             let Some((may_require, schemas)) = flattened(required, subschemas) else {

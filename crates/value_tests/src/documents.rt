@@ -47,12 +47,14 @@ const DOCUMENT: &str = r##"{
 }"##;
 
 // A schema, a value, and whether it is admitted.
-const CASES: [(&str, &str, bool); 61] = [
+const CASES: [(&str, &str, bool); 66] = [
     ("{}", "[null]", true),
     ("true", "1", false),
     (r#"{"not":{}}"#, "1", false),
     (r#"{"nullable":true,"type":"string"}"#, "null", true),
     (r#"{"nullable":true,"pattern":"a"}"#, "null", false),
+    (r#"{"nullable":true,"not":{}}"#, "null", true),
+    (r#"{"not":{"type":"string"}}"#, "1", false),
     (r#"{"type":"string"}"#, "null", false),
     (r#"{"type":"integer","format":"uint8"}"#, "256", false),
     (r#"{"type":"integer","format":"int8"}"#, "-128", true),
@@ -134,6 +136,8 @@ const CASES: [(&str, &str, bool); 61] = [
     (r#"{"maximum":1}"#, "1", true),
     (r#"{"maximum":1,"exclusiveMaximum":true}"#, "1", false),
     (r#"{"minLength":2}"#, r#""é""#, false),
+    (r#"{"minLength":"a"}"#, "1", true),
+    (r#"{"minLength":"a"}"#, r#""b""#, false),
     (r#"{"maxLength":1}"#, r#""é""#, true),
     (
         r#"{"items":{"type":"boolean"},"minItems":1}"#,
@@ -157,6 +161,7 @@ const CASES: [(&str, &str, bool); 61] = [
     (r#"{"oneOf":[{"minimum":1},{"minimum":2}]}"#, "2", false),
     (r#"{"oneOf":[{"minimum":1},{"minimum":2}]}"#, "1", true),
     (r#"{"anyOf":[{"minimum":1},{"minimum":2}]}"#, "1", true),
+    (r#"{"anyOf":[{"minimum":1},{"minimum":2}]}"#, "0", false),
     (r#"{"allOf":[{},{}]}"#, "1", false),
     (r#"{"allOf":[{"minimum":1}]}"#, "1", true),
     (

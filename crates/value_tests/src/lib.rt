@@ -1,4 +1,5 @@
-//! Tests of values: tables and trees, the schemas of descriptors, and what documents admit.
+//! Tests of values: what is printed and read, tables and trees, the schemas of descriptors, and what documents
+//! admit.
 #![tactic(auto)]
 
 #[cfg(test)]
@@ -7,6 +8,8 @@ mod documents;
 mod errors;
 #[cfg(test)]
 mod parts;
+#[cfg(test)]
+mod printing;
 #[cfg(test)]
 mod refusals;
 #[cfg(test)]

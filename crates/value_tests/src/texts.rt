@@ -12,11 +12,12 @@ const DOCUMENT: &str = r##"{"components":{"schemas":{
 }}}"##;
 
 // A schema, a text, and whether it is admitted.
-const CASES: [(&str, &str, bool); 34] = [
+const CASES: [(&str, &str, bool); 42] = [
     (r#"{"type":"boolean"}"#, "true", true),
     (r#"{"type":"boolean"}"#, "false", true),
     (r#"{"type":"boolean"}"#, "True", false),
     (r#"{"type":"boolean"}"#, "1", false),
+    (r#"{"type":"boolean","enum":[false]}"#, "true", true),
     (r#"{"type":"integer"}"#, "-7", true),
     (r#"{"type":"integer"}"#, "+7", true),
     (r#"{"type":"integer"}"#, "007", true),
@@ -55,6 +56,10 @@ const CASES: [(&str, &str, bool); 34] = [
         "null",
         false,
     ),
+    (r#"{"type":"string","enum":[null]}"#, "null", false),
+    (r#"{"type":"string","pattern":"a"}"#, "a", false),
+    (r#"{"type":"string","anyOf":[{"minLength":2}]}"#, "a", false),
+    (r#"{"type":"string","allOf":[{"minLength":1}]}"#, "a", false),
     (r#"{"type":"array"}"#, "a", false),
     ("{}", "a", false),
     (r##"{"$ref":"#/components/schemas/Count"}"##, "200", true),
@@ -63,6 +68,9 @@ const CASES: [(&str, &str, bool); 34] = [
         "200",
         true,
     ),
+    (r##"{"$ref":"#/components/schemas/Missing"}"##, "a", false),
+    (r#"{"allOf":[{"type":"string"}],"pattern":"b"}"#, "a", true),
+    (r#"{"anyOf":[{"type":"string"}]}"#, "a", false),
     (
         r#"{"allOf":[{"type":"string"},{"type":"string"}]}"#,
         "a",

@@ -1,7 +1,8 @@
 use Rattle.std.proofs.Common.{◌≡◌, Bor, Result, Ok, Err, IfOk, None}
 use Rattle.std.specs.HashMap.{get_by_text}
 use Rattle.schema_values.specs.declared.schema.Schema.{Schema}
-use Rattle.schema_util.specs.References.{reference_of, resolve_value}
+use Rattle.schema_util.specs.Code.{resolve_value}
+use Rattle.schema_util.specs.References.{reference_of}
 use Rattle.schema_util.specs.declared.references.ResolveError.{ResolveError}
 use Rattle.schema_util.proofs.Once.{no_reference}
 use Rattle.schema_util.proofs.references.resolve.Goals as goal

@@ -3,6 +3,7 @@ use Rattle.std.proofs.Math.ListN.{drop_of_length-le}
 use Rattle.std.proofs.lemmas.Result.{err_from_is_err_and, on_ok_weaker, IfErr-weaker}
 use Rattle.std.specs.HashMap.{get_by_text}
 use Rattle.schema_values.specs.declared.schema.Schema.{size-Schema}
+use Rattle.schema_util.specs.Code.{asked_of}
 use Rattle.schema_util.specs.Met.{names_met}
 use Rattle.schema_util.specs.References.{reason_of}
 use Rattle.schema_util.specs.Scalars.{accepted, rejected, breaks, goes_on, of_members, none_left, at_first, at_rest, fault_of}
@@ -40,7 +41,7 @@ tested-returns-in_ok-name-in-Reference-clause-faulty t c =
 
 pub tested-all_tested-requires : goal.tested-all_tested-requires
 tested-all_tested-requires t c =
-    (omega (arith, c.decreases, members_smaller c.args.wanted c.args.schema.now c.in-Members.members.now (sym c.in-Members.ensures)), tt)
+    (omega (arith, c.decreases, members_smaller (asked_of c.args.wanted) c.args.schema.now c.in-Members.members.now (sym c.in-Members.ensures)), tt)
 
 pub tested-returns-in-Members-clause-fits : goal.tested-returns-in-Members-clause-fits
 tested-returns-in-Members-clause-fits t c =

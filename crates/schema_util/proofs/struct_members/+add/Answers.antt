@@ -57,9 +57,9 @@ add_struct-returns-in-Ok-clause-refused t c =
     c.in-Ok.next.now (refers_to c.args.schema.now c.in-Reference.reference.now c.as_str.result.now (formed c.args.schema.now c.in-Object.object c.get.result.now _ c.in-Object.is c.get.ensures c.in-Reference.ensures) (ap encodes c.as_str.ensures ∙ encodes-chars c.as_str.result.now c.as_str.utf8)) (sym c.in-Ok.ensures) (misfit_of error))
     (simp met_longer at c.add_struct.ensures.refused)
 
-pub add_struct-returns-in_ok-of-in-Err-clause-refused : goal.add_struct-returns-in_ok-of-in-Err-clause-refused
-add_struct-returns-in_ok-of-in-Err-clause-refused t c =
-    rw c.in_ok-of-in-Err.ensures (breaks c.as_str.result.now (reason_of c.in-Err.error) (refers_to c.args.schema.now c.in-Reference.reference.now c.as_str.result.now (formed c.args.schema.now c.in-Object.object c.get.result.now _ c.in-Object.is c.get.ensures c.in-Reference.ensures) (ap encodes c.as_str.ensures ∙ encodes-chars c.as_str.result.now c.as_str.utf8)) (sym c.in-Err.ensures))
+pub add_struct-returns-in_ok-of_reference-in-Err-clause-refused : goal.add_struct-returns-in_ok-of_reference-in-Err-clause-refused
+add_struct-returns-in_ok-of_reference-in-Err-clause-refused t c =
+    rw c.in_ok-of_reference-in-Err.ensures (breaks c.as_str.result.now (reason_of c.in-Err.error) (refers_to c.args.schema.now c.in-Reference.reference.now c.as_str.result.now (formed c.args.schema.now c.in-Object.object c.get.result.now _ c.in-Object.is c.get.ensures c.in-Reference.ensures) (ap encodes c.as_str.ensures ∙ encodes-chars c.as_str.result.now c.as_str.utf8)) (sym c.in-Err.ensures))
 
 pub add_struct-returns-in_default-clause-refused : goal.add_struct-returns-in_default-clause-refused
 add_struct-returns-in_default-clause-refused t c =
