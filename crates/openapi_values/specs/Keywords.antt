@@ -1,4 +1,4 @@
--- The members of a schema object, by their names.
+-- The members of a schema object, by their names (OpenAPI 3.0.3, Schema Object and Specification Extensions).
 use Rattle.std.specs.Prelude.{ℕ, Bool, ◌||◌, List, [], ◌∷◌, Option, Some, None, if◌then◌else◌, is_some, bytes_eq, nat_eq, codes}
 use Rattle.std.specs.List.{list_any}
 use Rattle.openapi_values.specs.declared.keywords.Keyword.{Keyword}

@@ -1,4 +1,4 @@
--- One level of a JSON value, whatever stands for the smaller values.
+-- One level of a JSON value (RFC 8259, section 3), whatever stands for the smaller values.
 use Rattle.std.specs.Prelude.{ℕ, ℤ, Bool, true, false, List, Option, Some, None, bytes_eq, codes}
 use Rattle.std.specs.List.{list_any}
 use Rattle.schema_values.specs.declared.json_value.Json.TheOpen.{Json-F, Member-F}

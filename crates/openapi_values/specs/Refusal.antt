@@ -1,4 +1,5 @@
--- Which schemas are not written, and why: the first refusal, outer schemas before inner ones.
+-- Which schemas are not written (OpenAPI 3.0.3, Schema Object), and why: the first refusal, outer schemas before inner
+-- ones. The causes are this project's own.
 use Rattle.std.specs.Prelude.{Bool, true, false, ◌==◌, ◌&&◌, ◌||◌, List, [], ◌∷◌, Option, Some, None, is_some, unwrap_or, option_map, option_and_then, if◌then◌else◌, count_by}
 use Rattle.std.specs.List.{list_all, list_any}
 use Rattle.std.specs.Option.{option_map_or, option_or}

@@ -1,4 +1,5 @@
--- When the parts of a document are sound: in each map the names are distinct, and each schema is sound.
+-- When the parts of a document are sound: in each map the names are distinct (RFC 8259, section 4), and each schema is
+-- sound.
 use Rattle.std.specs.Prelude.{⊤, ℕ, List, map, MatchOption}
 use Rattle.std.specs.List.{AllByRecursion}
 use Rattle.schema_values.specs.Sound.{IsSound, AreDistinct}

@@ -61,9 +61,9 @@ impl From<AllocError> for J2oasError {
 /// A schema as it stands in the document (OpenAPI 3.0.3, Schema Object), with the given name as its title,
 /// if there is one. A truth value and a reference show none.
 ///
-/// Of a schema that has several faults the first is told, in the order in which it is written: those of the
-/// schema itself first, then those of the parts of its type, then those of its subschemas. Follows no
-/// reference, and copies what it writes.
+/// Of a schema that has several faults one is told: of its own the first in the order of the variants of
+/// `J2oasError`; where it has none of its own, the first of the schemas in it, in the order in which they are
+/// written. Follows no reference, and copies what it writes.
 pub fn j2oas_schema(alloc: Global, name: Option<&str>, schema: &Schema) -> Result<Json, J2oasError>
     ensures ok { IfOk result (λ json. json ≡ schema_json
         (option_map (λ name. chars name.now) name.entry) schema.now) }

@@ -38,13 +38,21 @@ pub struct Operation {
 /// The operations of a path, by methods (OpenAPI 3.0.3, Path Item Object).
 #[derive(Drop)]
 pub struct PathItem {
+    /// The operation of `GET`.
     pub get: Option<Operation>,
+    /// The operation of `PUT`.
     pub put: Option<Operation>,
+    /// The operation of `POST`.
     pub post: Option<Operation>,
+    /// The operation of `DELETE`.
     pub delete: Option<Operation>,
+    /// The operation of `OPTIONS`.
     pub options: Option<Operation>,
+    /// The operation of `HEAD`.
     pub head: Option<Operation>,
+    /// The operation of `PATCH`.
     pub patch: Option<Operation>,
+    /// The operation of `TRACE`.
     pub trace: Option<Operation>,
 }
 
@@ -156,30 +164,15 @@ impl Part for PathItem {
     }
 
     fn copy(&self, alloc: Global) -> Result<PathItem, AllocError> {
-        let (get, put) = copy_pair(alloc, &self.get, &self.put)?;
-        let (post, delete) = copy_pair(alloc, &self.post, &self.delete)?;
-        let (options, head) = copy_pair(alloc, &self.options, &self.head)?;
-        let (patch, trace) = copy_pair(alloc, &self.patch, &self.trace)?;
         Ok(PathItem {
-            get,
-            put,
-            post,
-            delete,
-            options,
-            head,
-            patch,
-            trace,
+            get: copy_option(alloc, &self.get)?,
+            put: copy_option(alloc, &self.put)?,
+            post: copy_option(alloc, &self.post)?,
+            delete: copy_option(alloc, &self.delete)?,
+            options: copy_option(alloc, &self.options)?,
+            head: copy_option(alloc, &self.head)?,
+            patch: copy_option(alloc, &self.patch)?,
+            trace: copy_option(alloc, &self.trace)?,
         })
     }
-}
-
-/// Copies of the operations of two methods.
-fn copy_pair(
-    alloc: Global,
-    first: &Option<Operation>,
-    second: &Option<Operation>,
-) -> Result<(Option<Operation>, Option<Operation>), AllocError>
-    ensures { IfOk result (λ copies. copies ≡ (first.now, second.now)) }
-{
-    Ok((copy_option(alloc, first)?, copy_option(alloc, second)?))
 }

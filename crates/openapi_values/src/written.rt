@@ -23,7 +23,8 @@ use schema_values::{
 };
 use std::alloc::{AllocError, Global};
 
-/// A schema as it is written, under a title where one is given.
+/// A schema as it is written, under a title where one is given. It is asked of schemas that are not refused:
+/// what it gives for others is never seen.
 #[cycle(written)]
 pub fn written(alloc: Global, title: &Option<Text>, schema: &Schema) -> Result<Json, AllocError>
     ensures { IfOk result (λ json. json ≡ schema_json title.now schema.now) }

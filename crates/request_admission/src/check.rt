@@ -19,7 +19,11 @@ use std::alloc::{AllocError, Global};
 /// Whether a document admits a request for the operation of a path's template and a method. The document is
 /// sound, as one that was read is, and the method is written in upper case, as `POST`. Parameters, request
 /// bodies and schemas are those of OpenAPI 3.0.3; the media type is read as RFC 9110, section 8.3, has it.
-/// Fails only for want of memory. Takes as much time as `json_admits` and `text_admits` of its schemas.
+/// Fails only for want of memory.
+///
+/// It decodes the query once, looks through its pairs for each parameter of the query, and reads the body.
+/// Beside that it takes as much time as `json_admits` and `text_admits` of its schemas, where a reference is
+/// looked for among all names of `components.schemas`.
 pub fn check_admits(
     alloc: Global,
     doc: &Json,
