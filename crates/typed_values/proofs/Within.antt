@@ -1,5 +1,5 @@
 -- What stands in a descriptor: itself, and what stands in those that it is made of.
-use Rattle.std.proofs.Common.{◌≡◌, ◌↔◌, Some, Bool, true, false, IsTrue, sym, ◌∙◌, ap, subst, refl, ◌⊎◌, inl, inr}
+use Rattle.std.proofs.Common.{◌≡◌, ◌↔◌, List, Some, Bool, true, false, IsTrue, sym, ◌∙◌, ap, subst, refl, ◌⊎◌, inl, inr}
 use Rattle.std.specs.Prelude.{Contains}
 use Rattle.typed_values.specs.declared.desc.Desc.TheVariants as desc
 use Rattle.typed_values.specs.declared.desc.Desc.TheViews.{roll-out-Desc, roll-Desc}
@@ -8,13 +8,25 @@ use Rattle.typed_values.specs.declared.desc.Desc.TheOpen.{Desc-F}
 use Rattle.typed_values.specs.declared.desc.Field.{Field}
 use Rattle.typed_values.specs.declared.desc.TaggedVariant.{TaggedVariant}
 use Rattle.typed_values.specs.declared.desc.Variant.{Variant}
+use Rattle.typed_values.specs.declared.check.TableError.{TableError}
+use Rattle.typed_values.specs.declared.check.TableError.TheVariants.{BadRange}
+use Rattle.typed_values.specs.declared.table.Definition.{Definition}
 use Rattle.typed_values.specs.Definitions.{tagged_fields}
 use Rattle.typed_values.specs.Parts.{StandsIn, the_whole, in_option, in_list, in_map, in_field, in_payload, in_variant, in_alternative}
-use Rattle.typed_values.specs.Causes.{SomePart}
+use Rattle.typed_values.specs.Causes.{AppliesToDesc, SomePart}
+use Rattle.typed_values.specs.Lengths.{HasShortLengths}
 use Rattle.typed_values.specs.Levels.{DescLevel}
 
 pub untrue : {P : Type 0} {b : Bool} → IsTrue b ↔ P → b ≡ false → P → ⊥
 untrue i e p = let q : false ≡ true = sym e ∙ i.1 p in cc q
+
+-- an error does not apply to a descriptor, and its lengths are short if the error is of ranges
+pub record IsClear (table : List Definition) (error : TableError) (d : Desc) : Type 0 where
+  pub none : AppliesToDesc table d error → ⊥
+  pub short : error ≡ BadRange → HasShortLengths d
+
+pub clear_of : (table : List Definition) (error : TableError) (d : Desc) (b : Bool) → IsTrue b ↔ AppliesToDesc table d error → (error ≡ BadRange → b ≡ false → HasShortLengths d) → b ≡ false → IsClear table error d
+clear_of table error d b told lengths e = record { none = untrue told e; short = λ is. lengths is e }
 
 -- a fact holds of one of those that a level is made of
 abbrev pub SomeChild : (Desc → Type 0) → DescLevel → Type 0
@@ -125,26 +137,38 @@ module _ (P : Desc → Type 0) (d : Desc) where
   pub parts_at : (z : DescLevel) → out-Desc d ≡ z → (P d → ⊥) → SomePart P d ↔ SomeChild (SomePart P) z
   parts_at z e never = (λ h. subst (SomeChild (SomePart P)) e (part_below never h), part_above z e)
 
+  all_parts_by : P d → ((x : Desc) → SomeChild (λ y. StandsIn y x) (out-Desc d) → P x) → (x : Desc) → Step d x → P x
+  unfolding Step
+  all_parts_by here below x (inl q) = subst P q here
+  all_parts_by here below x (inr c) = below x c
+
+  -- what holds of it, and of all that stands in those that it is made of, holds of all that stands in it
+  pub all_parts : (z : DescLevel) → out-Desc d ≡ z → P d → ((x : Desc) → SomeChild (λ y. StandsIn y x) z → P x) → (x : Desc) → StandsIn d x → P x
+  all_parts z e here below x s = all_parts_by here (λ w c. below w (subst (SomeChild (λ y. StandsIn y w)) e c)) x (first_step d x s)
+
   rolled : (z : DescLevel) → out-Desc d ≡ z → d ≡ roll-Desc z
   rolled z e = sym (roll-out-Desc d) ∙ ap roll-Desc e
 
-  no_child : IsAlone d → (z : DescLevel) → out-Desc d ≡ z → SomeChild (SomePart P) z → ⊥
-  no_child a Desc-F.Any e c = c
-  no_child a Desc-F.Never e c = c
-  no_child a Desc-F.Null e c = c
-  no_child a Desc-F.Bool e c = c
-  no_child a Desc-F.Char e c = c
-  no_child a (Desc-F.Int kind min max) e c = c
-  no_child a (Desc-F.Text min max format) e c = c
-  no_child a (Desc-F.Enumeration ns) e c = c
-  no_child a (Desc-F.Option x) e c = a.no_option x (rolled (Desc-F.Option x) e ∙ desc.rolls-Option x)
-  no_child a (Desc-F.List x min max) e c = a.no_list x min max (rolled (Desc-F.List x min max) e ∙ desc.rolls-List x min max)
-  no_child a (Desc-F.Map x) e c = a.no_map x (rolled (Desc-F.Map x) e ∙ desc.rolls-Map x)
-  no_child a (Desc-F.Struct fs deny) e c = a.no_struct fs deny (rolled (Desc-F.Struct fs deny) e ∙ desc.rolls-Struct fs deny)
-  no_child a (Desc-F.External vs) e c = a.no_external vs (rolled (Desc-F.External vs) e ∙ desc.rolls-External vs)
-  no_child a (Desc-F.Tagged tag vs) e c = a.no_tagged tag vs (rolled (Desc-F.Tagged tag vs) e ∙ desc.rolls-Tagged tag vs)
-  no_child a (Desc-F.Untagged ds) e c = a.no_untagged ds (rolled (Desc-F.Untagged ds) e ∙ desc.rolls-Untagged ds)
-  no_child a (Desc-F.Ref name) e c = c
+  no_child : (Q : Desc → Type 0) → IsAlone d → (z : DescLevel) → out-Desc d ≡ z → SomeChild Q z → ⊥
+  no_child Q a Desc-F.Any e c = c
+  no_child Q a Desc-F.Never e c = c
+  no_child Q a Desc-F.Null e c = c
+  no_child Q a Desc-F.Bool e c = c
+  no_child Q a Desc-F.Char e c = c
+  no_child Q a (Desc-F.Int kind min max) e c = c
+  no_child Q a (Desc-F.Text min max format) e c = c
+  no_child Q a (Desc-F.Enumeration ns) e c = c
+  no_child Q a (Desc-F.Option x) e c = a.no_option x (rolled (Desc-F.Option x) e ∙ desc.rolls-Option x)
+  no_child Q a (Desc-F.List x min max) e c = a.no_list x min max (rolled (Desc-F.List x min max) e ∙ desc.rolls-List x min max)
+  no_child Q a (Desc-F.Map x) e c = a.no_map x (rolled (Desc-F.Map x) e ∙ desc.rolls-Map x)
+  no_child Q a (Desc-F.Struct fs deny) e c = a.no_struct fs deny (rolled (Desc-F.Struct fs deny) e ∙ desc.rolls-Struct fs deny)
+  no_child Q a (Desc-F.External vs) e c = a.no_external vs (rolled (Desc-F.External vs) e ∙ desc.rolls-External vs)
+  no_child Q a (Desc-F.Tagged tag vs) e c = a.no_tagged tag vs (rolled (Desc-F.Tagged tag vs) e ∙ desc.rolls-Tagged tag vs)
+  no_child Q a (Desc-F.Untagged ds) e c = a.no_untagged ds (rolled (Desc-F.Untagged ds) e ∙ desc.rolls-Untagged ds)
+  no_child Q a (Desc-F.Ref name) e c = c
 
   pub none_within : (P d → ⊥) → IsAlone d → SomePart P d → ⊥
-  none_within never a h = no_child a (out-Desc d) refl (part_below never h)
+  none_within never a h = no_child (SomePart P) a (out-Desc d) refl (part_below never h)
+
+  pub all_within : P d → IsAlone d → (x : Desc) → StandsIn d x → P x
+  all_within here a = all_parts (out-Desc d) refl here (λ x c. absurd (no_child (λ y. StandsIn y x) a (out-Desc d) refl c))

@@ -79,11 +79,6 @@ abbrev pub is_length_order : Option ℕ → Option ℕ → Bool
 is_length_order (Some min) (Some max) = nat_le min max
 is_length_order _ _ = true
 
--- a length is below 2^32, where it is given
-abbrev pub is_length : Option ℕ → Bool
-is_length None = true
-is_length (Some length) = nat_le length 4294967295
-
 -- the least number is not above the greatest, where both are given
 abbrev pub is_number_order : Option ℤ → Option ℤ → Bool
 is_number_order (Some min) (Some max) = int_le min max
@@ -94,22 +89,18 @@ abbrev pub is_bound_of : IntKind → Option ℤ → Bool
 is_bound_of kind None = true
 is_bound_of kind (Some bound) = int_le (least_of kind) bound && int_le bound (greatest_of kind)
 
--- lengths are in order and below 2^32
-abbrev pub are_lengths_right : Option ℕ → Option ℕ → Bool
-are_lengths_right min max = is_length_order min max && (is_length min && is_length max)
-
--- bounds are in order and of their kind, lengths in order and below 2^32, and names, variants or alternatives no more than 2^32
+-- bounds are in order and of their kind, and names, variants or alternatives no more than 2^32
 abbrev pub are_bounds_right : DescLevel → Bool
 are_bounds_right (Desc-F.Int kind min max) = is_number_order min max && (is_bound_of kind min && is_bound_of kind max)
-are_bounds_right (Desc-F.Text min max format) = are_lengths_right min max
-are_bounds_right (Desc-F.List x min max) = are_lengths_right min max
+are_bounds_right (Desc-F.Text min max format) = is_length_order min max
+are_bounds_right (Desc-F.List x min max) = is_length_order min max
 are_bounds_right (Desc-F.Enumeration ns) = nat_le (length ns) 4294967296
 are_bounds_right (Desc-F.External vs) = nat_le (length vs) 4294967296
 are_bounds_right (Desc-F.Tagged tag vs) = nat_le (length vs) 4294967296
 are_bounds_right (Desc-F.Untagged ds) = nat_le (length ds) 4294967296
 are_bounds_right _ = true
 
--- a least bound above the greatest, a bound outside its kind, a length of 2^32 or more, or more than 2^32 names, variants or alternatives
+-- a least bound above the greatest, a bound outside its kind, or more than 2^32 names, variants or alternatives
 abbrev pub HasBadRange : Desc → Type 0
 HasBadRange d = are_bounds_right (out-Desc d) ≡ false
 

@@ -20,5 +20,6 @@ pub mod DescBeside
 pub mod SchemaTable
 pub mod Schemas
 pub mod Checks
+pub mod Lengths
 pub mod Ranged
 pub mod Causes

@@ -1,12 +1,14 @@
-ghost use Rattle.std.specs.Prelude.{◌≡◌, ◌↔◌, IsTrue, IsOk, IfErr, IfSome, IfNone, MatchBool, Contains, map};
+ghost use Rattle.std.specs.Prelude.{◌≡◌, ◌↔◌, false, IsTrue, IsOk, IfErr, IfSome, IfNone, MatchBool};
+ghost use Rattle.std.specs.Prelude.{Contains, map};
 ghost use Rattle.schema_values.specs.Sound.{AreDistinct};
-ghost use Rattle.typed_values.specs.declared.check.TableError.TheVariants.{BadPresence};
+ghost use Rattle.typed_values.specs.declared.check.TableError.TheVariants.{BadPresence, BadRange};
 ghost use Rattle.typed_values.specs.declared.table.Definition.{Definition};
 ghost use Rattle.typed_values.specs.Causes.{AppliesToDesc, AppliesToTable, IsFirst, IsFirstOnCycle};
 ghost use Rattle.typed_values.specs.Checks as checks;
 ghost use Rattle.typed_values.specs.Checks.{IsName, TablePasses, DescPasses};
 ghost use Rattle.typed_values.specs.Definitions.{definition_name};
 ghost use Rattle.typed_values.specs.Guarded.{IsGuarded};
+ghost use Rattle.typed_values.specs.Lengths.{HasShortLengths, TableHasShortLengths};
 
 use crate::desc::Desc;
 use crate::parts::applies;
@@ -44,6 +46,7 @@ pub enum TableError<'a> {
 pub fn check_table(table: &DescTable) -> Result<(), TableError<'_>>
     ensures ok { IsOk result ↔ TablePasses table.now }
     ensures first { IfErr result (IsFirst (AppliesToTable table.now)) }
+    ensures lengths { IsOk result → TableHasShortLengths table.now }
 {
     if applies_somewhere(TableError::DoubledName, table) {
         return Err(TableError::DoubledName);
@@ -80,6 +83,7 @@ pub fn check_desc<'a>(table: &'a DescTable, desc: &'a Desc) -> Result<(), TableE
     requires { TablePasses table.now }
     ensures ok { IsOk result ↔ DescPasses table.now desc.now }
     ensures first { IfErr result (IsFirst (AppliesToDesc table.now desc.now)) }
+    ensures lengths { IsOk result → HasShortLengths desc.now }
 {
     if applies(TableError::DoubledName, table, desc) {
         return Err(TableError::DoubledName);
@@ -107,8 +111,9 @@ pub fn check_desc<'a>(table: &'a DescTable, desc: &'a Desc) -> Result<(), TableE
 
 fn applies_somewhere(error: TableError, table: &DescTable) -> bool
     requires { error ≡ BadPresence → IsGuarded table.now }
-    ensures { IsTrue result ↔
+    ensures told { IsTrue result ↔
         ((e : Definition) × Contains table.now e × AppliesToDesc table.now e.desc error.entry) }
+    ensures lengths { error.entry ≡ BadRange → result ≡ false → TableHasShortLengths table.now }
 {
     for definition in table.definitions() {
         if applies(error, table, &definition.desc) {

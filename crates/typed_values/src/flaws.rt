@@ -2,13 +2,14 @@
 ghost use Rattle.std.specs.Prelude.{◌≡◌, ◌≢◌, ◌↔◌, IsTrue, map, Contains};
 ghost use Rattle.std.specs.List.{AllByRecursion, list_any};
 ghost use Rattle.schema_values.specs.Sound.{AreDistinct};
-ghost use Rattle.typed_values.specs.declared.check.TableError.TheVariants.{BadPresence};
+ghost use Rattle.typed_values.specs.declared.check.TableError.TheVariants.{BadPresence, BadRange};
 ghost use Rattle.typed_values.specs.declared.desc.Field.{Field};
 ghost use Rattle.typed_values.specs.declared.desc.TaggedVariant.{TaggedVariant};
 ghost use Rattle.typed_values.specs.Causes.{Tells};
 ghost use Rattle.typed_values.specs.Checks as meant;
 ghost use Rattle.typed_values.specs.Definitions.{tagged_fields};
 ghost use Rattle.typed_values.specs.Guarded.{IsGuarded};
+ghost use Rattle.typed_values.specs.Lengths.{IsShort};
 ghost use Rattle.typed_values.specs.Checks.{HasDoubledName, names_of_fields, IsDangling, IsEmptyChoice};
 ghost use Rattle.typed_values.specs.Checks.{IsNullOfNull, HasTagClash, IsOption, IsBadField, HasBadPresence};
 
@@ -23,7 +24,8 @@ use schema_values::{HasName, Text};
 /// Whether what an error tells holds of a descriptor.
 pub(crate) fn tells(error: TableError, table: &DescTable, desc: &Desc) -> bool
     requires { error ≡ BadPresence → IsGuarded table.now }
-    ensures { IsTrue result ↔ Tells error.entry table.now desc.now }
+    ensures told { IsTrue result ↔ Tells error.entry table.now desc.now }
+    ensures lengths { error.entry ≡ BadRange → IsShort desc.now }
 {
     match error {
         TableError::DoubledName => has_doubled_name(desc),

@@ -1,6 +1,6 @@
 // Whether what an error tells holds of a descriptor that stands in another.
-ghost use Rattle.std.specs.Prelude.{◌≡◌, ◌↔◌, IsTrue, Some, Contains};
-ghost use Rattle.typed_values.specs.declared.check.TableError.TheVariants.{BadPresence};
+ghost use Rattle.std.specs.Prelude.{◌≡◌, ◌↔◌, false, IsTrue, Some, Contains};
+ghost use Rattle.typed_values.specs.declared.check.TableError.TheVariants.{BadPresence, BadRange};
 ghost use Rattle.typed_values.specs.declared.desc.Desc.{Desc};
 ghost use Rattle.typed_values.specs.declared.desc.Field.{Field};
 ghost use Rattle.typed_values.specs.declared.desc.TaggedVariant.{TaggedVariant};
@@ -8,6 +8,7 @@ ghost use Rattle.typed_values.specs.declared.desc.Variant.{Variant};
 ghost use Rattle.typed_values.specs.Causes.{AppliesToDesc};
 ghost use Rattle.typed_values.specs.Definitions.{tagged_fields};
 ghost use Rattle.typed_values.specs.Guarded.{IsGuarded};
+ghost use Rattle.typed_values.specs.Lengths.{HasShortLengths};
 
 use crate::check::TableError;
 use crate::desc::{Desc, Field, TaggedVariant, Variant};
@@ -18,7 +19,8 @@ use crate::table::DescTable;
 #[cycle(applies)]
 pub(crate) fn applies(error: TableError, table: &DescTable, desc: &Desc) -> bool
     requires { error ≡ BadPresence → IsGuarded table.now }
-    ensures { IsTrue result ↔ AppliesToDesc table.now desc.now error.entry }
+    ensures told { IsTrue result ↔ AppliesToDesc table.now desc.now error.entry }
+    ensures lengths { error.entry ≡ BadRange → result ≡ false → HasShortLengths desc.now }
 {
     if tells(error, table, desc) {
         return true;
@@ -38,8 +40,10 @@ pub(crate) fn applies(error: TableError, table: &DescTable, desc: &Desc) -> bool
 #[cycle(applies)]
 fn applies_to_some_field(error: TableError, table: &DescTable, fields: &[Field]) -> bool
     requires { error ≡ BadPresence → IsGuarded table.now }
-    ensures { IsTrue result ↔
+    ensures told { IsTrue result ↔
         ((f : Field) × Contains fields.now f × AppliesToDesc table.now f.desc error.entry) }
+    ensures lengths { error.entry ≡ BadRange → result ≡ false → (f : Field) → Contains fields.now f
+        → HasShortLengths f.desc }
 {
     for field in fields {
         if applies(error, table, &field.desc) {
@@ -52,8 +56,10 @@ fn applies_to_some_field(error: TableError, table: &DescTable, fields: &[Field])
 #[cycle(applies)]
 fn applies_to_some_payload(error: TableError, table: &DescTable, variants: &[Variant]) -> bool
     requires { error ≡ BadPresence → IsGuarded table.now }
-    ensures { IsTrue result ↔ ((v : Variant) × (d : Desc) × Contains variants.now v × (v.payload ≡ Some d)
-        × AppliesToDesc table.now d error.entry) }
+    ensures told { IsTrue result ↔ ((v : Variant) × (d : Desc) × Contains variants.now v
+        × (v.payload ≡ Some d) × AppliesToDesc table.now d error.entry) }
+    ensures lengths { error.entry ≡ BadRange → result ≡ false → (v : Variant) (d : Desc)
+        → Contains variants.now v → v.payload ≡ Some d → HasShortLengths d }
 {
     for variant in variants {
         if let Some(payload) = &variant.payload {
@@ -68,8 +74,10 @@ fn applies_to_some_payload(error: TableError, table: &DescTable, variants: &[Var
 #[cycle(applies)]
 fn applies_to_some_variant(error: TableError, table: &DescTable, variants: &[TaggedVariant]) -> bool
     requires { error ≡ BadPresence → IsGuarded table.now }
-    ensures { IsTrue result ↔ ((v : TaggedVariant) × (f : Field) × Contains variants.now v
+    ensures told { IsTrue result ↔ ((v : TaggedVariant) × (f : Field) × Contains variants.now v
         × Contains (tagged_fields v) f × AppliesToDesc table.now f.desc error.entry) }
+    ensures lengths { error.entry ≡ BadRange → result ≡ false → (v : TaggedVariant) (f : Field)
+        → Contains variants.now v → Contains (tagged_fields v) f → HasShortLengths f.desc }
 {
     for variant in variants {
         if applies_to_some_field(error, table, variant.fields.as_slice()) {
@@ -82,7 +90,10 @@ fn applies_to_some_variant(error: TableError, table: &DescTable, variants: &[Tag
 #[cycle(applies)]
 fn applies_to_some(error: TableError, table: &DescTable, descs: &[Desc]) -> bool
     requires { error ≡ BadPresence → IsGuarded table.now }
-    ensures { IsTrue result ↔ ((d : Desc) × Contains descs.now d × AppliesToDesc table.now d error.entry) }
+    ensures told { IsTrue result ↔ ((d : Desc) × Contains descs.now d
+        × AppliesToDesc table.now d error.entry) }
+    ensures lengths { error.entry ≡ BadRange → result ≡ false → (d : Desc) → Contains descs.now d
+        → HasShortLengths d }
 {
     for desc in descs {
         if applies(error, table, desc) {

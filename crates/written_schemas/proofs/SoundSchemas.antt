@@ -19,10 +19,11 @@ use Rattle.typed_values.specs.declared.desc.Presence.TheVariants.{Required, Null
 use Rattle.typed_values.specs.declared.desc.TaggedVariant.{TaggedVariant}
 use Rattle.typed_values.specs.declared.desc.Variant.{Variant}
 use Rattle.typed_values.specs.declared.table.Definition.{Definition}
-use Rattle.typed_values.specs.Checks.{are_bounds_right, is_bound_of, is_length, is_length_order, is_number_order, names_of_fields, IsBadField, IsPlainlyRight, default_misfits, of_struct, of_variant, TablePasses, DescPasses}
+use Rattle.typed_values.specs.Checks.{are_bounds_right, is_bound_of, is_number_order, names_of_fields, IsBadField, IsPlainlyRight, default_misfits, of_struct, of_variant, TablePasses, DescPasses}
 use Rattle.typed_values.specs.Definitions.{field_name, tagged_description, tagged_fields, tagged_name}
 use Rattle.typed_values.specs.DescBeside.{Beside, beside_with, field_with, level_with, tagged_with, variant_with}
 use Rattle.typed_values.specs.Fits.{fits_under}
+use Rattle.typed_values.specs.Lengths.{are_lengths_short, is_short, HasShortLengths}
 use Rattle.typed_values.specs.Levels.{DescLevel}
 use Rattle.typed_values.specs.Parts.{StandsIn, the_whole, in_option, in_list, in_map, in_field, in_payload, in_variant, in_alternative}
 use Rattle.typed_values.specs.SchemaTable.{Drawn, bare_names, choices_of, default_of, defaulted, described, drawn, drawn_json, drawn_step, enumerated, external_choices, least_shown, payload_choices, property, property_of, required_names, schema_json, schema_json_described, schema_json_titled, tagged_choice, titled}
@@ -52,7 +53,7 @@ least_whole U16 None e = length_is_count 0 refl
 least_whole U32 None e = length_is_count 0 refl
 least_whole U64 None e = length_is_count 0 refl
 
-length_counted : (length : Option ℕ) → is_length length ≡ true → MatchOption length ⊤ IsCount
+length_counted : (length : Option ℕ) → is_short length ≡ true → MatchOption length ⊤ IsCount
 length_counted None e = tt
 length_counted (Some n) e = length_is_count n e
 
@@ -67,7 +68,7 @@ new_tag : (tag : List ℕ) (fs : List Field) → ((f : Field) → Contains fs f 
 new_tag tag [] none = tt
 new_tag tag (f ∷ fs) none = (λ e. none f (contains_first f fs) (sym e), new_tag tag fs (λ g c. none g (contains_later f fs g c)))
 
-module _ (table : List Definition) (whole : Desc) (passes : TablePasses table) (right : DescPasses table whole) where
+module _ (table : List Definition) (whole : Desc) (passes : TablePasses table) (right : DescPasses table whole) (short : HasShortLengths whole) where
   abbrev SoundWhere : Desc → Type 0
   SoundWhere d = StandsIn whole d → IsSoundlyDrawn (drawn table d)
 
@@ -148,6 +149,9 @@ module _ (table : List Definition) (whole : Desc) (passes : TablePasses table) (
 
   -- ---- one row for each descriptor
 
+  counted : (d : Desc) → StandsIn whole d → (z : DescLevel) → out-Desc d ≡ z → are_lengths_short z ≡ true
+  counted d s z e = sym (ap are_lengths_short e) ∙ short d s
+
   row_sound : (y : KnownLevel SoundWhere) (d : Desc) → StandsIn whole d → out-Desc d ≡ firsts SoundWhere y → IsSoundlyDrawn (drawn_step table (level_with (drawn table) (firsts SoundWhere y)))
   row_sound Desc-F.Any d s e = every_sound true
   row_sound Desc-F.Never d s e = every_sound false
@@ -159,14 +163,12 @@ module _ (table : List Definition) (whole : Desc) (passes : TablePasses table) (
       let (low, high) = and_parts (is_bound_of kind min) (is_bound_of kind max) bounds in
       number_sound kind _ max (least_whole kind min low) (bound_whole kind max high)
   row_sound (Desc-F.Text min max format) d s e =
-      let (ordered, lengths) = and_parts (is_length_order min max) _ (ranged table d (right d s) (Desc-F.Text min max format) e) in
-      let (low, high) = and_parts (is_length min) (is_length max) lengths in
+      let (low, high) = and_parts (is_short min) (is_short max) (counted d s (Desc-F.Text min max format) e) in
       text_sound min max format (length_counted min low) (length_counted max high)
   row_sound (Desc-F.Enumeration ns) d s e = enumeration_sound ns
   row_sound (Desc-F.Option x) d s e = null_sound (drawn table x.0) (x.1 (in_option x.0 s e))
   row_sound (Desc-F.List x min max) d s e =
-      let (ordered, lengths) = and_parts (is_length_order min max) _ (ranged table d (right d s) (Desc-F.List x.0 min max) e) in
-      let (low, high) = and_parts (is_length min) (is_length max) lengths in
+      let (low, high) = and_parts (is_short min) (is_short max) (counted d s (Desc-F.List x.0 min max) e) in
       list_sound (drawn_json (drawn table x.0)) min max (drawn_sound (drawn table x.0) (x.1 (in_list x.0 min max s e))) (length_counted min low) (length_counted max high)
   row_sound (Desc-F.Map x) d s e = map_sound (drawn table x.0) (x.1 (in_map x.0 s e))
   row_sound (Desc-F.Struct fs deny) d s e =

@@ -17,6 +17,7 @@ ghost use Rattle.typed_values.specs.Checks.{TablePasses, DescPasses};
 ghost use Rattle.typed_values.specs.Denotes.{room as steps_of_table, told, told_within, JsonDenotes};
 ghost use Rattle.typed_values.specs.Encoding.{json_of_tree};
 ghost use Rattle.typed_values.specs.Fits.{Fits};
+ghost use Rattle.typed_values.specs.Lengths.{HasShortLengths};
 ghost use Rattle.typed_values.specs.SchemaTable.{schema_json, schema_json_titled, schema_json_described};
 ghost use Rattle.typed_values.specs.Schemas.{schema_value, in_header};
 ghost use Rattle.written_schemas.specs.Bodies.{TakesJson};
@@ -91,13 +92,13 @@ pub fn schemas_written()
         ≡ schema_json_titled table name (in_header desc) }
 {}
 
-/// In a table that passes its checks the schema of a descriptor that passes them is sound JSON; so it is
-/// under a title or a description.
+/// In a table that passes its checks the schema of a descriptor that passes them, and whose lengths have 32
+/// bits, is sound JSON; so it is under a title or a description.
 pub fn schemas_sound()
-    ensures plain { (table : List Entry) (desc : Descriptor) → TablePasses table → DescPasses table desc
-        → IsSound (schema_json table desc) }
+    ensures plain { (table : List Entry) (desc : Descriptor) → TablePasses table
+        → DescPasses table desc → HasShortLengths desc → IsSound (schema_json table desc) }
     ensures titled { (table : List Entry) (desc : Descriptor) (name : List ℕ) → TablePasses table
-        → DescPasses table desc → IsSound (schema_json_titled table name desc) }
+        → DescPasses table desc → HasShortLengths desc → IsSound (schema_json_titled table name desc) }
     ensures described { (table : List Entry) (desc : Descriptor) (text : Option (List ℕ)) → TablePasses table
-        → DescPasses table desc → IsSound (schema_json_described table text desc) }
+        → DescPasses table desc → HasShortLengths desc → IsSound (schema_json_described table text desc) }
 {}

@@ -4,22 +4,22 @@ use Rattle.typed_values.specs.declared.desc.Desc.{Desc}
 use Rattle.typed_values.specs.declared.desc.Field.{Field}
 use Rattle.typed_values.specs.declared.desc.TaggedVariant.{TaggedVariant}
 use Rattle.typed_values.specs.declared.desc.Variant.{Variant}
-use Rattle.typed_values.specs.Causes.{AppliesToDesc}
 use Rattle.typed_values.specs.Definitions.{tagged_fields}
+use Rattle.typed_values.proofs.Within.{IsClear}
 use Rattle.typed_values.proofs.parts.+applies.Given as goal
 
 abbrev pub invariant-applies_to_some_field-loop-field : goal.invariant-applies_to_some_field-loop-field
 invariant-applies_to_some_field-loop-field l =
-    (k : ℕ) (f : Field) → k < l.field-index → get_or l.fields k f ≡ f → AppliesToDesc l.table f.desc l.error → ⊥
+    (k : ℕ) (f : Field) → k < l.field-index → get_or l.fields k f ≡ f → IsClear l.table l.error f.desc
 
 abbrev pub invariant-applies_to_some_payload-loop-variant : goal.invariant-applies_to_some_payload-loop-variant
 invariant-applies_to_some_payload-loop-variant l =
-    (k : ℕ) (v : Variant) → k < l.variant-index → get_or l.variants k v ≡ v → (d : Desc) → v.payload ≡ Some d → AppliesToDesc l.table d l.error → ⊥
+    (k : ℕ) (v : Variant) → k < l.variant-index → get_or l.variants k v ≡ v → (d : Desc) → v.payload ≡ Some d → IsClear l.table l.error d
 
 abbrev pub invariant-applies_to_some_variant-loop-variant : goal.invariant-applies_to_some_variant-loop-variant
 invariant-applies_to_some_variant-loop-variant l =
-    (k : ℕ) (v : TaggedVariant) → k < l.variant-index → get_or l.variants k v ≡ v → ((f : Field) × Contains (tagged_fields v) f × AppliesToDesc l.table f.desc l.error) → ⊥
+    (k : ℕ) (v : TaggedVariant) → k < l.variant-index → get_or l.variants k v ≡ v → (f : Field) → Contains (tagged_fields v) f → IsClear l.table l.error f.desc
 
 abbrev pub invariant-applies_to_some-loop-desc : goal.invariant-applies_to_some-loop-desc
 invariant-applies_to_some-loop-desc l =
-    (k : ℕ) (d : Desc) → k < l.desc-index → get_or l.descs k d ≡ d → AppliesToDesc l.table d l.error → ⊥
+    (k : ℕ) (d : Desc) → k < l.desc-index → get_or l.descs k d ≡ d → IsClear l.table l.error d

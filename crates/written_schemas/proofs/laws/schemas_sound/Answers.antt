@@ -4,6 +4,6 @@ use Rattle.written_schemas.proofs.laws.schemas_sound.Goals as goal
 pub returns : goal.returns
 returns c = record {
   plain = plain_sound;
-  titled = λ table desc name passes right. schema_titled_sound table desc passes right name;
-  described = λ table desc text passes right. schema_described_sound table desc passes right text;
+  titled = λ table desc name passes right short. schema_titled_sound table desc passes right short name;
+  described = λ table desc text passes right short. schema_described_sound table desc passes right short text;
 }
