@@ -122,14 +122,10 @@ module _ {X : Type 0} (smaller : X → Json → Bool) (next : Json → Bool) (js
   abbrev pub members_hold : Bool
   members_hold = list_all (λ m. row (keyword_of m.name) m.value) schema
 
--- one item alone
-abbrev is_single : {X : Type 0} → List X → Bool
-is_single xs = length xs == 1
-
 -- a member of the subset that this project reads: `allOf` has one schema, and `not` the empty one
 abbrev pub is_read : Keyword → Json → Bool
 is_read Reference s = false
-is_read AllOf s = is_some_and (as_list (out-Json s)) is_single
+is_read AllOf s = is_some_and (as_list (out-Json s)) (λ schemas. length schemas == 1)
 is_read Not s = is_some_and (as_object (out-Json s)) (λ ms. length ms == 0)
 is_read Other s = false
 is_read _ s = true

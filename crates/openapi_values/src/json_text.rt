@@ -96,13 +96,7 @@ impl TextAdmitter<'_> {
         ensures { result ≡ object_admits (smaller_of self.now) (admits_of self.now (left next.now))
             (value_of self.now) (level_of self.now) schema.now }
     {
-        if !rows::all_read(schema) {
-            return false;
-        }
-        if rows::has_null_form(schema) {
-            return false;
-        }
-        self.members_hold(next, schema)
+        rows::all_read(schema) && !rows::has_null_form(schema) && self.members_hold(next, schema)
     }
 
     // Whether each member of a schema holds.

@@ -38,13 +38,21 @@ pub struct Operation {
 /// The operations of a path, by methods (OpenAPI 3.0.3, Path Item Object).
 #[derive(Drop)]
 pub struct PathItem {
+    /// The operation of `GET`.
     pub get: Option<Operation>,
+    /// The operation of `PUT`.
     pub put: Option<Operation>,
+    /// The operation of `POST`.
     pub post: Option<Operation>,
+    /// The operation of `DELETE`.
     pub delete: Option<Operation>,
+    /// The operation of `OPTIONS`.
     pub options: Option<Operation>,
+    /// The operation of `HEAD`.
     pub head: Option<Operation>,
+    /// The operation of `PATCH`.
     pub patch: Option<Operation>,
+    /// The operation of `TRACE`.
     pub trace: Option<Operation>,
 }
 
