@@ -20,3 +20,8 @@ pub mod SchemasOfDocument
 pub mod Keyed
 mod SoundObjects
 pub mod SoundDocuments
+mod SchemaInduction
+mod KeyedEntries
+mod SoundWithin
+mod SoundBehind
+mod SoundSchemas

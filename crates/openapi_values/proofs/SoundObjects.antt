@@ -21,11 +21,11 @@ IsSoundWhere value = MatchOption value ⊤ IsSound
 
 -- ---- objects with optional members
 
-present_keyed : (name : List ℕ) (names : List (List ℕ)) (ms : List Member) → is_new name names ≡ true → IsKeyed names ms → (value : Option Json) → IsSoundWhere value → IsKeyed (name ∷ names) (present name value ms)
+pub present_keyed : (name : List ℕ) (names : List (List ℕ)) (ms : List Member) → is_new name names ≡ true → IsKeyed names ms → (value : Option Json) → IsSoundWhere value → IsKeyed (name ∷ names) (present name value ms)
 present_keyed name names ms new h (Some value) sound = put name value names ms new sound h
 present_keyed name names ms new h None sound = passed name names ms h
 
-entries_keyed : (es : List Entry) → AllByRecursion (λ e. IsSoundWhere e.1) es → are_distinct (map (λ e. e.0) es) ≡ true → IsKeyed (map (λ e. e.0) es) (members_of es)
+pub entries_keyed : (es : List Entry) → AllByRecursion (λ e. IsSoundWhere e.1) es → are_distinct (map (λ e. e.0) es) ≡ true → IsKeyed (map (λ e. e.0) es) (members_of es)
 entries_keyed [] sound distinct = none_keyed []
 entries_keyed (e ∷ es) sound distinct =
     let (new, others) = and_parts (is_new e.0 (map (λ e. e.0) es)) (are_distinct (map (λ e. e.0) es)) distinct in
@@ -66,6 +66,10 @@ pub list_where : (js : List Json) → AllByRecursion IsSound js → IsSoundWhere
 list_where [] sound = tt
 list_where (j ∷ js) sound = (IsSound-List (j ∷ js)).1 sound
 
+pub members_where : (ms : List Member) → HasSoundMembers ms → IsSoundWhere (unless_empty ms)
+members_where [] sound = tt
+members_where (m ∷ ms) sound = (IsSound-Object (m ∷ ms)).1 sound
+
 module _ {X : Type 0} (P : X → Type 0) (json : X → Json) (each : (x : X) → P x → IsSound (json x)) where
   values_sound : (entries : List (List ℕ × X)) → AllByRecursion (λ entry. P entry.1) entries → AllByRecursion HasSoundValue (map_members json entries)
   values_sound [] sound = tt
@@ -77,10 +81,6 @@ module _ {X : Type 0} (P : X → Type 0) (json : X → Json) (each : (x : X) →
 
   pub map_sound : (entries : List (List ℕ × X)) → IsSoundMap P entries → HasSoundMembers (map_members json entries)
   map_sound entries sound = (values_sound entries sound.0, subst AreDistinct (sym (named_alike entries)) sound.1)
-
-  members_where : (ms : List Member) → HasSoundMembers ms → IsSoundWhere (unless_empty ms)
-  members_where [] sound = tt
-  members_where (m ∷ ms) sound = (IsSound-Object (m ∷ ms)).1 sound
 
   pub map_where : (entries : List (List ℕ × X)) → IsSoundMap P entries → IsSoundWhere (unless_empty (map_members json entries))
   map_where entries sound = members_where (map_members json entries) (map_sound entries sound)

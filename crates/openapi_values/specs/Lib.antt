@@ -26,3 +26,4 @@ pub mod Info
 pub mod Tags
 pub mod Parameters
 pub mod SoundParts
+pub mod SoundContents

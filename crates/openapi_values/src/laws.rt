@@ -1,7 +1,8 @@
-ghost use Rattle.std.specs.Prelude.{◌≡◌, ◌↔◌, ℕ, suc, false, List, map, Some, None, option_map, codes};
-ghost use Rattle.std.specs.Prelude.{IsTrue};
+ghost use Rattle.std.specs.Prelude.{◌≡◌, ◌↔◌, ℕ, suc, false, List, map, Option, Some, None, option_map};
+ghost use Rattle.std.specs.Prelude.{IsTrue, codes};
 ghost use Rattle.std.specs.List.{list_all};
 ghost use Rattle.schema_values.specs.declared.json_value.Json.{Json as JsonValue, out-Json};
+ghost use Rattle.schema_values.specs.declared.schema.Schema.{Schema as SchemaValue};
 ghost use Rattle.schema_values.specs.Reading.{Reads};
 ghost use Rattle.schema_values.specs.Sound.{IsSound};
 ghost use Rattle.openapi_values.specs.declared.document.OpenApi.{OpenApi as Document};
@@ -18,7 +19,9 @@ ghost use Rattle.openapi_values.specs.MediaTypes.{HasJsonType};
 ghost use Rattle.openapi_values.specs.Operation.{operation_json};
 ghost use Rattle.openapi_values.specs.Parameters.{parameter_json};
 ghost use Rattle.openapi_values.specs.RequestParameters.{parameter_holds};
+ghost use Rattle.openapi_values.specs.SchemaJson.{schema_json};
 ghost use Rattle.openapi_values.specs.Smaller.{smaller_admits};
+ghost use Rattle.openapi_values.specs.SoundContents.{HasSoundContents};
 ghost use Rattle.openapi_values.specs.SoundParts.{HasSoundParts};
 
 /// With no step left nothing is admitted. One step asks a schema of the value, and of smaller values with all
@@ -63,4 +66,10 @@ pub fn bodies_admitted()
 /// A document of sound parts is written as sound JSON.
 pub fn documents_sound()
     ensures { (document : Document) → HasSoundParts document → IsSound (open_api_json document) }
+{}
+
+/// What is written for a schema of sound contents is sound, under any title.
+pub fn contents_sound()
+    ensures { (title : Option (List ℕ)) (schema : SchemaValue) → HasSoundContents schema
+        → IsSound (schema_json title schema) }
 {}

@@ -30,7 +30,8 @@ pub use info::{Contact, Info, License};
 pub use j2oas::{J2oasError, j2oas_schema};
 pub use keywords::Keyword;
 pub use laws::{
-    admits_by_steps, bodies_admitted, definitions_stand, documents_sound, operations_stand,
+    admits_by_steps, bodies_admitted, contents_sound, definitions_stand, documents_sound,
+    operations_stand,
 };
 pub use media::{MediaType, RequestBody, ResponseObject};
 pub use operation::{Operation, PathItem};
