@@ -164,15 +164,30 @@ impl Part for PathItem {
     }
 
     fn copy(&self, alloc: Global) -> Result<PathItem, AllocError> {
+        let (get, put) = copy_pair(alloc, &self.get, &self.put)?;
+        let (post, delete) = copy_pair(alloc, &self.post, &self.delete)?;
+        let (options, head) = copy_pair(alloc, &self.options, &self.head)?;
+        let (patch, trace) = copy_pair(alloc, &self.patch, &self.trace)?;
         Ok(PathItem {
-            get: copy_option(alloc, &self.get)?,
-            put: copy_option(alloc, &self.put)?,
-            post: copy_option(alloc, &self.post)?,
-            delete: copy_option(alloc, &self.delete)?,
-            options: copy_option(alloc, &self.options)?,
-            head: copy_option(alloc, &self.head)?,
-            patch: copy_option(alloc, &self.patch)?,
-            trace: copy_option(alloc, &self.trace)?,
+            get,
+            put,
+            post,
+            delete,
+            options,
+            head,
+            patch,
+            trace,
         })
     }
+}
+
+/// Copies of the operations of two methods.
+fn copy_pair(
+    alloc: Global,
+    first: &Option<Operation>,
+    second: &Option<Operation>,
+) -> Result<(Option<Operation>, Option<Operation>), AllocError>
+    ensures { IfOk result (λ copies. copies ≡ (first.now, second.now)) }
+{
+    Ok((copy_option(alloc, first)?, copy_option(alloc, second)?))
 }

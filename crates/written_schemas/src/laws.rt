@@ -93,7 +93,7 @@ pub fn schemas_written()
 {}
 
 /// In a table that passes its checks the schema of a descriptor that passes them, and whose lengths have 32
-/// bits, is sound JSON; so it is under a title or a description.
+/// bits, is sound JSON; so it is under a title or a description, and so is the schema that stands in a header.
 pub fn schemas_sound()
     ensures plain { (table : List Entry) (desc : Descriptor) → TablePasses table
         → DescPasses table desc → HasShortLengths desc → IsSound (schema_json table desc) }
@@ -101,4 +101,9 @@ pub fn schemas_sound()
         → DescPasses table desc → HasShortLengths desc → IsSound (schema_json_titled table name desc) }
     ensures described { (table : List Entry) (desc : Descriptor) (text : Option (List ℕ)) → TablePasses table
         → DescPasses table desc → HasShortLengths desc → IsSound (schema_json_described table text desc) }
+    ensures header_plain { (table : List Entry) (desc : Descriptor) → TablePasses table
+        → DescPasses table desc → HasShortLengths desc → IsSound (schema_json table (in_header desc)) }
+    ensures header_titled { (table : List Entry) (desc : Descriptor) (name : List ℕ) → TablePasses table
+        → DescPasses table desc → HasShortLengths desc
+        → IsSound (schema_json_titled table name (in_header desc)) }
 {}
