@@ -8,7 +8,7 @@ use Rattle.api_description.specs.declared.register.RegisterCause.{RegisterCause}
 use Rattle.api_description.specs.declared.register.RegisterCause.TheVariants.{NotBuilt, BadTemplate, UnsupportedSchema}
 use Rattle.api_description.specs.declared.register.ApiDescriptionRegisterError.{ApiDescriptionRegisterError}
 use Rattle.api_description.specs.Endpoints.{Meanings, shape_at}
-use Rattle.api_description.specs.Replies.{HasHttpErrors, ShapePasses}
+use Rattle.api_description.specs.Replies.{HasHttpErrors, ShapeHasShortLengths, ShapePasses}
 use Rattle.api_description.specs.Templates.{has_brace, is_template}
 
 -- the bytes of an endpoint's path, as it was given
@@ -28,11 +28,12 @@ pub record IsBuilt {X : Type 0} {F : X → Type 0} (m : Meanings X F) (before : 
   pub no_variable : has_brace (path_bytes e) ≡ false
   pub shape : IsBuiltShape (shape_at m e)
 
--- no cause stands against an endpoint after these
+-- No cause stands against an endpoint after these. The lengths in its shape have 32 bits, as their type gives in the code.
 pub record MayRegister {X : Type 0} {F : X → Type 0} (m : Meanings X F) (before : List (ApiEndpoint X F)) (e : ApiEndpoint X F) : Type 0 where
   pub built : IsBuilt m before e
   pub template : is_template (path_bytes e) ≡ true
   pub passes : ShapePasses (shape_at m e)
+  pub lengths : ShapeHasShortLengths (shape_at m e)
 
 -- the first cause that stands against an endpoint after these
 abbrev pub IsFirstCause : {X : Type 0} {F : X → Type 0} → Meanings X F → List (ApiEndpoint X F) → ApiEndpoint X F → RegisterCause → Type 0

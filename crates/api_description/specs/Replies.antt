@@ -1,5 +1,5 @@
 -- Replies, and the responses that they are sent as.
-use Rattle.std.specs.Prelude.{◌≡◌, ◌⊎◌, ℕ, ⊤, List, [], ◌∷◌, Option, Some, None, MatchOption, codes}
+use Rattle.std.specs.Prelude.{◌≡◌, ◌⊎◌, ℕ, ⊤, List, [], ◌∷◌, Option, Some, None, All, IfSome, MatchOption, codes}
 use Rattle.std.specs.Str.{encode_utf8_all}
 use Rattle.schema_values.specs.Print.{compact_of}
 use Rattle.typed_values.specs.declared.desc.Desc.{Ref}
@@ -8,6 +8,7 @@ use Rattle.typed_values.specs.Checks.{TablePasses, DescPasses}
 use Rattle.typed_values.specs.Definitions.{entry_of}
 use Rattle.typed_values.specs.Encoding.{json_of_tree}
 use Rattle.typed_values.specs.Fits.{Fits}
+use Rattle.typed_values.specs.Lengths.{HasShortLengths, TableHasShortLengths}
 use Rattle.api_description.specs.declared.api_respond.shape.HandlerShape.{HandlerShape}
 use Rattle.api_description.specs.declared.api_respond.shape.ContentShape.{ContentShape}
 use Rattle.api_description.specs.declared.api_respond.shape.ContentShape.TheVariants.{Json as JsonShape}
@@ -20,7 +21,7 @@ use Rattle.api_description.specs.declared.api_respond.reply.Content.TheVariants.
 use Rattle.api_description.specs.declared.api_respond.reply.ErrorReply.{ErrorReply}
 use Rattle.api_description.specs.declared.api_respond.reply.ErrorReply.TheVariants.{Http}
 use Rattle.api_description.specs.declared.http_status.error.Response.{Response}
-use Rattle.api_description.specs.Requests.{SlotsPass}
+use Rattle.api_description.specs.Requests.{SlotHasShortLengths, SlotsPass}
 use Rattle.api_description.specs.Responses.{json_line, error_definition, error_response}
 
 -- the descriptor of a content passes its checks
@@ -38,6 +39,17 @@ pub record ShapePasses (shape : HandlerShape) : Type 0 where
   pub slots : SlotsPass shape.table shape.slots
   pub content : ContentPasses shape.table shape.response.content
   pub error : ErrorPasses shape.table shape.error
+
+-- each length of the descriptor of a content is below 2^32
+abbrev pub ContentHasShortLengths : ContentShape → Type 0
+ContentHasShortLengths (JsonShape desc name) = HasShortLengths desc
+
+-- so is each length in the table of a shape and in all that is read in it
+pub record ShapeHasShortLengths (shape : HandlerShape) : Type 0 where
+  pub table : TableHasShortLengths shape.table
+  pub slots : All SlotHasShortLengths shape.slots
+  pub content : ContentHasShortLengths shape.response.content
+  pub error : IfSome shape.error (λ error. HasShortLengths error.desc)
 
 -- a content is of a shape
 abbrev pub ContentFits : List Definition → ContentShape → Content → Type 0

@@ -12,6 +12,7 @@ use Rattle.typed_values.specs.Denotes.{told, JsonDenotes}
 use Rattle.typed_values.specs.Faults.{Trouble, at_root, fault_of, fault_text}
 use Rattle.typed_values.specs.Fits.{Fits}
 use Rattle.typed_values.specs.Checks.{DescPasses}
+use Rattle.typed_values.specs.Lengths.{HasShortLengths}
 use Rattle.api_description.specs.declared.api_extract.slot.Slot.{Slot}
 use Rattle.api_description.specs.declared.api_extract.slot.Slot.TheVariants.{TypedBody}
 use Rattle.api_description.specs.declared.api_extract.slot.Arg.{Arg}
@@ -30,6 +31,10 @@ SlotPasses table (TypedBody desc name) = DescPasses table desc
 -- the descriptor of each slot passes its checks
 abbrev pub SlotsPass : List Definition → List Slot → Type 0
 SlotsPass table slots = All (SlotPasses table) slots
+
+-- each length of the descriptor of a slot is below 2^32
+abbrev pub SlotHasShortLengths : Slot → Type 0
+SlotHasShortLengths (TypedBody desc name) = HasShortLengths desc
 
 -- an argument is of a slot
 abbrev pub ArgFits : List Definition → Slot → Arg → Type 0

@@ -1,15 +1,18 @@
 //! When an endpoint may be registered.
-ghost use Rattle.std.specs.Prelude.{◌≡◌, ◌↔◌, ◌⊎◌, [], ◌∷◌, codes, IsTrue, IfOk, Some, None, MatchOption};
+ghost use Rattle.std.specs.Prelude.{◌≡◌, ◌↔◌, ◌⊎◌, [], ◌∷◌, codes, All, IsTrue, IfOk, IfSome, Some, None};
+ghost use Rattle.std.specs.Prelude.{MatchOption};
 ghost use Rattle.std.specs.Str.{chars};
 ghost use Rattle.typed_values.specs.Checks.{TablePasses};
 ghost use Rattle.typed_values.specs.Definitions.{entry_of};
+ghost use Rattle.typed_values.specs.Lengths.{HasShortLengths};
 ghost use Rattle.typed_values.specs.declared.desc.Desc.{Ref};
 ghost use Rattle.api_description.specs.Endpoints.{boxed};
 ghost use Rattle.api_description.specs.Registering.{IsBuilt, IsBuiltShape, IsFirstCause, MayRegister};
 ghost use Rattle.api_description.specs.Registering.{message_of};
 ghost use Rattle.api_description.specs.Registering.{begins_with_slash, path_bytes, path_message, reason_of};
 ghost use Rattle.api_description.specs.Replies.{ContentPasses, ErrorPasses, HasHttpErrors, ShapePasses};
-ghost use Rattle.api_description.specs.Requests.{SlotPasses, SlotsPass};
+ghost use Rattle.api_description.specs.Replies.{ContentHasShortLengths, ShapeHasShortLengths};
+ghost use Rattle.api_description.specs.Requests.{SlotHasShortLengths, SlotPasses, SlotsPass};
 ghost use Rattle.api_description.specs.Templates.{has_brace, is_template};
 ghost use Rattle.api_description.specs.declared.api_extract.slot.Slot.{Slot as SlotValue};
 
@@ -122,7 +125,8 @@ fn is_success_code(code: Option<StatusCode>) -> bool
 
 // Whether all descriptors of a shape pass their checks.
 fn passes(shape: &HandlerShape) -> bool
-    ensures { IsTrue result ↔ ShapePasses shape.now }
+    ensures pass { IsTrue result ↔ ShapePasses shape.now }
+    ensures lengths { IsTrue result → ShapeHasShortLengths shape.now }
 {
     check_table(&shape.table).is_ok()
         && slots_pass(&shape.table, shape.slots.as_slice())
@@ -132,7 +136,8 @@ fn passes(shape: &HandlerShape) -> bool
 
 fn slots_pass(table: &DescTable, slots: &[Slot]) -> bool
     requires { TablePasses table.now }
-    ensures { IsTrue result ↔ SlotsPass table.now slots.now }
+    ensures pass { IsTrue result ↔ SlotsPass table.now slots.now }
+    ensures lengths { IsTrue result → All SlotHasShortLengths slots.now }
 {
     for slot in slots {
         if !slot_passes(table, slot) {
@@ -144,7 +149,8 @@ fn slots_pass(table: &DescTable, slots: &[Slot]) -> bool
 
 fn slot_passes(table: &DescTable, slot: &Slot) -> bool
     requires { TablePasses table.now }
-    ensures { IsTrue result ↔ SlotPasses table.now slot.now }
+    ensures pass { IsTrue result ↔ SlotPasses table.now slot.now }
+    ensures lengths { IsTrue result → SlotHasShortLengths slot.now }
 {
     match slot {
         Slot::TypedBody(desc, _) => check_desc(table, desc).is_ok(),
@@ -153,7 +159,8 @@ fn slot_passes(table: &DescTable, slot: &Slot) -> bool
 
 fn content_passes(table: &DescTable, content: &ContentShape) -> bool
     requires { TablePasses table.now }
-    ensures { IsTrue result ↔ ContentPasses table.now content.now }
+    ensures pass { IsTrue result ↔ ContentPasses table.now content.now }
+    ensures lengths { IsTrue result → ContentHasShortLengths content.now }
 {
     match content {
         ContentShape::Json(desc, _) => check_desc(table, desc).is_ok(),
@@ -162,7 +169,8 @@ fn content_passes(table: &DescTable, content: &ContentShape) -> bool
 
 fn error_passes(table: &DescTable, error: &Option<ApiEndpointErrorResponse>) -> bool
     requires { TablePasses table.now }
-    ensures { IsTrue result ↔ ErrorPasses table.now error.now }
+    ensures pass { IsTrue result ↔ ErrorPasses table.now error.now }
+    ensures lengths { IsTrue result → IfSome error.now (λ error. HasShortLengths error.desc) }
 {
     match error {
         Some(error) => check_desc(table, &error.desc).is_ok(),

@@ -1,8 +1,11 @@
 use Rattle.std.proofs.Common.{take}
 use Rattle.std.specs.Prelude.{All}
-use Rattle.api_description.specs.Requests.{SlotPasses}
+use Rattle.api_description.specs.Requests.{SlotHasShortLengths, SlotPasses}
 use Rattle.api_description.proofs.register.slots_pass.Given as goal
 
--- the slots so far pass
+-- the slots so far pass, and their lengths are short
 abbrev pub invariant-loop-slot : goal.invariant-loop-slot
-invariant-loop-slot l = All (SlotPasses l.table) (take l.slot-index l.slots)
+invariant-loop-slot l = record {
+  pass : All (SlotPasses l.table) (take l.slot-index l.slots);
+  lengths : All SlotHasShortLengths (take l.slot-index l.slots);
+}
