@@ -8,6 +8,7 @@ use Rattle.schema_values.specs.Member.{name_of}
 use Rattle.schema_values.specs.Sound.{IsSound, IsWhole, AreDistinct}
 use Rattle.schema_values.specs.SoundMembers.{HasSoundValue, HasSoundMembers}
 use Rattle.schema_values.proofs.Contained.{contains_first, contains_later}
+use Rattle.openapi_values.specs.SoundContents.{IsCount}
 use Rattle.typed_values.specs.declared.desc.Desc.{Desc, out-Desc}
 use Rattle.typed_values.specs.declared.desc.Desc.TheOpen.{Desc-F}
 use Rattle.typed_values.specs.declared.desc.Desc.TheViews.{out-roll-Desc, roll-Desc}
@@ -35,7 +36,7 @@ use Rattle.typed_values.proofs.ScalarsBack.{kind_whole}
 use Rattle.typed_values.proofs.Within.{stands_through}
 use Rattle.typed_values.proofs.WrittenBack.{read_back}
 use Rattle.written_schemas.proofs.KeyedMembers.{IsSoundlyDrawn, defaulted_sound, described_sound, drawn_sound, null_sound, titled_sound}
-use Rattle.written_schemas.proofs.SoundForms.{IsCount, any_sound, appended, character_sound, choice_sound, choices_sound, enumerated_sound, enumeration_sound, every_sound, length_is_count, list_sound, map_sound, null_alone_sound, number_sound, reference_sound, struct_sound, text_sound, truth_sound}
+use Rattle.written_schemas.proofs.SoundForms.{any_sound, appended, character_sound, choice_sound, choices_sound, enumerated_sound, enumeration_sound, every_sound, length_is_count, list_sound, map_sound, null_alone_sound, number_sound, reference_sound, struct_sound, text_sound, truth_sound}
 
 -- ---- bounds
 
