@@ -1,5 +1,5 @@
 -- The schema of each form of descriptor is sound, where those that it is made of are.
-use Rattle.std.proofs.Common.{◌≡◌, ℕ, ℤ, pos, ◌≤◌, Bool, true, false, nat_le, not, List, [], ◌∷◌, ◌++◌, map, filter, Option, Some, None, MatchOption, if◌then◌else◌, codes, refl, arith}
+use Rattle.std.proofs.Common.{◌≡◌, ℕ, ℤ, ◌≤◌, Bool, true, false, nat_le, not, List, [], ◌∷◌, ◌++◌, map, filter, Option, Some, None, MatchOption, if◌then◌else◌, codes, refl, arith}
 use Rattle.std.proofs.lemmas.Bool.Decides.{nat_tests}
 use Rattle.std.proofs.lemmas.Int.{ints}
 use Rattle.std.specs.List.{AllByRecursion, list_any, list_all}
