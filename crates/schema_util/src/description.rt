@@ -12,8 +12,8 @@ use schema_values::{Boxed, List, Member, Schema, SchemaObject, Subschemas, Text,
 use std::alloc::{AllocError, Global};
 
 /// The description of a schema, and the schema without it: the one member of an `all_of` that is the only
-/// part, or else the schema without title, description, default and the truth values of annotations. Copies
-/// that schema, and follows no reference. Fails only for want of memory.
+/// part, or else the schema without title, description and default, neither deprecated, read-only nor
+/// write-only. Copies that schema, and follows no reference. Fails only for want of memory.
 pub fn schema_extract_description(
     alloc: Global,
     schema: &Schema,

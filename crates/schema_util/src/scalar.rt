@@ -38,7 +38,7 @@ pub enum ScalarError<'a> {
     Cycle(&'a str),
 }
 
-/// What is asked of a type.
+/// What a type test asks for.
 #[derive(Clone, Copy)]
 enum Wanted {
     Scalar,
