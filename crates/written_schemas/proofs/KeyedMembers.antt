@@ -1,6 +1,6 @@
 -- The members of a schema object have distinct names.
 use Rattle.std.proofs.Common.{◌≡◌, ℕ, ℤ, pos, Bool, true, false, List, [], ◌∷◌, ◌++◌, map, Option, Some, None, MatchOption, codes, refl, sym, ◌∙◌, ap, subst}
-use Rattle.std.specs.List.{list_all}
+use Rattle.std.specs.List.{list_all, AllByRecursion}
 use Rattle.std.specs.Prelude.{⊤}
 use Rattle.std.proofs.lemmas.Bool.{and_parts}
 use Rattle.schema_values.specs.declared.json_value.Json.{Json, Bool as Truth, Int as Number, Text as Words, List as Items, Object}
@@ -12,7 +12,11 @@ use Rattle.schema_values.proofs.SoundLemmas.{IsSound-List, IsSound-Object}
 use Rattle.typed_values.specs.SchemaTable.{Drawn, Remarks, annotated, annotations, described, defaulted, drawn_json, if_count, if_denied, if_members, if_names, if_number, if_text, if_true, if_value}
 use Rattle.openapi_values.specs.SoundContents.{IsCount}
 use Rattle.openapi_values.proofs.Keyed.{IsKeyed, is_new, none_keyed, passed, put}
-use Rattle.openapi_values.proofs.SoundObjects.{each_text}
+
+-- texts are sound
+pub texts_sound : (texts : List (List ℕ)) → AllByRecursion IsSound (map Words texts)
+texts_sound [] = tt
+texts_sound (text ∷ texts) = (tt, texts_sound texts)
 
 -- ---- members that stand only where there is something to say
 
@@ -43,7 +47,7 @@ module _ (name : List ℕ) (names : List (List ℕ)) (ms : List Member) (new : i
 
   pub names_keyed : (texts : List (List ℕ)) → IsKeyed (name ∷ names) (if_names texts name ms)
   names_keyed [] = passed name names ms h
-  names_keyed (text ∷ texts) = put name (Items (map Words (text ∷ texts))) names ms new ((IsSound-List (map Words (text ∷ texts))).1 (each_text (text ∷ texts))) h
+  names_keyed (text ∷ texts) = put name (Items (map Words (text ∷ texts))) names ms new ((IsSound-List (map Words (text ∷ texts))).1 (texts_sound (text ∷ texts))) h
 
 pub denied_keyed : (deny : Bool) → IsKeyed (codes "additionalProperties" ∷ []) (if_denied deny)
 denied_keyed true = put (codes "additionalProperties") (Truth false) [] [] refl tt (none_keyed [])

@@ -21,8 +21,7 @@ use Rattle.typed_values.specs.Definitions.{listed_name}
 use Rattle.typed_values.proofs.Ordered.{sorted_ascends}
 use Rattle.openapi_values.specs.SoundContents.{IsCount}
 use Rattle.openapi_values.proofs.Keyed.{IsKeyed, is_new, none_keyed, put}
-use Rattle.openapi_values.proofs.SoundObjects.{each_text}
-use Rattle.written_schemas.proofs.KeyedMembers.{IsSoundlyDrawn, notes, count_keyed, denied_keyed, described_sound, drawn_sound, members_keyed, names_keyed, number_keyed, text_keyed}
+use Rattle.written_schemas.proofs.KeyedMembers.{IsSoundlyDrawn, notes, count_keyed, denied_keyed, described_sound, drawn_sound, members_keyed, names_keyed, number_keyed, text_keyed, texts_sound}
 
 -- in order, members are as sound
 pub sorted_sound : (ms : List Member) → HasSoundMembers ms → HasSoundMembers (sorted_by name_of ms)
@@ -102,7 +101,7 @@ enumerated_sound [] = every_sound_nothing
   where
     every_sound_nothing : IsSoundlyDrawn (enumerated [])
     every_sound_nothing = one_sound (codes "not") (Object []) refl ((IsSound-Object []).1 (tt, tt))
-enumerated_sound (name ∷ names) = of_type_sound (codes "string") (codes "enum" ∷ []) _ refl refl (enum_keyed (map Words (name ∷ names)) (each_text (name ∷ names)))
+enumerated_sound (name ∷ names) = of_type_sound (codes "string") (codes "enum" ∷ []) _ refl refl (enum_keyed (map Words (name ∷ names)) (texts_sound (name ∷ names)))
 
 pub appended : {X : Type 0} (P : X → Type 0) (xs ys : List X) → AllByRecursion P xs → AllByRecursion P ys → AllByRecursion P (xs ++ ys)
 appended P [] ys h k = k
