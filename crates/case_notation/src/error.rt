@@ -1,0 +1,40 @@
+//! Why a line is not answered.
+use schema_values::Text;
+use std::alloc::{AllocError, AllocFailed, Global};
+
+/// Why a line is not answered.
+#[derive(Drop)]
+pub enum CaseError {
+    /// The line says something else where this is expected.
+    Expected(&'static str),
+    /// The table or the descriptor fails its check, and this is told of it.
+    Flawed(&'static str),
+    /// There was not enough memory.
+    OutOfMemory,
+}
+
+impl From<AllocError> for CaseError {
+    fn from(_: AllocError) -> CaseError {
+        CaseError::OutOfMemory
+    }
+}
+
+impl<T: Drop> From<AllocFailed<T>> for CaseError {
+    fn from(_: AllocFailed<T>) -> CaseError {
+        CaseError::OutOfMemory
+    }
+}
+
+impl CaseError {
+    /// The line that tells it.
+    pub fn text(&self, alloc: Global) -> Result<Text, AllocError> {
+        let (opening, rest) = match self {
+            CaseError::Expected(what) => ("? expected ", *what),
+            CaseError::Flawed(flaw) => ("? flawed: ", *flaw),
+            CaseError::OutOfMemory => return Err(AllocError),
+        };
+        let mut text = Text::from_str(alloc, opening)?;
+        text.push_str(rest)?;
+        Ok(text)
+    }
+}

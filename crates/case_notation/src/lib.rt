@@ -1,0 +1,20 @@
+//! How the case programs note descriptors, trees and values, and how they answer lines.
+#![tactic(auto)]
+
+mod descs;
+mod error;
+mod lines;
+mod made;
+mod parts;
+mod tables;
+mod trees;
+mod written_trees;
+
+pub use descs::desc_of;
+pub use error::CaseError;
+pub use lines::{AnswersCases, reply};
+pub use made::made_of;
+pub use parts::{given, items_of, maybe_text, number_of, text_of};
+pub use tables::{define, definition_of, table_of};
+pub use trees::tree_of;
+pub use written_trees::{form, tree_noted};
