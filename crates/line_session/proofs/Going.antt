@@ -9,7 +9,7 @@ use Rattle.line_session.specs.Lines.{Fits, end_line, ended, all_lines}
 use Rattle.line_session.specs.Reading.{Reading, Handles}
 use Rattle.line_session.specs.NextLine.{IsOpen}
 use Rattle.line_session.specs.Parts.{AppendsPart}
-use Rattle.line_session.specs.Session.{Session, CutSession, HasRead, HasWritten, HasWrittenPart, IsDone, IsStopped, IsCut, MakesTooLong, MakesTooMuch, Replied, PartReplied}
+use Rattle.line_session.specs.Session.{Session, CutSession, HasRead, HasWritten, HasWrittenPart, IsDone, IsStopped, IsCut, NoRest, MakesTooLong, MakesTooMuch, Replied, PartReplied}
 use Rattle.line_session.specs.Status.{IsServed, status_of}
 use Rattle.line_session.specs.declared.serving.SessionEnd.{SessionEnd}
 use Rattle.line_session.specs.declared.outside.SinkError.{SinkError}
@@ -274,6 +274,19 @@ module _ {X : Type 0} (Answers : X → List ℕ → List ℕ → X → Type 0) (
     wrote = subst (λ (ls : List (List ℕ)). HasWritten Answers front t v old ls new) (sym (all_lines-last p.lines line n)) (HasWritten-more t u v old mid new p.lines line p.wrote r);
   }
 
+  -- the last line had a newline, and nothing came behind it
+  pub done-ended : (most longest : ℕ) (x y z t u : Option (List ℕ)) (old new : X) (a b : Reading) (line : List ℕ)
+      → Going most longest x y t u old new a → IsOpen longest a b y z line × (b.pending ≡ []) × IsAtEnd z → line ≡ []
+      → IsDone Answers front most longest x z t u old new
+  done-ended most longest x y z t u old new a b line p q e = record {
+    lines = p.lines;
+    tail = [];
+    read = subst (λ (l : List ℕ). HasRead most longest x z p.lines l []) e
+        (subst (HasRead most longest x z p.lines line) q.1 (HasRead-open most longest x y z p.lines a b line p.has q.0));
+    finished = q.2;
+    wrote = p.wrote;
+  }
+
   -- its reply was cut short
   pub cut-last : (most longest : ℕ) (x y z t u v : Option (List ℕ)) (old mid new : X) (a b : Reading) (line : List ℕ)
       → Going most longest x y t u old mid a → IsOpen longest a b y z line × (b.pending ≡ []) × IsAtEnd z → 0 < length line → PartReplied Answers u v mid line new
@@ -306,6 +319,19 @@ module _ {X : Type 0} (Answers : X → List ℕ → List ℕ → X → Type 0) (
     read = HasRead-unlooked most longest x y z p.lines a b q.0 p.has q.1.handled;
     whole = inl refl;
     wrote = HasWrittenPart-whole t u old new p.lines p.wrote;
+  }
+
+  -- the source failed
+  pub stopped-fault : (most longest : ℕ) (x y z t u : Option (List ℕ)) (old new : X) (a b : Reading)
+      → Going most longest x y t u old new a → (line : List ℕ) × IsOpen longest a b y z line × (b.pending ≡ [])
+      → IsStopped Answers front most longest x z t u old new NoRest
+  stopped-fault most longest x y z t u old new a b p q = record {
+    lines = p.lines;
+    tail = q.0;
+    rest = b.pending;
+    read = HasRead-open most longest x y z p.lines a b q.0 p.has q.1;
+    wrote = p.wrote;
+    cause = q.2;
   }
 
   pub stopped-long : (most longest : ℕ) (x y z t u : Option (List ℕ)) (old new : X) (a b : Reading)

@@ -1,5 +1,6 @@
 pub mod Pieces
 pub mod Handling
+pub mod Ends
 pub mod Going
 pub mod LineLemmas
 pub mod Limits

@@ -6,8 +6,6 @@ mod line_reader;
 mod memory;
 mod outside;
 mod serving;
-#[cfg(test)]
-mod tests;
 mod writing;
 
 pub use adapters::{StdSink, StdSource};

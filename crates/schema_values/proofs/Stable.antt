@@ -1,6 +1,6 @@
 -- What a stable sort by names leaves is the list in the order of its names.
 use Rattle.std.proofs.Common.{◌≡◌, ℕ, zero, suc, ◌+◌, ◌<◌, ◌≤◌, Bool, true, false, ◌&&◌, not, List, [], ◌∷◌, ◌++◌, length, get_or, drop, filter, fold, cond, refl, sym, ◌∙◌, ap, ap₂, subst, Less, Equal, Greater, nat_cmp, is_lt, arith, inl, inr}
-use Rattle.std.proofs.lemmas.Bool.{cases_Bool, cond-true, cond-false, and_parts}
+use Rattle.std.proofs.lemmas.Bool.{cases_Bool, cond-true, cond-false, and_parts, not-true}
 use Rattle.std.proofs.lemmas.Cmp.{nat_list_cmp_total, tied_itself}
 use Rattle.std.proofs.lemmas.List.{append_assoc, append-nil, drop_more}
 use Rattle.std.proofs.lemmas.List.Elements.{filter-append}
@@ -148,12 +148,8 @@ module _ {X : Type 0} (key : X → List ℕ) where
   tied_both : (x y : X) → less x y ≡ false → less y x ≡ false → tied x y ≡ true
   tied_both x y low high = ap₂ (λ (a b : Bool). not a && not b) low high
 
-  not_is : (b : Bool) → not b ≡ true → b ≡ false
-  not_is true h = absurd (cc h)
-  not_is false h = refl
-
   tied_parts : (x y : X) → tied x y ≡ true → (less x y ≡ false) × (less y x ≡ false)
-  tied_parts x y h = let parts = and_parts (not (less x y)) (not (less y x)) h in (not_is (less x y) parts.0, not_is (less y x) parts.1)
+  tied_parts x y h = let parts = and_parts (not (less x y)) (not (less y x)) h in (not-true (less x y) parts.0, not-true (less y x) parts.1)
 
   one_tied : (t x y : X) → tied t x ≡ true → less x y ≡ true → tied t y ≡ false
   one_tied t x y h low = elim (cases_Bool (tied t y)) [

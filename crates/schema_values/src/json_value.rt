@@ -12,7 +12,7 @@ use crate::text::Text;
 #[derive(Drop)]
 #[cycle(json)]
 pub enum Json {
-    /// The value without content.
+    /// The literal `null`, written where there is no value.
     Null,
     /// A truth value.
     Bool(bool),

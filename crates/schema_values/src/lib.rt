@@ -7,6 +7,7 @@ mod equal;
 mod get;
 mod json_value;
 mod laws;
+mod leaf_copy;
 mod list;
 mod order;
 mod pretty;
@@ -14,8 +15,6 @@ mod print;
 mod read;
 mod schema;
 mod schema_copy;
-#[cfg(test)]
-mod tests;
 mod text;
 mod value;
 mod variables;
@@ -26,6 +25,7 @@ pub use laws::{
     bytes_in_order, compact_reads_back, in_order_stays, pretty_reads_back, reads_ascending,
     reads_nested, reads_sound, same_decides, sorted_ascends, sound_decides,
 };
+pub use leaf_copy::copy_text;
 pub use list::List;
 pub use order::{HasName, in_order, sort_by_name};
 pub use read::ReadError;
@@ -33,7 +33,6 @@ pub use schema::{
     ArrayParts, Definitions, InstanceType, InstanceTypes, Items, LengthBounds, NumberBounds,
     ObjectParts, Property, Schema, SchemaObject, Subschemas,
 };
-pub use schema_copy::copy_text;
 pub use text::Text;
 pub use value::ValueError;
 pub use variables::{VariableSet, VariableValue, copy_variables};

@@ -1,13 +1,10 @@
 ghost use Rattle.std.specs.Prelude.{◌≡◌, IfOk};
+ghost use Rattle.schema_values.specs.declared.schema.SchemaObject.{out-SchemaObject};
 
 use crate::boxed::Boxed;
-use crate::copy::copy_members;
-use crate::json_value::Json;
+use crate::leaf_copy::{copy_annotations, copy_text, copy_texts, copy_value_parts};
 use crate::list::List;
-use crate::schema::{
-    ArrayParts, InstanceType, InstanceTypes, Items, LengthBounds, NumberBounds, ObjectParts,
-    Property, Schema, SchemaObject, Subschemas,
-};
+use crate::schema::{ArrayParts, Items, ObjectParts, Property, Schema, SchemaObject, Subschemas};
 use crate::text::Text;
 use std::alloc::{AllocError, Global};
 
@@ -33,41 +30,70 @@ impl SchemaObject {
     pub fn copy(&self, alloc: Global) -> Result<SchemaObject, AllocError>
         ensures { IfOk result (λ copy. copy ≡ self.now) }
     {
-        Ok(SchemaObject {
-            title: copy_text(alloc, &self.title)?,
-            description: copy_text(alloc, &self.description)?,
-            default: copy_value(alloc, &self.default)?,
-            deprecated: self.deprecated,
-            read_only: self.read_only,
-            write_only: self.write_only,
-            nullable: self.nullable,
-            instance_type: copy_types(alloc, &self.instance_type)?,
-            format: copy_text(alloc, &self.format)?,
-            enum_values: copy_values(alloc, &self.enum_values)?,
-            const_value: copy_value(alloc, &self.const_value)?,
-            subschemas: copy_subschemas(alloc, &self.subschemas)?,
-            number: copy_numbers(alloc, &self.number)?,
-            string: copy_lengths(alloc, &self.string)?,
-            array: copy_array(alloc, &self.array)?,
-            object: copy_object(alloc, &self.object)?,
-            reference: copy_text(alloc, &self.reference)?,
-            extensions: copy_members(alloc, self.extensions.as_slice())?,
-        })
+        let schemas = copy_schema_parts(alloc, self)?;
+        copy_around(alloc, self, schemas)
     }
 }
 
-impl InstanceTypes {
-    /// Types equal to these.
-    pub fn copy(&self, alloc: Global) -> Result<InstanceTypes, AllocError>
-        ensures { IfOk result (λ copy. copy ≡ self.now) }
-    {
-        match self {
-            InstanceTypes::Single(single) => Ok(InstanceTypes::Single(*single)),
-            InstanceTypes::Several(several) => {
-                Ok(InstanceTypes::Several(copy_kinds(alloc, several.as_slice())?))
-            }
-        }
-    }
+// The copy of a schema object, from the copies of its parts that have schemas within them.
+fn copy_around(
+    alloc: Global,
+    object: &SchemaObject,
+    schemas: SchemaParts,
+) -> Result<SchemaObject, AllocError>
+    requires reference { schemas.reference ≡ (out-SchemaObject object.now).reference }
+    requires array { schemas.array ≡ (out-SchemaObject object.now).array }
+    requires object { schemas.object ≡ (out-SchemaObject object.now).object }
+    requires subschemas { schemas.subschemas ≡ (out-SchemaObject object.now).subschemas }
+    ensures { IfOk result (λ copy. copy ≡ object.now) }
+{
+    let annotations = copy_annotations(alloc, object)?;
+    let values = copy_value_parts(alloc, object)?;
+    Ok(SchemaObject {
+        title: annotations.title,
+        description: annotations.description,
+        default: annotations.default,
+        deprecated: object.deprecated,
+        read_only: object.read_only,
+        write_only: object.write_only,
+        nullable: object.nullable,
+        instance_type: values.instance_type,
+        format: values.format,
+        enum_values: values.enum_values,
+        const_value: values.const_value,
+        subschemas: schemas.subschemas,
+        number: values.number,
+        string: values.string,
+        array: schemas.array,
+        object: schemas.object,
+        reference: schemas.reference,
+        extensions: annotations.extensions,
+    })
+}
+
+// The parts of a schema object that have schemas within them, or name one.
+#[derive(Drop)]
+struct SchemaParts {
+    reference: Option<Text>,
+    array: Option<ArrayParts>,
+    object: Option<ObjectParts>,
+    subschemas: Option<Subschemas>,
+}
+
+#[cycle(schema_copy)]
+fn copy_schema_parts(alloc: Global, object: &SchemaObject) -> Result<SchemaParts, AllocError>
+    ensures reference { IfOk result (λ copy. copy.reference ≡ (out-SchemaObject object.now).reference) }
+    ensures array { IfOk result (λ copy. copy.array ≡ (out-SchemaObject object.now).array) }
+    ensures object { IfOk result (λ copy. copy.object ≡ (out-SchemaObject object.now).object) }
+    ensures subschemas { IfOk result (λ copy. copy.subschemas
+        ≡ (out-SchemaObject object.now).subschemas) }
+{
+    Ok(SchemaParts {
+        reference: copy_text(alloc, &object.reference)?,
+        array: copy_array(alloc, &object.array)?,
+        object: copy_object(alloc, &object.object)?,
+        subschemas: copy_subschemas(alloc, &object.subschemas)?,
+    })
 }
 
 impl Subschemas {
@@ -81,32 +107,6 @@ impl Subschemas {
             any_of: copy_schemas(alloc, &self.any_of)?,
             one_of: copy_schemas(alloc, &self.one_of)?,
             not: copy_schema(alloc, &self.not)?,
-        })
-    }
-}
-
-impl NumberBounds {
-    /// Bounds equal to these.
-    pub fn copy(&self, _alloc: Global) -> Result<NumberBounds, AllocError>
-        ensures { IfOk result (λ copy. copy ≡ self.now) }
-    {
-        Ok(NumberBounds {
-            minimum: self.minimum,
-            exclusive_minimum: self.exclusive_minimum,
-            maximum: self.maximum,
-            exclusive_maximum: self.exclusive_maximum,
-        })
-    }
-}
-
-impl LengthBounds {
-    /// Bounds equal to these.
-    pub fn copy(&self, _alloc: Global) -> Result<LengthBounds, AllocError>
-        ensures { IfOk result (λ copy. copy ≡ self.now) }
-    {
-        Ok(LengthBounds {
-            min: self.min,
-            max: self.max,
         })
     }
 }
@@ -164,90 +164,6 @@ impl Property {
             name: self.name.copy(alloc)?,
             schema: self.schema.copy(alloc)?,
         })
-    }
-}
-
-/// A text equal to another, where there is one.
-pub fn copy_text(alloc: Global, text: &Option<Text>) -> Result<Option<Text>, AllocError>
-    ensures { IfOk result (λ copy. copy ≡ text.now) }
-{
-    match text {
-        None => Ok(None),
-        Some(text) => Ok(Some(text.copy(alloc)?)),
-    }
-}
-
-pub(crate) fn copy_texts(alloc: Global, texts: &[Text]) -> Result<List<Text>, AllocError>
-    ensures { IfOk result (λ copies. copies ≡ texts.now) }
-{
-    let mut copies = List::new(alloc);
-    for text in texts {
-        copies.push(text.copy(alloc)?)?;
-    }
-    Ok(copies)
-}
-
-fn copy_kinds(alloc: Global, kinds: &[InstanceType]) -> Result<List<InstanceType>, AllocError>
-    ensures { IfOk result (λ copies. copies ≡ kinds.now) }
-{
-    let mut copies = List::new(alloc);
-    for kind in kinds {
-        copies.push(*kind)?;
-    }
-    Ok(copies)
-}
-
-fn copy_value(alloc: Global, value: &Option<Json>) -> Result<Option<Json>, AllocError>
-    ensures { IfOk result (λ copy. copy ≡ value.now) }
-{
-    match value {
-        None => Ok(None),
-        Some(value) => Ok(Some(value.copy(alloc)?)),
-    }
-}
-
-fn copy_values(alloc: Global, values: &Option<List<Json>>) -> Result<Option<List<Json>>, AllocError>
-    ensures { IfOk result (λ copy. copy ≡ values.now) }
-{
-    match values {
-        None => Ok(None),
-        Some(values) => Ok(Some(values.copy(alloc)?)),
-    }
-}
-
-fn copy_types(
-    alloc: Global,
-    types: &Option<InstanceTypes>,
-) -> Result<Option<InstanceTypes>, AllocError>
-    ensures { IfOk result (λ copy. copy ≡ types.now) }
-{
-    match types {
-        None => Ok(None),
-        Some(types) => Ok(Some(types.copy(alloc)?)),
-    }
-}
-
-fn copy_numbers(
-    alloc: Global,
-    bounds: &Option<NumberBounds>,
-) -> Result<Option<NumberBounds>, AllocError>
-    ensures { IfOk result (λ copy. copy ≡ bounds.now) }
-{
-    match bounds {
-        None => Ok(None),
-        Some(bounds) => Ok(Some(bounds.copy(alloc)?)),
-    }
-}
-
-fn copy_lengths(
-    alloc: Global,
-    bounds: &Option<LengthBounds>,
-) -> Result<Option<LengthBounds>, AllocError>
-    ensures { IfOk result (λ copy. copy ≡ bounds.now) }
-{
-    match bounds {
-        None => Ok(None),
-        Some(bounds) => Ok(Some(bounds.copy(alloc)?)),
     }
 }
 

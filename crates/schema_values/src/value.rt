@@ -1,4 +1,4 @@
-ghost use Rattle.std.specs.Prelude.{◌≡◌, IfOk, IfErr, IfSome, None, Some, [], map};
+ghost use Rattle.std.specs.Prelude.{◌≡◌, IfOk, IfErr, IfSome, None, Some, [], map, option_map};
 ghost use Rattle.std.specs.List.{AllByRecursion};
 ghost use Rattle.schema_values.specs.Ascending.{IsAscending};
 ghost use Rattle.schema_values.specs.AscendingMembers.{HasAscendingMembers};
@@ -7,6 +7,7 @@ ghost use Rattle.schema_values.specs.SoundMembers.{HasSoundMembers, HasSoundValu
 ghost use Rattle.schema_values.specs.SortedMembers.{in_order_after, sorted_member, sorted_members};
 ghost use Rattle.serde_json.specs.View.{view, number_view, items_view, members_view};
 ghost use Rattle.schema_values.specs.Reading.{json_of, items_of, members_of, whole_of};
+ghost use Rattle.schema_values.specs.declared.json_value.Json.{Int};
 
 use crate::json_value::{Json, Member};
 use crate::list::List;
@@ -40,7 +41,8 @@ impl From<AllocError> for ValueError {
 impl Json {
     /// The same value, with the members of each object in ascending order of names.
     ///
-    /// `HoldsFloat` exactly where it holds a number that is no integer of 64 bits.
+    /// `HoldsFloat` exactly where it holds a number that is no integer of 64 bits, but for want of
+    /// memory.
     #[cycle(of_value)]
     pub fn of_value(alloc: Global, value: &Value) -> Result<Json, ValueError>
         ensures ok { IfOk result (λ json. json_of (view value.now) ≡ Some json) }
@@ -51,10 +53,7 @@ impl Json {
         match value {
             Value::Null => Ok(Json::Null),
             Value::Bool(truth) => Ok(Json::Bool(*truth)),
-            Value::Number(number) => match whole_number(number) {
-                Some(whole) => Ok(Json::Int(whole)),
-                None => Err(ValueError::HoldsFloat),
-            },
+            Value::Number(number) => int_of_number(number),
             Value::String(text) => Ok(Json::Text(Text::from_str(alloc, text.as_str())?)),
             Value::Array(values) => Ok(Json::List(items_of_values(alloc, values)?)),
             Value::Object(members) => Ok(Json::Object(members_of_map(alloc, members)?)),
@@ -111,6 +110,18 @@ fn members_of_map(alloc: Global, map: &Map<String, Value>) -> Result<List<Member
         members.push(Member { name, value })?;
     }
     Ok(members)
+}
+
+fn int_of_number(number: &Number) -> Result<Json, ValueError>
+    ensures ok { IfOk result (λ json. option_map Int (whole_of (number_view number.now)) ≡ Some json) }
+    ensures sound { IfOk result (λ json. IsSound json) }
+    ensures ascending { IfOk result (λ json. IsAscending json) }
+    ensures err { IfErr result (λ _. whole_of (number_view number.now) ≡ None) }
+{
+    match whole_number(number) {
+        Some(whole) => Ok(Json::Int(whole)),
+        None => Err(ValueError::HoldsFloat),
+    }
 }
 
 fn whole_number(number: &Number) -> Option<i128>

@@ -1,7 +1,7 @@
 ghost use Rattle.std.specs.Prelude.{◌≡◌, IfOk};
 
+use crate::leaf_copy::copy_texts;
 use crate::list::List;
-use crate::schema_copy::copy_texts;
 use crate::text::Text;
 use std::alloc::{AllocError, Global};
 use std::collections::BTreeMap;

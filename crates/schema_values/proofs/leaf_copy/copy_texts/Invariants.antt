@@ -1,5 +1,5 @@
 use Rattle.std.proofs.Common.{◌≡◌, take}
-use Rattle.schema_values.proofs.schema_copy.copy_texts.Given as goal
+use Rattle.schema_values.proofs.leaf_copy.copy_texts.Given as goal
 
 abbrev pub invariant-loop-text : goal.invariant-loop-text
 invariant-loop-text l = l.copies ≡ take l.text-index l.texts
