@@ -69,12 +69,17 @@ impl Part for OpenApi {
     }
 
     fn copy(&self, alloc: Global) -> Result<OpenApi, AllocError> {
+        let openapi = self.openapi.copy(alloc)?;
+        let paths = copy_map(alloc, &self.paths)?;
+        let tags = copy_list(alloc, &self.tags)?;
+        let components = self.components.copy(alloc)?;
+        let info = self.info.copy(alloc)?;
         Ok(OpenApi {
-            openapi: self.openapi.copy(alloc)?,
-            info: self.info.copy(alloc)?,
-            paths: copy_map(alloc, &self.paths)?,
-            components: self.components.copy(alloc)?,
-            tags: copy_list(alloc, &self.tags)?,
+            openapi,
+            info,
+            paths,
+            components,
+            tags,
         })
     }
 }

@@ -62,13 +62,19 @@ impl Part for Info {
     }
 
     fn copy(&self, alloc: Global) -> Result<Info, AllocError> {
+        let title = self.title.copy(alloc)?;
+        let version = self.version.copy(alloc)?;
+        let description = copy_option(alloc, &self.description)?;
+        let terms_of_service = copy_option(alloc, &self.terms_of_service)?;
+        let license = copy_option(alloc, &self.license)?;
+        let contact = copy_option(alloc, &self.contact)?;
         Ok(Info {
-            title: self.title.copy(alloc)?,
-            description: copy_option(alloc, &self.description)?,
-            terms_of_service: copy_option(alloc, &self.terms_of_service)?,
-            contact: copy_option(alloc, &self.contact)?,
-            license: copy_option(alloc, &self.license)?,
-            version: self.version.copy(alloc)?,
+            title,
+            description,
+            terms_of_service,
+            contact,
+            license,
+            version,
         })
     }
 }

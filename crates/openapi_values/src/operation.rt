@@ -79,16 +79,23 @@ impl Part for Operation {
     }
 
     fn copy(&self, alloc: Global) -> Result<Operation, AllocError> {
+        let tags = copy_list(alloc, &self.tags)?;
+        let operation_id = self.operation_id.copy(alloc)?;
+        let parameters = copy_list(alloc, &self.parameters)?;
+        let request_body = copy_option(alloc, &self.request_body)?;
+        let responses = copy_map(alloc, &self.responses)?;
+        let pagination = copy_names(alloc, &self.pagination)?;
+        let (summary, description) = copy_pair(alloc, &self.summary, &self.description)?;
         Ok(Operation {
-            tags: copy_list(alloc, &self.tags)?,
-            summary: copy_option(alloc, &self.summary)?,
-            description: copy_option(alloc, &self.description)?,
-            operation_id: self.operation_id.copy(alloc)?,
-            parameters: copy_list(alloc, &self.parameters)?,
-            request_body: copy_option(alloc, &self.request_body)?,
-            responses: copy_map(alloc, &self.responses)?,
+            tags,
+            summary,
+            description,
+            operation_id,
+            parameters,
+            request_body,
+            responses,
             deprecated: self.deprecated,
-            pagination: copy_names(alloc, &self.pagination)?,
+            pagination,
         })
     }
 }
@@ -134,15 +141,32 @@ impl Part for PathItem {
     }
 
     fn copy(&self, alloc: Global) -> Result<PathItem, AllocError> {
+        let (get, put) = copy_pair(alloc, &self.get, &self.put)?;
+        let (post, delete) = copy_pair(alloc, &self.post, &self.delete)?;
+        let (options, head) = copy_pair(alloc, &self.options, &self.head)?;
+        let (patch, trace) = copy_pair(alloc, &self.patch, &self.trace)?;
         Ok(PathItem {
-            get: copy_option(alloc, &self.get)?,
-            put: copy_option(alloc, &self.put)?,
-            post: copy_option(alloc, &self.post)?,
-            delete: copy_option(alloc, &self.delete)?,
-            options: copy_option(alloc, &self.options)?,
-            head: copy_option(alloc, &self.head)?,
-            patch: copy_option(alloc, &self.patch)?,
-            trace: copy_option(alloc, &self.trace)?,
+            get,
+            put,
+            post,
+            delete,
+            options,
+            head,
+            patch,
+            trace,
         })
     }
+}
+
+/// Copies of two parts.
+fn copy_pair<T: Part + Drop>(
+    alloc: Global,
+    first: &Option<T>,
+    second: &Option<T>,
+) -> Result<(Option<T>, Option<T>), AllocError>
+    ensures { IfOk result (λ copies. copies ≡ (first.now, second.now)) }
+{
+    let first = copy_option(alloc, first)?;
+    let second = copy_option(alloc, second)?;
+    Ok((first, second))
 }
