@@ -2,7 +2,7 @@ use openapi_values::{
     Components, Info, MediaType, OpenApi, Operation, Part, PathItem, RequestBody, ResponseObject,
     json_admits,
 };
-use schema_values::{Json, List, Member, ReadError, Text};
+use schema_values::{Boxed, Json, List, Member, ReadError, Text};
 use std::alloc::{AllocError, Global};
 use std::test::Fail;
 
@@ -282,17 +282,17 @@ fn taking(alloc: Global, schema: Json) -> Result<Operation, AllocError> {
     })
 }
 
-fn post(operation: Operation) -> PathItem {
-    PathItem {
+fn post(alloc: Global, operation: Operation) -> Result<PathItem, AllocError> {
+    Ok(PathItem {
         get: None,
         put: None,
-        post: Some(operation),
+        post: Some(Boxed::new(alloc, operation)?),
         delete: None,
         options: None,
         head: None,
         patch: None,
         trace: None,
-    }
+    })
 }
 
 fn components(alloc: Global, schema: &Json) -> Result<Components, AllocError> {
@@ -302,7 +302,8 @@ fn components(alloc: Global, schema: &Json) -> Result<Components, AllocError> {
 }
 
 fn document(alloc: Global, schema: &Json) -> Result<OpenApi, AllocError> {
-    let paths = under(alloc, "/points", post(taking(alloc, schema.copy(alloc)?)?))?;
+    let operation = taking(alloc, schema.copy(alloc)?)?;
+    let paths = under(alloc, "/points", post(alloc, operation)?)?;
     let components = components(alloc, schema)?;
     let title = text(alloc, "sample")?;
     let version = text(alloc, "1.0.0")?;

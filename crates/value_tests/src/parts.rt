@@ -3,7 +3,7 @@ use openapi_values::{
     Components, Contact, ExternalDocs, HeaderObject, Info, License, OpenApi, Operation, Parameter,
     Part, PathItem, RequestBody, ResponseObject, TagObject,
 };
-use schema_values::{Json, List, Text};
+use schema_values::{Boxed, Json, List, Text};
 use std::alloc::{AllocError, Global};
 use std::test::Fail;
 
@@ -114,31 +114,22 @@ fn paged(alloc: Global) -> Result<Operation, AllocError> {
     Ok(operation)
 }
 
-fn two(
-    alloc: Global,
-    first: &str,
-    second: &str,
-) -> Result<(Option<Operation>, Option<Operation>), AllocError> {
-    let first = bare(alloc, first)?;
-    let second = bare(alloc, second)?;
-    Ok((Some(first), Some(second)))
+fn boxed(alloc: Global, id: &str) -> Result<Option<Boxed<Operation>>, AllocError> {
+    let operation = bare(alloc, id)?;
+    Ok(Some(Boxed::new(alloc, operation)?))
 }
 
 /// An operation of each method, whose ids are numbers.
 fn path(alloc: Global) -> Result<PathItem, AllocError> {
-    let (get, put) = two(alloc, "1", "2")?;
-    let (post, delete) = two(alloc, "3", "4")?;
-    let (options, head) = two(alloc, "5", "6")?;
-    let (patch, trace) = two(alloc, "7", "8")?;
     Ok(PathItem {
-        get,
-        put,
-        post,
-        delete,
-        options,
-        head,
-        patch,
-        trace,
+        get: boxed(alloc, "1")?,
+        put: boxed(alloc, "2")?,
+        post: boxed(alloc, "3")?,
+        delete: boxed(alloc, "4")?,
+        options: boxed(alloc, "5")?,
+        head: boxed(alloc, "6")?,
+        patch: boxed(alloc, "7")?,
+        trace: boxed(alloc, "8")?,
     })
 }
 
