@@ -180,12 +180,10 @@ impl Decoder<'_> {
         ensures { Tells result
             (told_entry self.now.table.now self.now.whole.now value.now member.now) }
     {
+        let key = member.name.copy(alloc)?;
         match self.decode_at(alloc, value, &member.value) {
-            Ok(value) => Ok(Pair {
-                key: member.name.copy(alloc)?,
-                value,
-            }),
-            Err(stop) => Err(stop.below(Place::Name(member.name.copy(alloc)?))),
+            Ok(value) => Ok(Pair { key, value }),
+            Err(stop) => Err(stop.below(Place::Name(key))),
         }
     }
 
@@ -227,6 +225,7 @@ impl Decoder<'_> {
         let tree = self.decode_fields(alloc, fields, &members)?;
         match members.denied_name(alloc, deny_unknown, fields)? {
             Some(name) => {
+                drop(tree);
                 let unknown = FaultKind::Unknown(name.copy(alloc)?);
                 Err(Stop::refused(alloc, unknown))
             }

@@ -36,40 +36,40 @@ lent refs = map (λ member. member.now) refs
 pub decode_at-decode_option-requires : goal.decode_at-decode_option-requires
 decode_at-decode_option-requires t c =
     let d = c.args.desc.now in
-    let less = option-lt c.args.self.now.table.now c.args.self.now.whole.now (size-Json c.args.json.now) d (c.args.self.now.sound d c.requires) c.in-Option.inner c.in-Option.is in
+    let less = option-lt c.args.self.now.table.now c.args.self.now.whole.now (size-Json c.args.json.now) d (c.args.self.now.all_rest d c.requires) c.in-Option.inner c.in-Option.is in
     let part = part_of_option c.requires c.in-Option.inner c.in-Option.is in
     rw c.get.ensures (omega (arith, c.decreases, less), part)
 
 pub decode_at-returns-in-Option : goal.decode_at-returns-in-Option
-decode_at-returns-in-Option t c = rw (row_option _ _ c.args.json.now c.args.desc.now (c.args.self.now.sound _ c.requires) c.in-Option.inner c.in-Option.is, ← c.get.ensures) c.decode_option.ensures
+decode_at-returns-in-Option t c = rw (row_option _ _ c.args.json.now c.args.desc.now (c.args.self.now.all_rest _ c.requires) c.in-Option.inner c.in-Option.is, ← c.get.ensures) c.decode_option.ensures
 
 pub decode_at-returns-in_ok-copy-in-Any : goal.decode_at-returns-in_ok-copy-in-Any
-decode_at-returns-in_ok-copy-in-Any t c = rw (row_any _ _ c.args.json.now c.args.desc.now (c.args.self.now.sound _ c.requires) c.in-Any.is, c.in_ok-copy-in-Any.ensures) refl
+decode_at-returns-in_ok-copy-in-Any t c = rw (row_any _ _ c.args.json.now c.args.desc.now (c.args.self.now.all_rest _ c.requires) c.in-Any.is, c.in_ok-copy-in-Any.ensures) refl
 
 pub decode_at-returns-in-Never : goal.decode_at-returns-in-Never
-decode_at-returns-in-Never t c = rw (row_never _ _ c.args.json.now c.args.desc.now (c.args.self.now.sound _ c.requires) c.in-Never.is) c.refused.ensures
+decode_at-returns-in-Never t c = rw (row_never _ _ c.args.json.now c.args.desc.now (c.args.self.now.all_rest _ c.requires) c.in-Never.is) c.refused.ensures
 
 pub decode_at-returns-in-Null : goal.decode_at-returns-in-Null
-decode_at-returns-in-Null t c = rw (row_nought _ _ c.args.json.now c.args.desc.now (c.args.self.now.sound _ c.requires) c.in-Null.is) c.decode_null.ensures
+decode_at-returns-in-Null t c = rw (row_nought _ _ c.args.json.now c.args.desc.now (c.args.self.now.all_rest _ c.requires) c.in-Null.is) c.decode_null.ensures
 
 pub decode_at-returns-in-Char : goal.decode_at-returns-in-Char
-decode_at-returns-in-Char t c = rw (row_char _ _ c.args.json.now c.args.desc.now (c.args.self.now.sound _ c.requires) c.in-Char.is) c.decode_char.ensures
+decode_at-returns-in-Char t c = rw (row_char _ _ c.args.json.now c.args.desc.now (c.args.self.now.all_rest _ c.requires) c.in-Char.is) c.decode_char.ensures
 
 pub decode_at-decode_name-requires : goal.decode_at-decode_name-requires
 decode_at-decode_name-requires t c = rw c.as_slice.ensures (record { few = few_names c.requires c.args.self.now.ranged c.in-Enumeration.names c.in-Enumeration.is })
 
 pub decode_at-returns-in-Enumeration : goal.decode_at-returns-in-Enumeration
 decode_at-returns-in-Enumeration t c =
-    rw (row_enumeration _ _ c.args.json.now c.args.desc.now (c.args.self.now.sound _ c.requires) c.in-Enumeration.names c.in-Enumeration.is, ← c.as_slice.ensures) c.decode_name.ensures
+    rw (row_enumeration _ _ c.args.json.now c.args.desc.now (c.args.self.now.all_rest _ c.requires) c.in-Enumeration.names c.in-Enumeration.is, ← c.as_slice.ensures) c.decode_name.ensures
 
 pub decode_at-returns-in-Bool : goal.decode_at-returns-in-Bool
-decode_at-returns-in-Bool t c = rw (row_bool _ _ c.args.json.now c.args.desc.now (c.args.self.now.sound _ c.requires) c.in-Bool.is) c.decode_bool.ensures
+decode_at-returns-in-Bool t c = rw (row_bool _ _ c.args.json.now c.args.desc.now (c.args.self.now.all_rest _ c.requires) c.in-Bool.is) c.decode_bool.ensures
 
 pub decode_at-returns-in-Int : goal.decode_at-returns-in-Int
-decode_at-returns-in-Int t c = rw (row_int _ _ c.args.json.now c.args.desc.now (c.args.self.now.sound _ c.requires) c.in-Int.kind c.in-Int.min c.in-Int.max c.in-Int.is) c.decode_int.ensures
+decode_at-returns-in-Int t c = rw (row_int _ _ c.args.json.now c.args.desc.now (c.args.self.now.all_rest _ c.requires) c.in-Int.kind c.in-Int.min c.in-Int.max c.in-Int.is) c.decode_int.ensures
 
 pub decode_at-returns-in-Text : goal.decode_at-returns-in-Text
-decode_at-returns-in-Text t c = rw (row_text _ _ c.args.json.now c.args.desc.now (c.args.self.now.sound _ c.requires) c.in-Text.min c.in-Text.max _ c.in-Text.is) c.decode_text.ensures
+decode_at-returns-in-Text t c = rw (row_text _ _ c.args.json.now c.args.desc.now (c.args.self.now.all_rest _ c.requires) c.in-Text.min c.in-Text.max _ c.in-Text.is) c.decode_text.ensures
 
 pub decode_at-decode_list-requires : goal.decode_at-decode_list-requires
 decode_at-decode_list-requires t c =
@@ -78,7 +78,7 @@ decode_at-decode_list-requires t c =
 
 pub decode_at-returns-in-List : goal.decode_at-returns-in-List
 decode_at-returns-in-List t c =
-    rw (row_list _ _ c.args.json.now c.args.desc.now (c.args.self.now.sound _ c.requires) c.in-List.item c.in-List.min c.in-List.max c.in-List.is, ← c.get-in-List.ensures) c.decode_list.ensures
+    rw (row_list _ _ c.args.json.now c.args.desc.now (c.args.self.now.all_rest _ c.requires) c.in-List.item c.in-List.min c.in-List.max c.in-List.is, ← c.get-in-List.ensures) c.decode_list.ensures
 
 pub decode_at-decode_map-requires : goal.decode_at-decode_map-requires
 decode_at-decode_map-requires t c =
@@ -86,7 +86,7 @@ decode_at-decode_map-requires t c =
     (omega (arith, c.decreases, less), rw c.get-in-Map.ensures (part_of_map c.requires c.in-Map.value c.in-Map.is))
 
 pub decode_at-returns-in-Map : goal.decode_at-returns-in-Map
-decode_at-returns-in-Map t c = rw (row_map _ _ c.args.json.now c.args.desc.now (c.args.self.now.sound _ c.requires) c.in-Map.value c.in-Map.is, ← c.get-in-Map.ensures) c.decode_map.ensures
+decode_at-returns-in-Map t c = rw (row_map _ _ c.args.json.now c.args.desc.now (c.args.self.now.all_rest _ c.requires) c.in-Map.value c.in-Map.is, ← c.get-in-Map.ensures) c.decode_map.ensures
 
 pub decode_at-decode_struct-requires : goal.decode_at-decode_struct-requires
 decode_at-decode_struct-requires t c =
@@ -95,7 +95,7 @@ decode_at-decode_struct-requires t c =
 
 pub decode_at-returns-in-Struct : goal.decode_at-returns-in-Struct
 decode_at-returns-in-Struct t c =
-    rw (row_struct _ _ c.args.json.now c.args.desc.now (c.args.self.now.sound _ c.requires) c.in-Struct.fields c.in-Struct.deny_unknown c.in-Struct.is, ← c.as_slice-in-Struct.ensures) c.decode_struct.ensures
+    rw (row_struct _ _ c.args.json.now c.args.desc.now (c.args.self.now.all_rest _ c.requires) c.in-Struct.fields c.in-Struct.deny_unknown c.in-Struct.is, ← c.as_slice-in-Struct.ensures) c.decode_struct.ensures
 
 pub decode_at-decode_external-requires : goal.decode_at-decode_external-requires
 decode_at-decode_external-requires t c =
@@ -106,7 +106,7 @@ decode_at-decode_external-requires t c =
 
 pub decode_at-returns-in-External : goal.decode_at-returns-in-External
 decode_at-returns-in-External t c =
-    rw (row_external _ _ c.args.json.now c.args.desc.now (c.args.self.now.sound _ c.requires) c.in-External.variants c.in-External.is, ← c.as_slice-in-External.ensures) c.decode_external.ensures
+    rw (row_external _ _ c.args.json.now c.args.desc.now (c.args.self.now.all_rest _ c.requires) c.in-External.variants c.in-External.is, ← c.as_slice-in-External.ensures) c.decode_external.ensures
 
 pub decode_at-decode_tagged-requires : goal.decode_at-decode_tagged-requires
 decode_at-decode_tagged-requires t c =
@@ -117,34 +117,34 @@ decode_at-decode_tagged-requires t c =
 
 pub decode_at-returns-in-Tagged : goal.decode_at-returns-in-Tagged
 decode_at-returns-in-Tagged t c =
-    rw (row_tagged _ _ c.args.json.now c.args.desc.now (c.args.self.now.sound _ c.requires) c.in-Tagged.tag c.in-Tagged.variants c.in-Tagged.is, ← c.as_slice-in-Tagged.ensures) c.decode_tagged.ensures
+    rw (row_tagged _ _ c.args.json.now c.args.desc.now (c.args.self.now.all_rest _ c.requires) c.in-Tagged.tag c.in-Tagged.variants c.in-Tagged.is, ← c.as_slice-in-Tagged.ensures) c.decode_tagged.ensures
 
 pub decode_at-decode_untagged-requires : goal.decode_at-decode_untagged-requires
 decode_at-decode_untagged-requires t c =
     let d = c.args.desc.now in
-    let less = choice-lt-at c.args.self.now.table.now c.args.self.now.whole.now (size-Json c.args.json.now) d (c.args.self.now.sound d c.requires) c.in-Untagged.alternatives c.in-Untagged.is in
+    let less = choice-lt-at c.args.self.now.table.now c.args.self.now.whole.now (size-Json c.args.json.now) d (c.args.self.now.all_rest d c.requires) c.in-Untagged.alternatives c.in-Untagged.is in
     let parts = parts_of_untagged c.requires c.in-Untagged.alternatives c.in-Untagged.is in
     let few = few_alternatives c.requires c.args.self.now.ranged c.in-Untagged.alternatives c.in-Untagged.is in
     rw c.as_slice-in-Untagged.ensures (omega (arith, c.decreases, less), (parts, few))
 
 pub decode_at-returns-in-Untagged : goal.decode_at-returns-in-Untagged
 decode_at-returns-in-Untagged t c =
-    rw (row_untagged _ _ c.args.json.now c.args.desc.now (c.args.self.now.sound _ c.requires) c.in-Untagged.alternatives c.in-Untagged.is, ← c.as_slice-in-Untagged.ensures) c.decode_untagged.ensures
+    rw (row_untagged _ _ c.args.json.now c.args.desc.now (c.args.self.now.all_rest _ c.requires) c.in-Untagged.alternatives c.in-Untagged.is, ← c.as_slice-in-Untagged.ensures) c.decode_untagged.ensures
 
 pub decode_at-decode_at-requires : goal.decode_at-decode_at-requires
 decode_at-decode_at-requires t c =
     let d = c.args.desc.now in
     let found = sym c.in-Some.ensures in
-    let less = ref-lt c.args.self.now.table.now c.args.self.now.whole.now (size-Json c.args.json.now) d (c.args.self.now.sound d c.requires) c.in-Ref.name c.in-Some.definition.now c.in-Ref.is found in
+    let less = ref-lt c.args.self.now.table.now c.args.self.now.whole.now (size-Json c.args.json.now) d (c.args.self.now.all_rest d c.requires) c.in-Ref.name c.in-Some.definition.now c.in-Ref.is found in
     (omega (arith, c.decreases, less), definition_is_part _ _ c.in-Ref.name c.in-Some.definition.now found)
 
 pub decode_at-returns-in-Some : goal.decode_at-returns-in-Some
 decode_at-returns-in-Some t c =
-    rw (row_ref _ _ c.args.json.now c.args.desc.now (c.args.self.now.sound _ c.requires) c.in-Ref.name (Some c.in-Some.definition.now) c.in-Ref.is (sym c.in-Some.ensures)) c.decode_at.ensures
+    rw (row_ref _ _ c.args.json.now c.args.desc.now (c.args.self.now.all_rest _ c.requires) c.in-Ref.name (Some c.in-Some.definition.now) c.in-Ref.is (sym c.in-Some.ensures)) c.decode_at.ensures
 
 pub decode_at-returns-in-None : goal.decode_at-returns-in-None
 decode_at-returns-in-None t c =
-    rw (row_ref _ _ c.args.json.now c.args.desc.now (c.args.self.now.sound _ c.requires) c.in-Ref.name None c.in-Ref.is (sym c.in-None.ensures)) c.refused-in-None.ensures
+    rw (row_ref _ _ c.args.json.now c.args.desc.now (c.args.self.now.all_rest _ c.requires) c.in-Ref.name None c.in-Ref.is (sym c.in-None.ensures)) c.refused-in-None.ensures
 
 pub decode_list-decode_items-requires : goal.decode_list-decode_items-requires
 decode_list-decode_items-requires t c =
