@@ -1,5 +1,7 @@
-//! Tests of what no program of cases shows.
+//! Tests of what no case can say.
 #![tactic(auto)]
 
 #[cfg(test)]
 mod schemas;
+#[cfg(test)]
+mod values;

@@ -1,7 +1,8 @@
-//! Lists and texts, copies of requests, and the texts of want of memory.
+//! Lists and texts, numbers that no text is read as, copies of requests, and the texts of want of
+//! memory.
 use openapi_values::{J2oasError, WireRequest};
 use schema_util::Schema2StructError;
-use schema_values::{List, ReadError, Text, ValueError, VariableValue};
+use schema_values::{Json, List, ReadError, Text, ValueError, VariableValue};
 use std::alloc::{AllocError, Global};
 use std::collections::BTreeMap;
 use std::test::Fail;
@@ -17,6 +18,11 @@ fn lists_and_texts_show_what_they_hold(rt: HostRuntime) -> Result<(), Fail> {
     assert_eq!(rt; shown.as_str(), "né\" \"né\\\"\" [97, 98, 99]");
     assert_eq!(rt; text.as_bytes().len(), 4);
     Ok(())
+}
+
+#[test]
+fn a_number_of_65_bits_is_not_sound(rt: HostRuntime) {
+    assert!(rt; !Json::Int(1 << 64).sound());
 }
 
 #[test]
