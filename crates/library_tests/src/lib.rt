@@ -5,3 +5,7 @@
 mod endpoints;
 #[cfg(test)]
 mod ends;
+#[cfg(test)]
+mod schemas;
+#[cfg(test)]
+mod values;
