@@ -6,7 +6,5 @@ mod content_type;
 mod members;
 mod parameters;
 mod query;
-#[cfg(test)]
-mod tests;
 
 pub use check::check_admits;
