@@ -172,7 +172,7 @@ decode_pair-decode_at-requires t c =
 pub decode_entries-decode_pair-requires : goal.decode_entries-decode_pair-requires
 decode_entries-decode_pair-requires t c =
     let ms = c.args.members.now in
-    let same = ap lent c.deref-member-items.ensures.value ∙ c.in_ok-in_order.ensures in
+    let same = ap lent c.deref-member-items.ensures.value ∙ c.in_ok-ordered.ensures in
     let at = taken_behind (λ member. member.now) c.deref-member-items.result.now (sorted_by member_name ms) same c.loop-member.member-index c.member-item.result (omega arith) c.member-item.is in
     let less = alone-le-alone c.args.self.now.table.now c.args.self.now.whole.now (size-Member c.member-item.result.now) (most size-Member ms) (entry_at_most ms c.loop-member.member-index c.member-item.result.now at.0 at.1) in
     (omega (arith, c.decreases, less), c.requires)
@@ -181,7 +181,7 @@ pub decode_entries-returns-in_err-decode_pair : goal.decode_entries-returns-in_e
 decode_entries-returns-in_err-decode_pair t c =
     let ms = sorted_by member_name c.args.members.now in
     let f : ℕ → Member → Result Pair Trouble = λ i m. told_entry c.args.self.now.table.now c.args.self.now.whole.now c.args.value.now m in
-    let same = ap lent c.deref-member-items.ensures.value ∙ c.in_ok-in_order.ensures in
+    let same = ap lent c.deref-member-items.ensures.value ∙ c.in_ok-ordered.ensures in
     let at = taken_behind (λ member. member.now) c.deref-member-items.result.now ms same c.loop-member.member-index c.member-item.result (omega arith) c.member-item.is in
     let p = err_from_is_err_and c.from_residual-in_err-decode_pair.result c.from_residual-in_err-decode_pair.ensures.1 in
     rw (p.1, p.2) (all_err f (all_told f 0 ms) ms c.loop-member.member-index c.loop-member.pairs c.loop-member.invariant (as_tree Entries) (λ k. refl) c.member-item.result.now c.in_err-decode_pair.field-0.0 at.0 at.1 c.in_err-decode_pair.ensures)
@@ -190,7 +190,7 @@ pub decode_entries-loop-member-preserved : goal.decode_entries-loop-member-prese
 decode_entries-loop-member-preserved t c =
     let ms = sorted_by member_name c.args.members.now in
     let f : ℕ → Member → Result Pair Trouble = λ i m. told_entry c.args.self.now.table.now c.args.self.now.whole.now c.args.value.now m in
-    let same = ap lent c.deref-member-items.ensures.value ∙ c.in_ok-in_order.ensures in
+    let same = ap lent c.deref-member-items.ensures.value ∙ c.in_ok-ordered.ensures in
     let at = taken_behind (λ member. member.now) c.deref-member-items.result.now ms same c.loop-member.member-index c.member-item.result (omega arith) c.member-item.is in
     all_step f (all_told f 0 ms) ms c.loop-member.member-index c.loop-member.pairs c.loop-member.invariant c.member-item.result.now _ at.0 at.1 c.in_ok-decode_pair.ensures
     ∙ ap (λ (ps : List Pair). after ps (all_told f (c.loop-member.member-index + 1) (drop (c.loop-member.member-index + 1) ms))) (sym c.in_ok-push.ensures.ok)
@@ -199,7 +199,7 @@ pub decode_entries-returns : goal.decode_entries-returns
 decode_entries-returns t c =
     let ms = sorted_by member_name c.args.members.now in
     let f : ℕ → Member → Result Pair Trouble = λ i m. told_entry c.args.self.now.table.now c.args.self.now.whole.now c.args.value.now m in
-    let same = ap lent c.deref-member-items.ensures.value ∙ c.in_ok-in_order.ensures in
+    let same = ap lent c.deref-member-items.ensures.value ∙ c.in_ok-ordered.ensures in
     let n : length ms ≡ length c.deref-member-items.result.now = ap length (sym same) ∙ length-map c.deref-member-items.result.now (λ member. member.now) in
     ap (as_tree Entries) (all_end f (all_told f 0 ms) ms c.loop-member.member-index c.loop-member.pairs c.loop-member.invariant (omega (arith, n)))
 
@@ -274,24 +274,23 @@ decode_external-decode_payload-requires t c =
 
 pub decode_payload-decode_at-requires : goal.decode_payload-decode_at-requires
 decode_payload-decode_at-requires t c =
-    let v = c.in-Some.variant.now in
+    let v = c.in-Some.chosen.now in
     let inside = found_inside variant_name c.args.variants.now c.args.member.now.name (c.in-Some.place, v) (sym c.in-Some.ensures) in
     let less = at-lt-alone c.args.self.now.table.now c.args.self.now.whole.now (size-Json c.args.member.now.value) (size-Member c.args.member.now) c.in-Some-payload.payload (member_greater c.args.member.now) in
     (omega (arith, c.decreases, less), subst (λ (o : Option Desc). IfSome o (IsPart c.args.self.now.table.now c.args.self.now.whole.now)) c.in-Some-payload.is (c.requires.parts v inside))
 
-pub decode_payload-overflow_cast-result : goal.decode_payload-overflow_cast-result
-decode_payload-overflow_cast-result t c =
-    let less = place_below variant_name c.args.variants.now c.args.member.now.name (c.in-Some.place, c.in-Some.variant.now) (sym c.in-Some.ensures) in
+pub decode_payload-variant-requires : goal.decode_payload-variant-requires
+decode_payload-variant-requires t c =
+    let less = place_below variant_name c.args.variants.now c.args.member.now.name (c.in-Some.place, c.in-Some.chosen.now) (sym c.in-Some.ensures) in
     omega (arith, less, c.requires.few)
 
-pub decode_payload-returns-in_ok-copy-in-Err : goal.decode_payload-returns-in_ok-copy-in-Err
-decode_payload-returns-in_ok-copy-in-Err t c =
+pub decode_payload-returns-in-Err : goal.decode_payload-returns-in-Err
+decode_payload-returns-in-Err t c =
     let inner = told c.args.self.now.table.now c.args.self.now.whole.now c.args.member.now.value in
     let of_payload = inner c.in-Some-payload.payload in
-    let at = payload_at inner c.args.variants.now c.args.member.now.name c.in-Some.place c.in-Some.variant.now c.in-Some-payload.payload (sym c.in-Some.ensures) c.in-Some-payload.is in
-    let bad = chosen_err c.in-Some.place (below (Name c.in_ok-copy-in-Err.field-0) of_payload) c.below.result (c.below.ensures of_payload c.in-Err.ensures) in
-    subst (λ (o : Told). Tells (Err c.below.result) o) (sym at)
-    (subst (λ (n : List ℕ). Tells (Err c.below.result) (chosen c.in-Some.place (below (Name n) of_payload))) c.in_ok-copy-in-Err.ensures bad)
+    let at = payload_at inner c.args.variants.now c.args.member.now.name c.in-Some.place c.in-Some.chosen.now c.in-Some-payload.payload (sym c.in-Some.ensures) c.in-Some-payload.is in
+    let bad = chosen_err c.in-Some.place (below (Name c.args.member.now.name) of_payload) c.below_name.result (c.below_name.ensures of_payload c.in-Err.ensures) in
+    subst (λ (o : Told). Tells (Err c.below_name.result) o) (sym at) bad
 
 pub decode_tagged-decode_variant-requires : goal.decode_tagged-decode_variant-requires
 decode_tagged-decode_variant-requires t c =
@@ -303,10 +302,10 @@ decode_tagged-decode_variant-requires t c =
 
 pub decode_variant-decode_fields-requires : goal.decode_variant-decode_fields-requires
 decode_variant-decode_fields-requires t c =
-    let inside = found_inside tagged_name c.args.variants.now c.in-Text.name (c.in-Some.place, c.in-Some.variant.now) (sym c.in-Some.ensures) in
-    (omega (arith, c.decreases), rw c.as_slice.ensures (c.requires.parts c.in-Some.variant.now inside))
+    let inside = found_inside tagged_name c.args.variants.now c.in-Text.name (c.in-Some.place, c.in-Some.chosen.now) (sym c.in-Some.ensures) in
+    (omega (arith, c.decreases), rw c.as_slice.ensures (c.requires.parts c.in-Some.chosen.now inside))
 
-pub decode_variant-overflow_cast-result : goal.decode_variant-overflow_cast-result
-decode_variant-overflow_cast-result t c =
-    let less = place_below tagged_name c.args.variants.now c.in-Text.name (c.in-Some.place, c.in-Some.variant.now) (sym c.in-Some.ensures) in
+pub decode_variant-variant-requires : goal.decode_variant-variant-requires
+decode_variant-variant-requires t c =
+    let less = place_below tagged_name c.args.variants.now c.in-Text.name (c.in-Some.place, c.in-Some.chosen.now) (sym c.in-Some.ensures) in
     omega (arith, less, c.requires.few)
