@@ -1,7 +1,9 @@
-//! Tests of what can't be written as data for the programs of cases.
+//! Tests of what no case can say.
 #![tactic(auto)]
 
 #[cfg(test)]
 mod endpoints;
 #[cfg(test)]
 mod ends;
+#[cfg(test)]
+mod values;
