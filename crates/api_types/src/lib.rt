@@ -9,8 +9,6 @@ mod map;
 mod number;
 mod option;
 mod signed;
-#[cfg(test)]
-mod tests;
 mod text;
 mod truth;
 mod type_table;
