@@ -4,8 +4,6 @@
 mod color;
 mod label;
 mod point;
-#[cfg(test)]
-mod tests;
 
 pub use color::Color;
 pub use label::Label;
