@@ -1,22 +1,20 @@
 #!/usr/bin/env python3
 """Compares document and decoding with a JSON Schema validator that knows neither.
 
-First the values and schemas of the tests' tables, of which the gate proves and runs that the decoder tells them so and
-that they are written so; then a session of the program over bodies, of which each is handled or refused, and the schema
+First the values and schemas of the cases of values, of which the gate runs that the decoder tells them so and that they
+are written so; then a session of the program over bodies, of which each is handled or refused, and the schema
 in the document that the session wrote. Needs Python's jsonschema. OpenAPI 3.0.3 is read as Draft 4 with `nullable`, the
 form of null alone, and the formats of integers put into its words."""
 import itertools
 import json
 import pathlib
-import re
 import subprocess
 import sys
 
 from jsonschema import Draft4Validator
 
 HERE = pathlib.Path(__file__).resolve().parent.parent
-VALUES = HERE / "crates/contract_tests/src/values"
-LITERAL = r'r(?P<h{0}>#+)"(?P<raw{0}>.*?)"(?P=h{0})|"(?P<text{0}>(?:\\.|[^"\\])*)"'
+VALUE_CASES = HERE / "crates/value_cases"
 NULL_ALONE = {"type": "string", "enum": [None]}
 
 
@@ -69,42 +67,38 @@ def whole(text):
     return number if text != "-0" and -(2**63) <= number < 2**64 else refuse(text)
 
 
-def literals(source):
-    """The texts of Rust's string literals, in order."""
-    for found in re.finditer(LITERAL.format(0), source, re.S):
-        raw = found.group("raw0")
-        yield raw if raw is not None else json.loads('"' + found.group("text0").replace("\n", "\\n") + '"')
+def cases():
+    """The cases of values, each with what it has of the case that it is like, and what is told of it."""
+    known = {}
+    asked, answers = ((VALUE_CASES / name).read_text().splitlines() for name in ("stdin", "stdout"))
+    for line, answer in zip(asked, answers, strict=True):
+        if line and not line.startswith("#"):
+            case = json.loads(line)
+            case = {**known.get(case.get("like"), {}), **case}
+            known[case["case"]] = case
+            yield case, json.loads(answer.removeprefix(case["case"] + ": "))
 
 
-def constant(source, name):
-    """What stands behind a constant's `=`, up to the semicolon at the end of a line."""
-    return re.search(rf"const {name}: [^=]*=(.*?);\n", source, re.S).group(1)
+def schema_told(answer):
+    """The schema that an answer has: as JSON, or as lines."""
+    return json.loads("\n".join(answer)) if isinstance(answer, list) else answer
 
 
-def schema_texts(source):
-    """The written schemas by name, of both tables; a constant stands for its text."""
-    for table in ("SCHEMAS", "SHORT_SCHEMAS"):
-        pairs = rf'\(\s*"(\w+)"\s*,\s*(?:([A-Z]+)|{LITERAL.format(1)})\s*,?\s*\)'
-        for found in re.finditer(pairs, constant(source, table), re.S):
-            text = constant(source, found.group(2)) if found.group(2) else found.group(0).split(",", 1)[1]
-            yield found.group(1), json.loads("".join(literals(text)))
-
-
-def compare_tables():
-    rows = (VALUES / "form_rows.rt").read_text()
-    rows = re.sub(r"(?m)^\s*//.*$", "", rows)
-    taken_by = validators(dict(schema_texts((VALUES / "form_schemas.rt").read_text())))
+def compare_cases():
+    told = list(cases())
+    schemas = {case["name"]: schema_told(answer) for case, answer in told if case["call"] == "definition_schema"}
+    taken_by = validators(schemas)
     compared = differing = 0
-    for table, expected in (("TREE_ROWS", True), ("FAULT_ROWS", False)):
-        texts = list(literals(constant(rows, table)))
-        for name, body, told in zip(texts[::3], texts[1::3], texts[2::3]):
-            if name not in taken_by:
-                continue
-            compared += 1
-            if is_admitted(taken_by[name], body) != expected:
-                differing += 1
-                print(f"{name} {body}: told as {told}")
-    print(f"tables: {compared} values compared, {differing} differ")
+    for case, answer in told:
+        name = str(case.get("desc")).removeprefix("#")
+        if case["call"] != ["decode", "admits"] or name not in taken_by:
+            continue
+        compared += 1
+        body = case["text"] if "text" in case else json.dumps(case["json"])
+        if is_admitted(taken_by[name], body) != ("tree" in answer[0]):
+            differing += 1
+            print(f"{case['case']} {body}: told as {answer[0]}")
+    print(f"cases: {compared} values compared, {differing} differ")
     return differing
 
 
@@ -144,4 +138,4 @@ def compare_session():
 
 
 if __name__ == "__main__":
-    sys.exit(1 if compare_tables() + compare_session() else 0)
+    sys.exit(1 if compare_cases() + compare_session() else 0)

@@ -21,6 +21,7 @@ use Rattle.typed_values.specs.Definitions.{tagged_fields}
 use Rattle.typed_values.specs.SchemaTable.{schema_json_titled, schema_json_described}
 use Rattle.openapi_values.specs.declared.document.Components.{Components}
 use Rattle.openapi_values.specs.declared.document.OpenApi.{OpenApi}
+use Rattle.openapi_values.specs.declared.info.Info.{Info}
 use Rattle.openapi_values.specs.declared.media.MediaType.{MediaType}
 use Rattle.openapi_values.specs.declared.media.RequestBody.{RequestBody}
 use Rattle.openapi_values.specs.declared.media.ResponseObject.{ResponseObject}
@@ -248,11 +249,15 @@ components_of m version endpoints = record {
   schemas = by_name (schema_entries m (held_at version endpoints));
 }
 
+-- the title and the version of an API
+abbrev pub info_of : List ℕ → Parts → Info
+info_of title version = record { title = title; description = None; terms_of_service = None; contact = None; license = None; version = chars (parts_text version) }
+
 -- the document of endpoints at a version, with a title
 abbrev pub open_api_of : {X : Type 0} {F : X → Type 0} → Meanings X F → List (ApiEndpoint X F) → List ℕ → Parts → OpenApi
 open_api_of m endpoints title version = record {
   openapi = codes "3.0.3";
-  info = record { title = title; description = None; terms_of_service = None; contact = None; license = None; version = chars (parts_text version) };
+  info = info_of title version;
   paths = paths_of m version endpoints;
   components = components_of m version endpoints;
   tags = [];

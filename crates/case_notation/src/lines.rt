@@ -1,7 +1,12 @@
 //! Lines of cases, and the lines that answer them.
+//!
+//! A case is an object on a line of its own. Its member `case` is its name, which no case before it
+//! has, and what else stands in it says what is asked. A case that is `like` an earlier one has
+//! that one's members too, but for those that it has itself. It is answered by its name, a colon
+//! and the answer as compact JSON.
 use crate::error::CaseError;
-use crate::parts::{given, text_of};
-use schema_values::{Json, ReadError, Text};
+use crate::parts::{given, members_of, text_of};
+use schema_values::{Json, List, Member, ReadError, Text};
 use std::alloc::{AllocError, Global};
 
 /// A program of cases.
@@ -10,24 +15,106 @@ pub trait AnswersCases {
     fn answer(&self, alloc: Global, case: &Json) -> Result<Json, CaseError>;
 }
 
-/// The line that answers a line: the name of its case and the answer as compact JSON, or `?` and what is wrong with the
-/// line. An empty line, and one that begins with `#`, is repeated.
+/// The line that answers a line of which no other line is known, as `Cases` answers it.
 pub fn reply<P: AnswersCases>(alloc: Global, program: &P, line: &str) -> Result<Text, AllocError> {
-    if line.is_empty() || line.starts_with("#") {
-        return Text::from_str(alloc, line);
+    Cases::new(alloc).reply(alloc, program, line)
+}
+
+/// The cases that stand on the lines so far.
+#[derive(Drop)]
+pub struct Cases {
+    cases: List<Json>,
+}
+
+impl Cases {
+    /// No cases.
+    pub fn new(alloc: Global) -> Cases {
+        Cases {
+            cases: List::new(alloc),
+        }
     }
-    match told(alloc, program, line) {
-        Ok(reply) => Ok(reply),
-        Err(error) => error.text(alloc),
+
+    /// The line that answers the next line: the name of its case and the answer, or `?` and what is
+    /// wrong with the line. An empty line, and one that begins with `#`, is repeated.
+    pub fn reply<P: AnswersCases>(
+        &mut self,
+        alloc: Global,
+        program: &P,
+        line: &str,
+    ) -> Result<Text, AllocError> {
+        if line.is_empty() || line.starts_with("#") {
+            return Text::from_str(alloc, line);
+        }
+        match self.told(alloc, program, line) {
+            Ok(reply) => Ok(reply),
+            Err(error) => error.text(alloc),
+        }
+    }
+
+    fn told<P: AnswersCases>(
+        &mut self,
+        alloc: Global,
+        program: &P,
+        line: &str,
+    ) -> Result<Text, CaseError> {
+        let case = self.completed(alloc, &read(alloc, line)?)?;
+        self.cases.push(case)?;
+        match self.cases.as_slice().last() {
+            Some(case) => answered(alloc, program, case),
+            None => Err(CaseError::Expected("a case")),
+        }
+    }
+
+    /// A case of a new name, with the members of the case that it is like.
+    fn completed(&self, alloc: Global, case: &Json) -> Result<Json, CaseError> {
+        if self.named(text_of(given(case, "case")?)?).is_some() {
+            return Err(CaseError::Expected("a new name"));
+        }
+        let mut members = List::new(alloc);
+        for member in members_of(case)? {
+            members.push(member.copy(alloc)?)?;
+        }
+        for member in self.members_like(case)? {
+            if case.get(member.name.as_str()).is_none() {
+                members.push(member.copy(alloc)?)?;
+            }
+        }
+        Ok(Json::Object(members))
+    }
+
+    /// The members of the case that a case is like.
+    fn members_like(&self, case: &Json) -> Result<&[Member], CaseError> {
+        let Some(name) = case.get("like") else {
+            return Ok(&[]);
+        };
+        match self.named(text_of(name)?) {
+            Some(earlier) => members_of(earlier),
+            None => Err(CaseError::Expected("the name of an earlier case")),
+        }
+    }
+
+    fn named(&self, name: &Text) -> Option<&Json> {
+        for case in self.cases.as_slice() {
+            if is_named(case, name) {
+                return Some(case);
+            }
+        }
+        None
     }
 }
 
-fn told<P: AnswersCases>(alloc: Global, program: &P, line: &str) -> Result<Text, CaseError> {
-    let case = read(alloc, line)?;
-    let mut reply = text_of(given(&case, "case")?)?.copy(alloc)?;
-    let answer = program.answer(alloc, &case)?;
+fn is_named(case: &Json, name: &Text) -> bool {
+    match case.get("case") {
+        Some(Json::Text(other)) => other.equals(name),
+        _ => false,
+    }
+}
+
+fn answered<P: AnswersCases>(alloc: Global, program: &P, case: &Json) -> Result<Text, CaseError> {
+    let answer = program.answer(alloc, case)?.compact(alloc)?;
+    let mut reply = text_of(given(case, "case")?)?.copy(alloc)?;
     reply.push_str(": ")?;
-    reply.push_str(answer.compact(alloc)?.as_str())?;
+    reply.push_text(&answer)?;
     Ok(reply)
 }
 

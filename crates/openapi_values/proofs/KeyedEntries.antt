@@ -1,16 +1,15 @@
 -- Entries before members of other names: annotations, extensions and parts that may be absent.
-use Rattle.std.proofs.Common.{◌≡◌, ◌≢◌, ℕ, Bool, true, false, cond, not, ◌&&◌, List, [], ◌∷◌, ◌++◌, map, filter, Option, Some, None, is_some, unwrap_or, bytes_eq, codes, IfSome, refl, sym, ◌∙◌, ap, subst, true≢false}
+use Rattle.std.proofs.Common.{◌≡◌, ◌≢◌, ℕ, Bool, true, false, cond, not, ◌&&◌, List, [], ◌∷◌, ◌++◌, map, filter, Option, Some, None, is_some, unwrap_or, bytes_eq, codes, IfSome, refl, sym, ◌∙◌, ap, true≢false}
 use Rattle.std.specs.List.{list_all, AllByRecursion}
 use Rattle.std.proofs.lemmas.Bool.{and_parts}
 use Rattle.std.proofs.lemmas.List.Folds.{list_all-append}
 use Rattle.std.proofs.lemmas.Slice.Eq.{bytes_eq-Decides}
-use Rattle.schema_values.specs.declared.json_value.Json.{Json}
 use Rattle.schema_values.specs.declared.json_value.Member.{Member}
 use Rattle.schema_values.specs.Member.{name_of}
 use Rattle.schema_values.specs.Sound.{AreDistinct}
-use Rattle.schema_values.specs.SoundMembers.{HasSoundValue, HasSoundMembers}
+use Rattle.schema_values.specs.SoundMembers.{HasSoundValue}
 use Rattle.openapi_values.specs.Keywords.{after}
-use Rattle.openapi_values.specs.Objects.{Entry, members_of, present}
+use Rattle.openapi_values.specs.Objects.{Entry, members_of}
 use Rattle.openapi_values.specs.SchemaJson.{extension_entries, extension_entry, is_extension}
 use Rattle.openapi_values.proofs.Keyed.{IsKeyed, is_new, passed, put}
 use Rattle.openapi_values.proofs.SoundObjects.{IsSoundWhere, present_keyed}

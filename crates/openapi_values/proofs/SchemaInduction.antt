@@ -13,7 +13,7 @@ use Rattle.schema_values.specs.declared.schema.Property.{Property, Property-F}
 use Rattle.schema_values.specs.declared.schema.Schema.{Schema, Schema-F, Bool as Truth, Object}
 use Rattle.schema_values.specs.declared.schema.SchemaObject.{SchemaObject, SchemaObject-F, out-SchemaObject}
 use Rattle.schema_values.specs.declared.schema.Subschemas.{Subschemas, Subschemas-F}
-use Rattle.openapi_values.specs.SoundContents.{Whole}
+use Rattle.openapi_values.specs.SoundContents.{OneLevel}
 use Rattle.openapi_values.proofs.PartMaps.{items-map, additional-map, array-map, object-map, subschemas-map, all_of-map}
 
 -- what holds of each of a list of pairs of which the second says that it does
@@ -31,27 +31,27 @@ lists_hold P (Some es) = each_holds P es
 
 module _ (I : Items → Type 0) (S : Schema → Type 0) (A : ArrayParts → Type 0) (O : ObjectParts → Type 0) (P : Property → Type 0) (B : SchemaObject → Type 0) (U : Subschemas → Type 0) where
   -- it holds of the schemas in one level
-  abbrev pub InItems : Whole Items-F → Type 0
+  abbrev pub InItems : OneLevel Items-F → Type 0
   InItems (open_types.One schema) = S schema
   InItems (open_types.Tuple schemas) = AllByRecursion S schemas
 
-  abbrev pub InSchema : Whole Schema-F → Type 0
+  abbrev pub InSchema : OneLevel Schema-F → Type 0
   InSchema (open_types.Bool truth) = ⊤
   InSchema (open_types.Object object) = B object
 
-  abbrev pub InArray : Whole ArrayParts-F → Type 0
+  abbrev pub InArray : OneLevel ArrayParts-F → Type 0
   InArray array = IfSome array.items I
 
-  abbrev pub InObjectParts : Whole ObjectParts-F → Type 0
+  abbrev pub InObjectParts : OneLevel ObjectParts-F → Type 0
   InObjectParts object = AllByRecursion P object.properties × IfSome object.additional S
 
-  abbrev pub InProperty : Whole Property-F → Type 0
+  abbrev pub InProperty : OneLevel Property-F → Type 0
   InProperty property = S property.schema
 
-  abbrev pub InParts : Whole SchemaObject-F → Type 0
+  abbrev pub InParts : OneLevel SchemaObject-F → Type 0
   InParts parts = IfSome parts.array A × IfSome parts.object O × IfSome parts.subschemas U
 
-  abbrev pub InSubschemas : Whole Subschemas-F → Type 0
+  abbrev pub InSubschemas : OneLevel Subschemas-F → Type 0
   InSubschemas u = IfSome u.all_of (AllByRecursion S) × IfSome u.any_of (AllByRecursion S) × IfSome u.one_of (AllByRecursion S) × IfSome u.not S
 
   -- a smaller part, and that it holds of it
@@ -80,25 +80,25 @@ module _ (I : Items → Type 0) (S : Schema → Type 0) (A : ArrayParts → Type
   abbrev Known : ((A B C D E F G : Type 0) → Type 0) → Type 0
   Known F = F SomeItems SomeSchema SomeArray SomeObject SomeProperty SomeParts SomeSubschemas
 
-  abbrev plain_items : Known Items-F → Whole Items-F
+  abbrev plain_items : Known Items-F → OneLevel Items-F
   plain_items = map-Items SomeItems SomeSchema SomeArray SomeObject SomeProperty SomeParts SomeSubschemas Items Schema ArrayParts ObjectParts Property SchemaObject Subschemas (λ e. e.0) (λ e. e.0) (λ e. e.0) (λ e. e.0) (λ e. e.0) (λ e. e.0) (λ e. e.0)
 
-  abbrev plain_schema : Known Schema-F → Whole Schema-F
+  abbrev plain_schema : Known Schema-F → OneLevel Schema-F
   plain_schema = map-Schema SomeItems SomeSchema SomeArray SomeObject SomeProperty SomeParts SomeSubschemas Items Schema ArrayParts ObjectParts Property SchemaObject Subschemas (λ e. e.0) (λ e. e.0) (λ e. e.0) (λ e. e.0) (λ e. e.0) (λ e. e.0) (λ e. e.0)
 
-  abbrev plain_array : Known ArrayParts-F → Whole ArrayParts-F
+  abbrev plain_array : Known ArrayParts-F → OneLevel ArrayParts-F
   plain_array = map-ArrayParts SomeItems SomeSchema SomeArray SomeObject SomeProperty SomeParts SomeSubschemas Items Schema ArrayParts ObjectParts Property SchemaObject Subschemas (λ e. e.0) (λ e. e.0) (λ e. e.0) (λ e. e.0) (λ e. e.0) (λ e. e.0) (λ e. e.0)
 
-  abbrev plain_object : Known ObjectParts-F → Whole ObjectParts-F
+  abbrev plain_object : Known ObjectParts-F → OneLevel ObjectParts-F
   plain_object = map-ObjectParts SomeItems SomeSchema SomeArray SomeObject SomeProperty SomeParts SomeSubschemas Items Schema ArrayParts ObjectParts Property SchemaObject Subschemas (λ e. e.0) (λ e. e.0) (λ e. e.0) (λ e. e.0) (λ e. e.0) (λ e. e.0) (λ e. e.0)
 
-  abbrev plain_property : Known Property-F → Whole Property-F
+  abbrev plain_property : Known Property-F → OneLevel Property-F
   plain_property = map-Property SomeItems SomeSchema SomeArray SomeObject SomeProperty SomeParts SomeSubschemas Items Schema ArrayParts ObjectParts Property SchemaObject Subschemas (λ e. e.0) (λ e. e.0) (λ e. e.0) (λ e. e.0) (λ e. e.0) (λ e. e.0) (λ e. e.0)
 
-  abbrev plain_parts : Known SchemaObject-F → Whole SchemaObject-F
+  abbrev plain_parts : Known SchemaObject-F → OneLevel SchemaObject-F
   plain_parts = map-SchemaObject SomeItems SomeSchema SomeArray SomeObject SomeProperty SomeParts SomeSubschemas Items Schema ArrayParts ObjectParts Property SchemaObject Subschemas (λ e. e.0) (λ e. e.0) (λ e. e.0) (λ e. e.0) (λ e. e.0) (λ e. e.0) (λ e. e.0)
 
-  abbrev plain_subschemas : Known Subschemas-F → Whole Subschemas-F
+  abbrev plain_subschemas : Known Subschemas-F → OneLevel Subschemas-F
   plain_subschemas = map-Subschemas SomeItems SomeSchema SomeArray SomeObject SomeProperty SomeParts SomeSubschemas Items Schema ArrayParts ObjectParts Property SchemaObject Subschemas (λ e. e.0) (λ e. e.0) (λ e. e.0) (λ e. e.0) (λ e. e.0) (λ e. e.0) (λ e. e.0)
 
   pub of_items : (y : Known Items-F) → InItems (plain_items y)
@@ -156,10 +156,10 @@ module _ (I : Items → Type 0) (S : Schema → Type 0) (A : ArrayParts → Type
 
     pub by_parts : (s : Schema) → S s
     by_parts = ind-Schema I S A O P B U
-        (λ x y is. subst (λ (z : Whole Items-F). I (roll-Items z)) is (rolled_items y))
-        (λ x y is. subst (λ (z : Whole Schema-F). S (roll-Schema z)) is (rolled_schema y))
-        (λ x y is. subst (λ (z : Whole ArrayParts-F). A (roll-ArrayParts z)) is (rolled_array y))
-        (λ x y is. subst (λ (z : Whole ObjectParts-F). O (roll-ObjectParts z)) is (rolled_object y))
-        (λ x y is. subst (λ (z : Whole Property-F). P (roll-Property z)) is (rolled_property y))
-        (λ x y is. subst (λ (z : Whole SchemaObject-F). B (roll-SchemaObject z)) is (rolled_parts y))
-        (λ x y is. subst (λ (z : Whole Subschemas-F). U (roll-Subschemas z)) is (rolled_subschemas y))
+        (λ x y is. subst (λ (z : OneLevel Items-F). I (roll-Items z)) is (rolled_items y))
+        (λ x y is. subst (λ (z : OneLevel Schema-F). S (roll-Schema z)) is (rolled_schema y))
+        (λ x y is. subst (λ (z : OneLevel ArrayParts-F). A (roll-ArrayParts z)) is (rolled_array y))
+        (λ x y is. subst (λ (z : OneLevel ObjectParts-F). O (roll-ObjectParts z)) is (rolled_object y))
+        (λ x y is. subst (λ (z : OneLevel Property-F). P (roll-Property z)) is (rolled_property y))
+        (λ x y is. subst (λ (z : OneLevel SchemaObject-F). B (roll-SchemaObject z)) is (rolled_parts y))
+        (λ x y is. subst (λ (z : OneLevel Subschemas-F). U (roll-Subschemas z)) is (rolled_subschemas y))

@@ -1,8 +1,8 @@
 -- What stands in a schema object is sound, by its level.
-use Rattle.std.proofs.Common.{◌≡◌, ℕ, ℤ, pos, Bool, true, false, not, List, [], ◌∷◌, ◌++◌, map, Option, Some, None, is_some, option_map, unwrap_or, codes, cond, IfSome, refl}
+use Rattle.std.proofs.Common.{◌≡◌, ℕ, ℤ, Bool, true, false, not, List, [], ◌∷◌, ◌++◌, Option, Some, None, is_some, option_map, unwrap_or, codes, cond, IfSome, refl}
 use Rattle.std.specs.List.{list_all, AllByRecursion}
 use Rattle.std.specs.Option.{option_map_or, option_or, option_and_then}
-use Rattle.schema_values.specs.declared.json_value.Json.{Json, Int, Text, List as ListOf}
+use Rattle.schema_values.specs.declared.json_value.Json.{Json, Text}
 use Rattle.schema_values.specs.declared.json_value.Member.{Member}
 use Rattle.schema_values.specs.declared.schema.InstanceType.{InstanceType}
 use Rattle.schema_values.specs.declared.schema.InstanceType.TheVariants.{Null, Boolean, Object, Array, Number, String, Integer}
@@ -22,7 +22,7 @@ use Rattle.openapi_values.specs.SoundContents.{AreCounts, AreWholeBounds, IsCoun
 use Rattle.openapi_values.proofs.Keyed.{IsKeyed, none_keyed}
 use Rattle.openapi_values.proofs.KeyedEntries.{Joins, apart_from_extensions, are_apart, entries_before, extension_names, extensions_before, has_prefix, some_join}
 use Rattle.openapi_values.proofs.SoundLevels.{named_sound}
-use Rattle.openapi_values.proofs.SoundObjects.{IsSoundWhere, entries_keyed, object_sound, present_keyed, reference_is_sound, text_where, truth_where}
+use Rattle.openapi_values.proofs.SoundObjects.{IsSoundWhere, entries_keyed, object_sound, reference_is_sound, text_where, truth_where}
 
 -- ---- values, counts and bounds
 

@@ -1,5 +1,5 @@
 -- A schema of sound contents is written as sound JSON.
-use Rattle.std.proofs.Common.{◌≡◌, ℕ, Bool, List, [], ◌∷◌, ◌++◌, map, Option, Some, None, option_map, codes, IfSome, sym, ap, subst, refl}
+use Rattle.std.proofs.Common.{◌≡◌, ℕ, Bool, List, [], ◌∷◌, map, Option, Some, None, option_map, codes, IfSome, sym, ap, subst, refl}
 use Rattle.std.specs.List.{AllByRecursion}
 use Rattle.std.specs.Option.{option_map_or}
 use Rattle.schema_values.specs.declared.json_value.Json.{Json, Bool as TruthJson, Text}

@@ -6,10 +6,10 @@ use Rattle.schema_values.specs.declared.schema.ArrayParts.{ArrayParts}
 use Rattle.schema_values.specs.declared.schema.Items.{Items, Items-F, One, Tuple, out-Items}
 use Rattle.schema_values.specs.declared.schema.Items.TheFolds.{every-Items, every-ArrayParts, every-ObjectParts, every-Property, every-SchemaObject, every-Subschemas, every_held-Items, every_held-Schema, every_held-ArrayParts, every_held-ObjectParts, every_held-Property, every_held-SchemaObject, every_held-Subschemas, every_here-ArrayParts, every_here-ObjectParts, every_here-SchemaObject}
 use Rattle.schema_values.specs.declared.schema.Items.TheViews.{out-ArrayParts, outs-One, outs-Tuple, outs-Object}
-use Rattle.schema_values.specs.declared.schema.ObjectParts.{ObjectParts, ObjectParts-F, out-ObjectParts}
+use Rattle.schema_values.specs.declared.schema.ObjectParts.{ObjectParts, out-ObjectParts}
 use Rattle.schema_values.specs.declared.schema.Property.{Property}
-use Rattle.schema_values.specs.declared.schema.Schema.{Schema, Schema-F, Object}
-use Rattle.schema_values.specs.declared.schema.SchemaObject.{SchemaObject, SchemaObject-F, out-SchemaObject}
+use Rattle.schema_values.specs.declared.schema.Schema.{Schema, Object}
+use Rattle.schema_values.specs.declared.schema.SchemaObject.{SchemaObject, out-SchemaObject}
 use Rattle.schema_values.specs.declared.schema.Subschemas.{Subschemas}
 use Rattle.openapi_values.specs.SoundContents.{HasSoundContents, HasSoundCounts, HasSoundProperties, HasSoundValues}
 use Rattle.openapi_values.proofs.SchemaInduction.{InArray, InItems, InObjectParts, InParts, InProperty, InSchema, InSubschemas, of_array, of_items, of_object, of_parts, of_schema, of_subschemas}

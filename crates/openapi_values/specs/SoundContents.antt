@@ -16,14 +16,14 @@ use Rattle.schema_values.specs.Sound.{IsSound, IsWhole, AreDistinct}
 use Rattle.schema_values.specs.SoundMembers.{HasSoundMembers}
 
 -- one level of a type, with the smaller schemas themselves in it
-abbrev pub Whole : ((A B C D E F G : Type 0) → Type 0) → Type 0
-Whole F = F Items Schema ArrayParts ObjectParts Property SchemaObject Subschemas
+abbrev pub OneLevel : ((A B C D E F G : Type 0) → Type 0) → Type 0
+OneLevel F = F Items Schema ArrayParts ObjectParts Property SchemaObject Subschemas
 
 -- a length or a count fits 64 bits
 abbrev pub IsCount : ℕ → Type 0
 IsCount n = IsWhole (pos n)
 
--- the least and the greatest length or count, where they are given
+-- the least and the greatest length or count fit 64 bits, where they are given
 abbrev pub AreCounts : Option ℕ → Option ℕ → Type 0
 AreCounts min max = IfSome min IsCount × IfSome max IsCount
 
@@ -34,12 +34,12 @@ pub record AreWholeBounds (bounds : NumberBounds) : Type 0 where
   pub maximum : IfSome bounds.maximum IsWhole
   pub exclusive_maximum : IfSome bounds.exclusive_maximum IsWhole
 
--- the counts of the items of an array
-abbrev pub HasSoundCounts : Whole ArrayParts-F → Type 0
+-- the counts of the items of an array fit 64 bits
+abbrev pub HasSoundCounts : OneLevel ArrayParts-F → Type 0
 HasSoundCounts array = AreCounts array.min array.max
 
--- the names of an object's properties are distinct
-pub record HasSoundProperties (object : Whole ObjectParts-F) : Type 0 where
+-- the names of an object's properties are distinct, and the counts of its members fit 64 bits
+pub record HasSoundProperties (object : OneLevel ObjectParts-F) : Type 0 where
   pub names : AreDistinct (map (λ p. p.name) object.properties)
   pub counts : AreCounts object.min object.max
 

@@ -1,8 +1,8 @@
 use crate::info::Info;
 use crate::media::ResponseObject;
-use crate::objects::add;
+use crate::objects::{add, add_list, add_map, add_part};
 use crate::operation::PathItem;
-use crate::part::{Part, copy_list, copy_map, list_unless_empty, map_json, map_unless_empty};
+use crate::part::{Part, copy_list, copy_map, map_json};
 use crate::tags::TagObject;
 use schema_values::{Json, List, Text};
 use std::alloc::{AllocError, Global};
@@ -39,10 +39,8 @@ impl Part for Components {
 
     fn to_json(&self, alloc: Global) -> Result<Json, AllocError> {
         let mut members = List::new(alloc);
-        let responses = map_unless_empty(alloc, &self.responses)?;
-        add(alloc, &mut members, "responses", responses)?;
-        let schemas = map_unless_empty(alloc, &self.schemas)?;
-        add(alloc, &mut members, "schemas", schemas)?;
+        add_map(alloc, &mut members, "responses", &self.responses)?;
+        add_map(alloc, &mut members, "schemas", &self.schemas)?;
         Ok(Json::Object(members))
     }
 
@@ -61,26 +59,27 @@ impl Part for OpenApi {
 
     fn to_json(&self, alloc: Global) -> Result<Json, AllocError> {
         let mut members = List::new(alloc);
-        let openapi = self.openapi.to_json(alloc)?;
-        add(alloc, &mut members, "openapi", Some(openapi))?;
-        let info = self.info.to_json(alloc)?;
-        add(alloc, &mut members, "info", Some(info))?;
+        add_part(alloc, &mut members, "openapi", &self.openapi)?;
+        add_part(alloc, &mut members, "info", &self.info)?;
         let paths = Json::Object(map_json(alloc, &self.paths)?);
         add(alloc, &mut members, "paths", Some(paths))?;
-        let components = self.components.to_json(alloc)?;
-        add(alloc, &mut members, "components", Some(components))?;
-        let tags = list_unless_empty(alloc, &self.tags)?;
-        add(alloc, &mut members, "tags", tags)?;
+        add_part(alloc, &mut members, "components", &self.components)?;
+        add_list(alloc, &mut members, "tags", &self.tags)?;
         Ok(Json::Object(members))
     }
 
     fn copy(&self, alloc: Global) -> Result<OpenApi, AllocError> {
+        let openapi = self.openapi.copy(alloc)?;
+        let paths = copy_map(alloc, &self.paths)?;
+        let tags = copy_list(alloc, &self.tags)?;
+        let components = self.components.copy(alloc)?;
+        let info = self.info.copy(alloc)?;
         Ok(OpenApi {
-            openapi: self.openapi.copy(alloc)?,
-            info: self.info.copy(alloc)?,
-            paths: copy_map(alloc, &self.paths)?,
-            components: self.components.copy(alloc)?,
-            tags: copy_list(alloc, &self.tags)?,
+            openapi,
+            info,
+            paths,
+            components,
+            tags,
         })
     }
 }

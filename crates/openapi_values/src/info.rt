@@ -1,5 +1,5 @@
-use crate::objects::add;
-use crate::part::{Part, copy_option, option_json};
+use crate::objects::{add_option, add_part};
+use crate::part::{Part, copy_option};
 use schema_values::{Json, List, Text};
 use std::alloc::{AllocError, Global};
 
@@ -47,29 +47,34 @@ impl Part for Info {
 
     fn to_json(&self, alloc: Global) -> Result<Json, AllocError> {
         let mut members = List::new(alloc);
-        let title = self.title.to_json(alloc)?;
-        add(alloc, &mut members, "title", Some(title))?;
-        let description = option_json(alloc, &self.description)?;
-        add(alloc, &mut members, "description", description)?;
-        let terms = option_json(alloc, &self.terms_of_service)?;
-        add(alloc, &mut members, "termsOfService", terms)?;
-        let contact = option_json(alloc, &self.contact)?;
-        add(alloc, &mut members, "contact", contact)?;
-        let license = option_json(alloc, &self.license)?;
-        add(alloc, &mut members, "license", license)?;
-        let version = self.version.to_json(alloc)?;
-        add(alloc, &mut members, "version", Some(version))?;
+        add_part(alloc, &mut members, "title", &self.title)?;
+        add_option(alloc, &mut members, "description", &self.description)?;
+        add_option(
+            alloc,
+            &mut members,
+            "termsOfService",
+            &self.terms_of_service,
+        )?;
+        add_option(alloc, &mut members, "contact", &self.contact)?;
+        add_option(alloc, &mut members, "license", &self.license)?;
+        add_part(alloc, &mut members, "version", &self.version)?;
         Ok(Json::Object(members))
     }
 
     fn copy(&self, alloc: Global) -> Result<Info, AllocError> {
+        let title = self.title.copy(alloc)?;
+        let version = self.version.copy(alloc)?;
+        let description = copy_option(alloc, &self.description)?;
+        let terms_of_service = copy_option(alloc, &self.terms_of_service)?;
+        let license = copy_option(alloc, &self.license)?;
+        let contact = copy_option(alloc, &self.contact)?;
         Ok(Info {
-            title: self.title.copy(alloc)?,
-            description: copy_option(alloc, &self.description)?,
-            terms_of_service: copy_option(alloc, &self.terms_of_service)?,
-            contact: copy_option(alloc, &self.contact)?,
-            license: copy_option(alloc, &self.license)?,
-            version: self.version.copy(alloc)?,
+            title,
+            description,
+            terms_of_service,
+            contact,
+            license,
+            version,
         })
     }
 }
@@ -81,12 +86,9 @@ impl Part for Contact {
 
     fn to_json(&self, alloc: Global) -> Result<Json, AllocError> {
         let mut members = List::new(alloc);
-        let name = option_json(alloc, &self.name)?;
-        add(alloc, &mut members, "name", name)?;
-        let url = option_json(alloc, &self.url)?;
-        add(alloc, &mut members, "url", url)?;
-        let email = option_json(alloc, &self.email)?;
-        add(alloc, &mut members, "email", email)?;
+        add_option(alloc, &mut members, "name", &self.name)?;
+        add_option(alloc, &mut members, "url", &self.url)?;
+        add_option(alloc, &mut members, "email", &self.email)?;
         Ok(Json::Object(members))
     }
 
@@ -106,10 +108,8 @@ impl Part for License {
 
     fn to_json(&self, alloc: Global) -> Result<Json, AllocError> {
         let mut members = List::new(alloc);
-        let name = self.name.to_json(alloc)?;
-        add(alloc, &mut members, "name", Some(name))?;
-        let url = option_json(alloc, &self.url)?;
-        add(alloc, &mut members, "url", url)?;
+        add_part(alloc, &mut members, "name", &self.name)?;
+        add_option(alloc, &mut members, "url", &self.url)?;
         Ok(Json::Object(members))
     }
 

@@ -1,8 +1,8 @@
 ghost use Rattle.std.specs.Prelude.{◌≡◌, IfOk};
 
-use crate::objects::{add, reference, true_json};
+use crate::objects::{add, add_map, add_option, add_part, reference, true_json};
 use crate::parameter::HeaderObject;
-use crate::part::{Part, copy_map, copy_option, map_unless_empty, option_json};
+use crate::part::{Part, copy_map, copy_option};
 use schema_values::{Json, List, Text};
 use std::alloc::{AllocError, Global};
 
@@ -42,12 +42,7 @@ impl Part for MediaType {
 
     fn to_json(&self, alloc: Global) -> Result<Json, AllocError> {
         let mut members = List::new(alloc);
-        add(
-            alloc,
-            &mut members,
-            "schema",
-            Some(self.schema.copy(alloc)?),
-        )?;
+        add_part(alloc, &mut members, "schema", &self.schema)?;
         Ok(Json::Object(members))
     }
 
@@ -64,8 +59,7 @@ impl Part for RequestBody {
 
     fn to_json(&self, alloc: Global) -> Result<Json, AllocError> {
         let mut members = List::new(alloc);
-        let content = map_unless_empty(alloc, &self.content)?;
-        add(alloc, &mut members, "content", content)?;
+        add_map(alloc, &mut members, "content", &self.content)?;
         add(alloc, &mut members, "required", true_json(self.required))?;
         Ok(Json::Object(members))
     }
@@ -84,12 +78,9 @@ impl ResponseObject {
         ensures { IfOk result (λ json. json ≡ described_json self.now) }
     {
         let mut members = List::new(alloc);
-        let description = option_json(alloc, &self.description)?;
-        add(alloc, &mut members, "description", description)?;
-        let headers = map_unless_empty(alloc, &self.headers)?;
-        add(alloc, &mut members, "headers", headers)?;
-        let content = map_unless_empty(alloc, &self.content)?;
-        add(alloc, &mut members, "content", content)?;
+        add_option(alloc, &mut members, "description", &self.description)?;
+        add_map(alloc, &mut members, "headers", &self.headers)?;
+        add_map(alloc, &mut members, "content", &self.content)?;
         Ok(Json::Object(members))
     }
 }

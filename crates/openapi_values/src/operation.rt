@@ -2,13 +2,10 @@ ghost use Rattle.std.specs.Prelude.{◌≡◌, IfOk, option_map};
 ghost use Rattle.openapi_values.specs.Operation.{pagination_json};
 
 use crate::media::{RequestBody, ResponseObject};
-use crate::objects::{add, true_json};
+use crate::objects::{add, add_list, add_map, add_option, add_part, true_json};
 use crate::parameter::Parameter;
-use crate::part::{
-    Part, copy_list, copy_map, copy_option, list_json, list_unless_empty, map_unless_empty,
-    option_json,
-};
-use schema_values::{Json, List, Text};
+use crate::part::{Part, copy_list, copy_map, copy_option, list_json};
+use schema_values::{Boxed, Json, List, Text};
 use std::alloc::{AllocError, Global};
 
 /// A method on a path (OpenAPI 3.0.3, Operation Object).
@@ -39,21 +36,21 @@ pub struct Operation {
 #[derive(Drop)]
 pub struct PathItem {
     /// The operation of `GET`.
-    pub get: Option<Operation>,
+    pub get: Option<Boxed<Operation>>,
     /// The operation of `PUT`.
-    pub put: Option<Operation>,
+    pub put: Option<Boxed<Operation>>,
     /// The operation of `POST`.
-    pub post: Option<Operation>,
+    pub post: Option<Boxed<Operation>>,
     /// The operation of `DELETE`.
-    pub delete: Option<Operation>,
+    pub delete: Option<Boxed<Operation>>,
     /// The operation of `OPTIONS`.
-    pub options: Option<Operation>,
+    pub options: Option<Boxed<Operation>>,
     /// The operation of `HEAD`.
-    pub head: Option<Operation>,
+    pub head: Option<Boxed<Operation>>,
     /// The operation of `PATCH`.
-    pub patch: Option<Operation>,
+    pub patch: Option<Boxed<Operation>>,
     /// The operation of `TRACE`.
-    pub trace: Option<Operation>,
+    pub trace: Option<Boxed<Operation>>,
 }
 
 impl Part for Operation {
@@ -63,20 +60,13 @@ impl Part for Operation {
 
     fn to_json(&self, alloc: Global) -> Result<Json, AllocError> {
         let mut members = List::new(alloc);
-        let tags = list_unless_empty(alloc, &self.tags)?;
-        add(alloc, &mut members, "tags", tags)?;
-        let summary = option_json(alloc, &self.summary)?;
-        add(alloc, &mut members, "summary", summary)?;
-        let description = option_json(alloc, &self.description)?;
-        add(alloc, &mut members, "description", description)?;
-        let id = self.operation_id.to_json(alloc)?;
-        add(alloc, &mut members, "operationId", Some(id))?;
-        let parameters = list_unless_empty(alloc, &self.parameters)?;
-        add(alloc, &mut members, "parameters", parameters)?;
-        let body = option_json(alloc, &self.request_body)?;
-        add(alloc, &mut members, "requestBody", body)?;
-        let responses = map_unless_empty(alloc, &self.responses)?;
-        add(alloc, &mut members, "responses", responses)?;
+        add_list(alloc, &mut members, "tags", &self.tags)?;
+        add_option(alloc, &mut members, "summary", &self.summary)?;
+        add_option(alloc, &mut members, "description", &self.description)?;
+        add_part(alloc, &mut members, "operationId", &self.operation_id)?;
+        add_list(alloc, &mut members, "parameters", &self.parameters)?;
+        add_option(alloc, &mut members, "requestBody", &self.request_body)?;
+        add_map(alloc, &mut members, "responses", &self.responses)?;
         add(
             alloc,
             &mut members,
@@ -89,16 +79,23 @@ impl Part for Operation {
     }
 
     fn copy(&self, alloc: Global) -> Result<Operation, AllocError> {
+        let tags = copy_list(alloc, &self.tags)?;
+        let operation_id = self.operation_id.copy(alloc)?;
+        let parameters = copy_list(alloc, &self.parameters)?;
+        let request_body = copy_option(alloc, &self.request_body)?;
+        let responses = copy_map(alloc, &self.responses)?;
+        let pagination = copy_names(alloc, &self.pagination)?;
+        let (summary, description) = copy_pair(alloc, &self.summary, &self.description)?;
         Ok(Operation {
-            tags: copy_list(alloc, &self.tags)?,
-            summary: copy_option(alloc, &self.summary)?,
-            description: copy_option(alloc, &self.description)?,
-            operation_id: self.operation_id.copy(alloc)?,
-            parameters: copy_list(alloc, &self.parameters)?,
-            request_body: copy_option(alloc, &self.request_body)?,
-            responses: copy_map(alloc, &self.responses)?,
+            tags,
+            summary,
+            description,
+            operation_id,
+            parameters,
+            request_body,
+            responses,
             deprecated: self.deprecated,
-            pagination: copy_names(alloc, &self.pagination)?,
+            pagination,
         })
     }
 }
@@ -110,8 +107,8 @@ fn pagination(alloc: Global, names: &Option<List<Text>>) -> Result<Option<Json>,
     let Some(names) = names else {
         return Ok(None);
     };
-    let mut members = List::new(alloc);
     let names = Json::List(list_json(alloc, names)?);
+    let mut members = List::new(alloc);
     add(alloc, &mut members, "required", Some(names))?;
     Ok(Some(Json::Object(members)))
 }
@@ -132,34 +129,14 @@ impl Part for PathItem {
 
     fn to_json(&self, alloc: Global) -> Result<Json, AllocError> {
         let mut members = List::new(alloc);
-        add(alloc, &mut members, "get", option_json(alloc, &self.get)?)?;
-        add(alloc, &mut members, "put", option_json(alloc, &self.put)?)?;
-        add(alloc, &mut members, "post", option_json(alloc, &self.post)?)?;
-        add(
-            alloc,
-            &mut members,
-            "delete",
-            option_json(alloc, &self.delete)?,
-        )?;
-        add(
-            alloc,
-            &mut members,
-            "options",
-            option_json(alloc, &self.options)?,
-        )?;
-        add(alloc, &mut members, "head", option_json(alloc, &self.head)?)?;
-        add(
-            alloc,
-            &mut members,
-            "patch",
-            option_json(alloc, &self.patch)?,
-        )?;
-        add(
-            alloc,
-            &mut members,
-            "trace",
-            option_json(alloc, &self.trace)?,
-        )?;
+        add_option(alloc, &mut members, "get", &self.get)?;
+        add_option(alloc, &mut members, "put", &self.put)?;
+        add_option(alloc, &mut members, "post", &self.post)?;
+        add_option(alloc, &mut members, "delete", &self.delete)?;
+        add_option(alloc, &mut members, "options", &self.options)?;
+        add_option(alloc, &mut members, "head", &self.head)?;
+        add_option(alloc, &mut members, "patch", &self.patch)?;
+        add_option(alloc, &mut members, "trace", &self.trace)?;
         Ok(Json::Object(members))
     }
 
@@ -181,13 +158,15 @@ impl Part for PathItem {
     }
 }
 
-/// Copies of the operations of two methods.
-fn copy_pair(
+/// Copies of two parts.
+fn copy_pair<T: Part + Drop>(
     alloc: Global,
-    first: &Option<Operation>,
-    second: &Option<Operation>,
-) -> Result<(Option<Operation>, Option<Operation>), AllocError>
+    first: &Option<T>,
+    second: &Option<T>,
+) -> Result<(Option<T>, Option<T>), AllocError>
     ensures { IfOk result (λ copies. copies ≡ (first.now, second.now)) }
 {
-    Ok((copy_option(alloc, first)?, copy_option(alloc, second)?))
+    let first = copy_option(alloc, first)?;
+    let second = copy_option(alloc, second)?;
+    Ok((first, second))
 }

@@ -1,5 +1,5 @@
-use crate::objects::{add, true_json};
-use crate::part::{Part, copy_option, option_json};
+use crate::objects::{add, add_option, add_part, true_json};
+use crate::part::{Part, copy_option};
 use schema_values::{Json, List, Text};
 use std::alloc::{AllocError, Global};
 
@@ -38,15 +38,11 @@ impl Part for Parameter {
 
     fn to_json(&self, alloc: Global) -> Result<Json, AllocError> {
         let mut members = List::new(alloc);
-        let location = self.location.to_json(alloc)?;
-        add(alloc, &mut members, "in", Some(location))?;
-        let name = self.name.to_json(alloc)?;
-        add(alloc, &mut members, "name", Some(name))?;
-        let description = option_json(alloc, &self.description)?;
-        add(alloc, &mut members, "description", description)?;
+        add_part(alloc, &mut members, "in", &self.location)?;
+        add_part(alloc, &mut members, "name", &self.name)?;
+        add_option(alloc, &mut members, "description", &self.description)?;
         add(alloc, &mut members, "required", true_json(self.required))?;
-        let schema = self.schema.copy(alloc)?;
-        add(alloc, &mut members, "schema", Some(schema))?;
+        add_part(alloc, &mut members, "schema", &self.schema)?;
         Ok(Json::Object(members))
     }
 
@@ -68,13 +64,10 @@ impl Part for HeaderObject {
 
     fn to_json(&self, alloc: Global) -> Result<Json, AllocError> {
         let mut members = List::new(alloc);
-        let description = option_json(alloc, &self.description)?;
-        add(alloc, &mut members, "description", description)?;
-        let style = self.style.to_json(alloc)?;
-        add(alloc, &mut members, "style", Some(style))?;
+        add_option(alloc, &mut members, "description", &self.description)?;
+        add_part(alloc, &mut members, "style", &self.style)?;
         add(alloc, &mut members, "required", true_json(self.required))?;
-        let schema = self.schema.copy(alloc)?;
-        add(alloc, &mut members, "schema", Some(schema))?;
+        add_part(alloc, &mut members, "schema", &self.schema)?;
         Ok(Json::Object(members))
     }
 

@@ -1,7 +1,7 @@
 ghost use Rattle.std.specs.Prelude.{◌≡◌, IfOk, map, option_map};
 ghost use Rattle.openapi_values.specs.Objects.{list_unless_empty as listed, map_members, unless_empty};
 
-use schema_values::{Json, List, Member, Text};
+use schema_values::{Boxed, Json, List, Member, Text};
 use std::alloc::{AllocError, Global};
 
 /// A part of the document.
@@ -42,6 +42,18 @@ impl Part for Text {
 
     fn copy(&self, alloc: Global) -> Result<Text, AllocError> {
         self.copy(alloc)
+    }
+}
+
+impl<T: Part + Drop> Part for Boxed<T> {
+    ghost json = { T.json };
+
+    fn to_json(&self, alloc: Global) -> Result<Json, AllocError> {
+        self.get().to_json(alloc)
+    }
+
+    fn copy(&self, alloc: Global) -> Result<Boxed<T>, AllocError> {
+        Boxed::new(alloc, self.get().copy(alloc)?)
     }
 }
 

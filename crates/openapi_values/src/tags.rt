@@ -1,5 +1,5 @@
-use crate::objects::add;
-use crate::part::{Part, copy_option, option_json};
+use crate::objects::{add_option, add_part};
+use crate::part::{Part, copy_option};
 use schema_values::{Json, List, Text};
 use std::alloc::{AllocError, Global};
 
@@ -30,12 +30,9 @@ impl Part for TagObject {
 
     fn to_json(&self, alloc: Global) -> Result<Json, AllocError> {
         let mut members = List::new(alloc);
-        let name = self.name.to_json(alloc)?;
-        add(alloc, &mut members, "name", Some(name))?;
-        let description = option_json(alloc, &self.description)?;
-        add(alloc, &mut members, "description", description)?;
-        let docs = option_json(alloc, &self.external_docs)?;
-        add(alloc, &mut members, "externalDocs", docs)?;
+        add_part(alloc, &mut members, "name", &self.name)?;
+        add_option(alloc, &mut members, "description", &self.description)?;
+        add_option(alloc, &mut members, "externalDocs", &self.external_docs)?;
         Ok(Json::Object(members))
     }
 
@@ -55,10 +52,8 @@ impl Part for ExternalDocs {
 
     fn to_json(&self, alloc: Global) -> Result<Json, AllocError> {
         let mut members = List::new(alloc);
-        let description = option_json(alloc, &self.description)?;
-        add(alloc, &mut members, "description", description)?;
-        let url = self.url.to_json(alloc)?;
-        add(alloc, &mut members, "url", Some(url))?;
+        add_option(alloc, &mut members, "description", &self.description)?;
+        add_part(alloc, &mut members, "url", &self.url)?;
         Ok(Json::Object(members))
     }
 

@@ -11,13 +11,13 @@ abbrev pub is_short : Option ℕ → Bool
 is_short None = true
 is_short (Some length) = nat_le length 4294967295
 
--- the lengths of a text or a list are
+-- the lengths of a text or a list are below 2^32, where they are given
 abbrev pub are_lengths_short : DescLevel → Bool
 are_lengths_short (Desc-F.Text min max format) = is_short min && is_short max
 are_lengths_short (Desc-F.List x min max) = is_short min && is_short max
 are_lengths_short _ = true
 
--- so are those of one descriptor
+-- the lengths that a descriptor itself gives are below 2^32
 abbrev pub IsShort : Desc → Type 0
 IsShort d = IsTrue (are_lengths_short (out-Desc d))
 
@@ -25,6 +25,6 @@ IsShort d = IsTrue (are_lengths_short (out-Desc d))
 abbrev pub HasShortLengths : Desc → Type 0
 HasShortLengths desc = (d : Desc) → StandsIn desc d → IsShort d
 
--- so is each length in a table
+-- each length of each descriptor that stands in a table is below 2^32
 abbrev pub TableHasShortLengths : List Definition → Type 0
 TableHasShortLengths table = (e : Definition) → Contains table e → HasShortLengths e.desc

@@ -1,5 +1,6 @@
 pub mod Definitions
 pub mod Index
+pub mod Slots
 pub mod Adding
 pub mod Bounds
 pub mod Faults

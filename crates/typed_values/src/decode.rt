@@ -1,10 +1,12 @@
 ghost use Rattle.std.specs.Prelude.{◌≤◌, length, IfOk, IfErr};
+ghost use Rattle.std.specs.Option.{option_copied};
 ghost use Rattle.schema_values.specs.Sound.{IsSound};
 ghost use Rattle.schema_values.specs.declared.json_value.Json.{out-Json};
 ghost use Rattle.typed_values.specs.declared.tree.Tree.{Tree};
 ghost use Rattle.typed_values.specs.Answer.{Tells, IfFault, IsFaultOf};
 ghost use Rattle.typed_values.specs.Checks.{TablePasses, DescPasses};
-ghost use Rattle.typed_values.specs.Denotes.{JsonDenotes, told, as_tree, items_told, entries_told};
+ghost use Rattle.typed_values.specs.Denotes as denotes;
+ghost use Rattle.typed_values.specs.Denotes.{JsonDenotes, Told, told, as_tree, items_told, entries_told};
 ghost use Rattle.typed_values.specs.Denotes.{first_told, if_absent, optional};
 ghost use Rattle.typed_values.specs.Fits.{Fits};
 ghost use Rattle.typed_values.specs.Parts.{IsPart};
@@ -19,7 +21,8 @@ use crate::scalars::{decode_bool, decode_char, decode_int, decode_name, decode_n
 use crate::scope::Decoder;
 use crate::table::DescTable;
 use crate::tree::{Pair, Tree};
-use schema_values::{Boxed, Json, List, Member, in_order};
+use crate::wrapped::{some, variant};
+use schema_values::{Json, List, Member, Text, in_order};
 use std::alloc::Global;
 
 /// Decodes a value under a descriptor: the tree that it denotes, or the fault that is told first.
@@ -41,6 +44,21 @@ pub fn decode_json(
     match Decoder::new(table, desc).decode_at(alloc, desc, json) {
         Ok(tree) => Ok(tree),
         Err(stop) => Err(stop.into_error(alloc)),
+    }
+}
+
+/// The answer, unless it is a tree and a name is denied.
+fn unless_denied(
+    alloc: Global,
+    denied: Option<&Text>,
+    answer: Result<Tree, Stop>,
+) -> Result<Tree, Stop>
+    ensures { (told : Told) → Tells answer told
+        → Tells result (denotes.unless_denied (option_copied denied.entry) told) }
+{
+    match (denied, answer) {
+        (Some(name), Ok(_)) => Err(Stop::unknown(alloc, name)),
+        (_, answer) => answer,
     }
 }
 
@@ -92,10 +110,7 @@ impl Decoder<'_> {
     {
         match json {
             Json::Null => Ok(Tree::None),
-            _ => {
-                let tree = self.decode_at(alloc, inner, json)?;
-                Ok(Tree::Some(Boxed::new(alloc, tree)?))
-            }
+            _ => some(alloc, self.decode_at(alloc, inner, json)?),
         }
     }
 
@@ -166,8 +181,9 @@ impl Decoder<'_> {
         ensures { Tells result (entries_told
             (λ json. told self.now.table.now self.now.whole.now json value.now) members.now) }
     {
+        let ordered = in_order(alloc, members)?;
         let mut pairs = List::new(alloc);
-        for member in in_order(alloc, members)?.iter() {
+        for member in ordered.iter() {
             pairs.push(self.decode_pair(alloc, value, member)?)?;
         }
         Ok(Tree::Map(pairs))
@@ -180,12 +196,10 @@ impl Decoder<'_> {
         ensures { Tells result
             (told_entry self.now.table.now self.now.whole.now value.now member.now) }
     {
+        let key = member.name.copy(alloc)?;
         match self.decode_at(alloc, value, &member.value) {
-            Ok(value) => Ok(Pair {
-                key: member.name.copy(alloc)?,
-                value,
-            }),
-            Err(stop) => Err(stop.below(Place::Name(member.name.copy(alloc)?))),
+            Ok(value) => Ok(Pair { key, value }),
+            Err(stop) => Err(stop.below(Place::Name(key))),
         }
     }
 
@@ -224,14 +238,8 @@ impl Decoder<'_> {
             (told_struct self.now.table.now self.now.whole.now fields.now deny_unknown members.now) }
     {
         let members = Members::new(alloc, members)?;
-        let tree = self.decode_fields(alloc, fields, &members)?;
-        match members.denied_name(alloc, deny_unknown, fields)? {
-            Some(name) => {
-                let unknown = FaultKind::Unknown(name.copy(alloc)?);
-                Err(Stop::refused(alloc, unknown))
-            }
-            None => Ok(tree),
-        }
+        let denied = members.denied_name(alloc, deny_unknown, fields)?;
+        unless_denied(alloc, denied, self.decode_fields(alloc, fields, &members))
     }
 
     /// Decodes each field in order.
@@ -265,11 +273,11 @@ impl Decoder<'_> {
         };
         let tree = match self.decode_at(alloc, &field.desc, json) {
             Ok(tree) => tree,
-            Err(stop) => return Err(stop.below(Place::Name(field.name.copy(alloc)?))),
+            Err(stop) => return Err(stop.below_name(alloc, &field.name)),
         };
         match &field.presence {
             Presence::Required | Presence::Nullable | Presence::Default(_) => Ok(tree),
-            Presence::Skipped => Ok(Tree::Some(Boxed::new(alloc, tree)?)),
+            Presence::Skipped => some(alloc, tree),
         }
     }
 
@@ -278,10 +286,7 @@ impl Decoder<'_> {
         ensures { Tells result (if_absent field.now.presence field.now.name) }
     {
         match &field.presence {
-            Presence::Required => {
-                let missing = FaultKind::Missing(field.name.copy(alloc)?);
-                Err(Stop::refused(alloc, missing))
-            }
+            Presence::Required => Err(Stop::missing(alloc, &field.name)),
             Presence::Nullable | Presence::Skipped => Ok(Tree::None),
             Presence::Default(tree) => Ok(tree.copy(alloc)?),
         }
@@ -302,7 +307,7 @@ impl Decoder<'_> {
     {
         for (i, alternative) in alternatives.iter().enumerate() {
             match self.decode_at(alloc, alternative, json) {
-                Ok(tree) => return Ok(Tree::Variant(i as u32, Boxed::new(alloc, tree)?)),
+                Ok(tree) => return variant(alloc, i, tree),
                 Err(Stop::Misfit(_)) => {}
                 Err(Stop::OutOfMemory) => return Err(Stop::OutOfMemory),
             }

@@ -9,12 +9,13 @@ ghost use Rattle.typed_values.specs.Rows.{struct_row, told_struct, ArePayloadsOf
 ghost use Rattle.typed_values.specs.declared.fault.FaultKind.TheVariants.{NotListed};
 
 use crate::desc::{TaggedVariant, Variant};
-use crate::fault::{FaultKind, Place, Stop};
+use crate::fault::{FaultKind, Stop};
 use crate::members::Members;
 use crate::order::find_named;
 use crate::scope::Decoder;
 use crate::tree::Tree;
-use schema_values::{Boxed, Json, Member, Text};
+use crate::wrapped::variant;
+use schema_values::{Json, Member, Text};
 use std::alloc::Global;
 
 /// Decodes a variant by its name alone.
@@ -24,9 +25,7 @@ fn decode_bare(alloc: Global, variants: &[Variant], name: &Text) -> Result<Tree,
         (named_from variant_name 0 variants.now name.now)) }
 {
     match find_named(variants, name) {
-        Some((place, Variant { payload: None, .. })) => {
-            Ok(Tree::Variant(place as u32, Boxed::new(alloc, Tree::Unit)?))
-        }
+        Some((place, Variant { payload: None, .. })) => variant(alloc, place, Tree::Unit),
         _ => Err(Stop::refused(alloc, FaultKind::NotListed)),
     }
 }
@@ -70,15 +69,15 @@ impl Decoder<'_> {
             (with_payload (told self.now.table.now self.now.whole.now member.now.value))
             (named_from variant_name 0 variants.now member.now.name)) }
     {
-        let Some((place, variant)) = find_named(variants, &member.name) else {
+        let Some((place, chosen)) = find_named(variants, &member.name) else {
             return Err(Stop::refused(alloc, FaultKind::NotListed));
         };
-        let Some(payload) = &variant.payload else {
+        let Some(payload) = &chosen.payload else {
             return Err(Stop::refused(alloc, FaultKind::NotListed));
         };
         match self.decode_at(alloc, payload, &member.value) {
-            Ok(tree) => Ok(Tree::Variant(place as u32, Boxed::new(alloc, tree)?)),
-            Err(stop) => Err(stop.below(Place::Name(member.name.copy(alloc)?))),
+            Ok(tree) => variant(alloc, place, tree),
+            Err(stop) => Err(stop.below_name(alloc, &member.name)),
         }
     }
 
@@ -103,7 +102,7 @@ impl Decoder<'_> {
         let members = Members::new(alloc, members.as_slice())?;
         match members.value_named(tag) {
             Some(name) => self.decode_variant(alloc, tag, variants, name, &members),
-            None => Err(Stop::refused(alloc, FaultKind::Missing(tag.copy(alloc)?))),
+            None => Err(Stop::missing(alloc, tag)),
         }
     }
 
@@ -124,16 +123,12 @@ impl Decoder<'_> {
             (tagged_fields variant) false members.now.items.now)) variants.now name.now) }
     {
         let Json::Text(name) = name else {
-            return Err(Stop::refused(alloc, FaultKind::WrongKind).below(Place::Name(tag.copy(
-                alloc,
-            )?)));
+            return Err(Stop::refused(alloc, FaultKind::WrongKind).below_name(alloc, tag));
         };
-        let Some((place, variant)) = find_named(variants, name) else {
-            return Err(Stop::refused(alloc, FaultKind::NotListed).below(Place::Name(tag.copy(
-                alloc,
-            )?)));
+        let Some((place, chosen)) = find_named(variants, name) else {
+            return Err(Stop::refused(alloc, FaultKind::NotListed).below_name(alloc, tag));
         };
-        let tree = self.decode_fields(alloc, variant.fields.as_slice(), members)?;
-        Ok(Tree::Variant(place as u32, Boxed::new(alloc, tree)?))
+        let tree = self.decode_fields(alloc, chosen.fields.as_slice(), members)?;
+        variant(alloc, place, tree)
     }
 }

@@ -129,7 +129,7 @@ pub struct Field {
     pub name: Text,
     /// The descriptor of its values.
     pub desc: Desc,
-    /// What stands for it where it is absent.
+    /// Whether it may be absent, and what it is then.
     pub presence: Presence,
     /// What a document says of it.
     pub description: Option<Text>,
@@ -254,11 +254,15 @@ impl Field {
     pub fn copy(&self, alloc: Global) -> Result<Field, AllocError>
         ensures { IfOk result (λ copy. copy ≡ self.now) }
     {
+        let name = self.name.copy(alloc)?;
+        let description = copy_text(alloc, &self.description)?;
+        let presence = self.presence.copy(alloc)?;
+        let desc = self.desc.copy(alloc)?;
         Ok(Field {
-            name: self.name.copy(alloc)?,
-            desc: self.desc.copy(alloc)?,
-            presence: self.presence.copy(alloc)?,
-            description: copy_text(alloc, &self.description)?,
+            name,
+            desc,
+            presence,
+            description,
         })
     }
 }

@@ -31,6 +31,7 @@ mod scope;
 mod search;
 mod table;
 mod tree;
+mod wrapped;
 
 pub use check::{TableError, check_desc, check_table};
 pub use decode::decode_json;

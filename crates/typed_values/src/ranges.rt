@@ -43,6 +43,7 @@ fn is_bound_of(kind: IntKind, bound: &Option<i128>) -> bool
     }
 }
 
+// A length is below 2^32 by its type.
 fn is_length_order(min: Option<u32>, max: Option<u32>) -> bool
     ensures order { result ≡ checks.is_length_order min max }
     ensures least { IsTrue (is_short min) }

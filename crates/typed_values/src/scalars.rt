@@ -8,7 +8,8 @@ use crate::desc::{IntKind, Named};
 use crate::fault::{FaultKind, Stop};
 use crate::order::find_named;
 use crate::tree::Tree;
-use schema_values::{Boxed, Json};
+use crate::wrapped::variant;
+use schema_values::Json;
 use std::alloc::Global;
 
 pub(crate) fn decode_null(alloc: Global, json: &Json) -> Result<Tree, Stop>
@@ -36,7 +37,7 @@ pub(crate) fn decode_name(alloc: Global, names: &[Named], json: &Json) -> Result
 {
     match json {
         Json::Text(text) => match find_named(names, text) {
-            Some((place, _)) => Ok(Tree::Variant(place as u32, Boxed::new(alloc, Tree::Unit)?)),
+            Some((place, _)) => variant(alloc, place, Tree::Unit),
             None => Err(Stop::refused(alloc, FaultKind::NotListed)),
         },
         _ => Err(Stop::refused(alloc, FaultKind::WrongKind)),

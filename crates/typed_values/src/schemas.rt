@@ -200,9 +200,10 @@ pub(crate) fn property(
 ) -> Result<Property, AllocError>
     ensures { IfOk result (λ property. property ≡ meant.property name.now (out-SchemaObject parts)) }
 {
+    let schema = object_of(alloc, parts)?;
     Ok(Property {
         name: name.copy(alloc)?,
-        schema: object_of(alloc, parts)?,
+        schema,
     })
 }
 

@@ -13,7 +13,7 @@ use crate::table::DescTable;
 pub(crate) struct Scope<'a> {
     pub table: &'a DescTable,
     pub whole: &'a Desc,
-    ghost sound: { AllRest table.now whole.now } by { once_all_rest table.now whole.now },
+    ghost all_rest: { AllRest table.now whole.now } by { once_all_rest table.now whole.now },
 }
 
 impl<'a> Scope<'a> {
@@ -31,7 +31,7 @@ impl<'a> Scope<'a> {
 pub(crate) struct Decoder<'a> {
     pub table: &'a DescTable,
     pub whole: &'a Desc,
-    ghost sound: { AllRest table.now whole.now } by { once_all_rest table.now whole.now },
+    ghost all_rest: { AllRest table.now whole.now } by { once_all_rest table.now whole.now },
     ghost ranged: { AreRangesRight table.now whole.now },
 }
 

@@ -1,10 +1,12 @@
 ghost use Rattle.std.specs.Prelude.{◌≡◌, ◌≤◌, ◌↔◌, [], length, map, Some, None, IsNone, IfSome, IfOk, IfErr};
-ghost use Rattle.std.specs.Prelude.{OnErr, IsTrue, slice_get};
+ghost use Rattle.std.specs.Prelude.{◌<◌, Ok, OnErr, IfNone, IsTrue, slice_get, vec_len, vec_capacity};
 ghost use Rattle.std.specs.Option.{option_copied};
 ghost use Rattle.std.specs.Str.{chars};
 ghost use Rattle.schema_values.specs.Sound.{AreDistinct};
 ghost use Rattle.typed_values.specs.Definitions.{definition, definition_with, entry_of, definition_name};
 ghost use Rattle.typed_values.specs.Adding.{Adds, IsRefused};
+ghost use Rattle.typed_values.specs.Index.{IsTable};
+ghost use Rattle.typed_values.specs.Slots.{IsSlotFor};
 
 use crate::desc::Desc;
 use crate::equal::same_text;
@@ -205,28 +207,22 @@ impl DescTable {
             (definition_with (chars name.now) description desc)) }
         ensures err { OnErr result (self.new ≡ self.old) }
     {
-        match search_places(self.definitions.as_slice(), self.places.as_slice(), name) {
-            Ok(entry) => {
-                if entry.says(&description, &desc) {
-                    Ok(Added::Same)
-                } else {
-                    Err(AddError::Clash(Text::from_str(self.alloc, name)?))
-                }
-            }
-            Err(gap) => {
-                let name = Text::from_str(self.alloc, name)?;
-                let place = self.definitions.len();
-                self.places.reserve(1)?;
-                self.definitions.push(Definition {
-                    name,
-                    description,
-                    desc,
-                })?;
-                match self.places.insert(gap, place) {
-                    Ok(()) => Ok(Added::New),
-                    Err(_) => unreachable!(),
-                }
-            }
+        let definitions = self.definitions.as_slice();
+        let place = definitions.len();
+        let places = &mut self.places;
+        let found = slot_for(self.alloc, definitions, places, name, &description, &desc)?;
+        let Some(slot) = found else {
+            return Ok(Added::Same);
+        };
+        let definition = Definition {
+            name: slot.name,
+            description,
+            desc,
+        };
+        self.definitions.push(definition)?;
+        match self.places.insert(slot.gap, place) {
+            Ok(()) => Ok(Added::New),
+            Err(_) => unreachable!(),
         }
     }
 
@@ -243,5 +239,51 @@ impl DescTable {
             places: Vec::from_slice(alloc, self.places.as_slice())?,
             alloc,
         })
+    }
+}
+
+/// A new name, and the gap into which its place goes.
+#[derive(Drop)]
+struct Slot {
+    name: Text,
+    gap: usize,
+}
+
+/// A slot for a definition, with room for its place. There is none where the definition is there already.
+fn slot_for(
+    alloc: Global,
+    definitions: &[Definition],
+    places: &mut Vec<usize>,
+    name: &str,
+    description: &Option<Text>,
+    desc: &Desc,
+) -> Result<Option<Slot>, AddError>
+    requires { IsTable definitions.now places.old.items }
+    ensures kept { places.new.items ≡ places.old.items }
+    ensures slot { IfOk result (λ slot. IfSome slot
+        (IsSlotFor definitions.now places.new.items (chars name.now))) }
+    ensures room { IfOk result (λ slot. IfSome slot
+        (λ s. vec_len places.new < vec_capacity places.new)) }
+    ensures there { IfOk result (λ slot. IfNone slot (entry_of definitions.now (chars name.now) ≡ Some
+        (definition_with (chars name.now) description.now desc.now))) }
+    ensures same { entry_of definitions.now (chars name.now) ≡ Some
+        (definition_with (chars name.now) description.now desc.now)
+        → result ≡ Ok None }
+    ensures refused { IfErr result (IsRefused definitions.now
+        (definition_with (chars name.now) description.now desc.now)) }
+{
+    match search_places(definitions, places.as_slice(), name) {
+        Ok(entry) => {
+            if entry.says(description, desc) {
+                Ok(None)
+            } else {
+                Err(AddError::Clash(Text::from_str(alloc, name)?))
+            }
+        }
+        Err(gap) => {
+            let name = Text::from_str(alloc, name)?;
+            places.reserve(1)?;
+            Ok(Some(Slot { name, gap }))
+        }
     }
 }

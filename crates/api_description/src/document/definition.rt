@@ -7,7 +7,7 @@ ghost use Rattle.line_session.specs.Parts.{AppendsPart};
 ghost use Rattle.schema_values.specs.Sound.{IsSound};
 ghost use Rattle.semver.specs.Identifiers.{parts_of};
 ghost use Rattle.api_description.specs.Endpoints.{boxed};
-ghost use Rattle.api_description.specs.Documents.{document_of, document_text};
+ghost use Rattle.api_description.specs.Documents.{document_of, document_text, info_of, open_api_of};
 ghost use Rattle.api_description.specs.Registering.{AreAccepted};
 
 use crate::api_respond::RouteHandler;
@@ -78,23 +78,46 @@ impl OpenApiDefinition<'_> {
             self.now.title (parts_of self.now.version)) }
         ensures sound { IfOk result IsSound }
     {
-        let endpoints = self.api.endpoints();
-        let tags = List::new(alloc);
-        let document = OpenApi {
-            openapi: Text::from_ascii(alloc, "3.0.3")?,
-            info: Info {
-                title: self.title.copy(alloc)?,
-                description: None,
-                terms_of_service: None,
-                contact: None,
-                license: None,
-                version: Text::from_string(self.version.to_string(alloc)?),
-            },
-            paths: paths(alloc, endpoints, &self.version)?,
-            components: components(alloc, endpoints, &self.version)?,
-            tags,
-        };
+        let document = self.document(alloc)?;
         document.to_json(alloc)
+    }
+
+    /// The document, of a value for each of its parts.
+    fn document(&self, alloc: Global) -> Result<OpenApi, AllocError>
+        requires { AreAccepted
+            (boxed ⟦<dyn RouteHandler as RouteHandler>⟧) [] self.now.api.now.endpoints.items }
+        ensures { IfOk result (λ document. document ≡ open_api_of
+            (boxed ⟦<dyn RouteHandler as RouteHandler>⟧) self.now.api.now.endpoints.items
+            self.now.title (parts_of self.now.version)) }
+    {
+        let endpoints = self.api.endpoints();
+        let paths = paths(alloc, endpoints, &self.version)?;
+        let components = components(alloc, endpoints, &self.version)?;
+        let openapi = Text::from_ascii(alloc, "3.0.3")?;
+        let info = self.info(alloc)?;
+        let tags = List::new(alloc);
+        Ok(OpenApi {
+            openapi,
+            info,
+            paths,
+            components,
+            tags,
+        })
+    }
+
+    fn info(&self, alloc: Global) -> Result<Info, AllocError>
+        ensures { IfOk result (λ info. info ≡ info_of self.now.title (parts_of self.now.version)) }
+    {
+        let title = self.title.copy(alloc)?;
+        let version = Text::from_string(self.version.to_string(alloc)?);
+        Ok(Info {
+            title,
+            description: None,
+            terms_of_service: None,
+            contact: None,
+            license: None,
+            version,
+        })
     }
 
     /// The pretty text of the document and a newline.

@@ -18,7 +18,7 @@ use crate::endpoint::{ApiEndpoint, endpoint_for};
 use crate::template::without_trailing_slash;
 use http::StatusCode;
 use openapi_values::{MediaType, Operation, PathItem, RequestBody, ResponseObject};
-use schema_values::{List, Text};
+use schema_values::{Boxed, List, Text};
 use semver::Version;
 use std::alloc::{AllocError, Global};
 use std::collections::BTreeSet;
@@ -76,59 +76,36 @@ fn path_item(
         (boxed ⟦<dyn RouteHandler as RouteHandler>⟧) (parts_of version.now) endpoints.now
         template.now) }
 {
-    let (get, put) = operations(alloc, endpoints, version, template, "GET", "PUT")?;
-    let (post, delete) = operations(alloc, endpoints, version, template, "POST", "DELETE")?;
-    let (options, head) = operations(alloc, endpoints, version, template, "OPTIONS", "HEAD")?;
-    let (patch, trace) = operations(alloc, endpoints, version, template, "PATCH", "TRACE")?;
     Ok(PathItem {
-        get,
-        put,
-        post,
-        delete,
-        options,
-        head,
-        patch,
-        trace,
+        get: operation(alloc, endpoints, version, template, "GET")?,
+        put: operation(alloc, endpoints, version, template, "PUT")?,
+        post: operation(alloc, endpoints, version, template, "POST")?,
+        delete: operation(alloc, endpoints, version, template, "DELETE")?,
+        options: operation(alloc, endpoints, version, template, "OPTIONS")?,
+        head: operation(alloc, endpoints, version, template, "HEAD")?,
+        patch: operation(alloc, endpoints, version, template, "PATCH")?,
+        trace: operation(alloc, endpoints, version, template, "TRACE")?,
     })
 }
 
-// The operations of two methods.
-fn operations(
-    alloc: Global,
-    endpoints: &[ApiEndpoint],
-    version: &Version,
-    template: &Text,
-    first: &str,
-    second: &str,
-) -> Result<(Option<Operation>, Option<Operation>), AllocError>
-    requires { HavePassingTables (boxed ⟦<dyn RouteHandler as RouteHandler>⟧) endpoints.now }
-    ensures { IfOk result (λ pair. pair ≡ (
-      operation_at
-          (boxed ⟦<dyn RouteHandler as RouteHandler>⟧) (parts_of version.now) endpoints.now
-          template.now first.now,
-      operation_at (boxed ⟦<dyn RouteHandler as RouteHandler>⟧)
-          (parts_of version.now) endpoints.now template.now second.now,
-    )) }
-{
-    let first = operation(alloc, endpoints, version, template, first)?;
-    let second = operation(alloc, endpoints, version, template, second)?;
-    Ok((first, second))
-}
-
+// The operation of a method.
 fn operation(
     alloc: Global,
     endpoints: &[ApiEndpoint],
     version: &Version,
     template: &Text,
     method: &str,
-) -> Result<Option<Operation>, AllocError>
+) -> Result<Option<Boxed<Operation>>, AllocError>
     requires { HavePassingTables (boxed ⟦<dyn RouteHandler as RouteHandler>⟧) endpoints.now }
     ensures { IfOk result (λ operation. operation ≡ operation_at
         (boxed ⟦<dyn RouteHandler as RouteHandler>⟧) (parts_of version.now) endpoints.now
         template.now method.now) }
 {
     match endpoint_for(endpoints, version, method, template.as_str()) {
-        Some(endpoint) => Ok(Some(operation_of(alloc, endpoint)?)),
+        Some(endpoint) => {
+            let operation = operation_of(alloc, endpoint)?;
+            Ok(Some(Boxed::new(alloc, operation)?))
+        }
         None => Ok(None),
     }
 }

@@ -1,4 +1,4 @@
-use Rattle.std.proofs.Common.{Some, codes, option_map, ap}
+use Rattle.std.proofs.Common.{Some, codes, option_map, refl}
 use Rattle.schema_values.specs.declared.json_value.Json.{Text}
 use Rattle.openapi_values.specs.IfTrue.{if_true}
 use Rattle.openapi_values.specs.Parameters.{parameter_json}
@@ -9,8 +9,8 @@ pub returns : goal.returns
 unfolding parameter_json
 returns c =
     let p = c.args.self.now in
-    let written_1 = first (codes "in") (Some (Text p.location)) _ _ _ c.in_ok-add.ensures (ap Some c.in_ok-location.ensures) in
-    let written_2 = added written_1 (codes "name") (Some (Text p.name)) _ _ c.in_ok-add-2.ensures (ap Some c.in_ok-name.ensures) in
-    let written_3 = added written_2 (codes "description") (option_map Text p.description) _ _ c.in_ok-add-3.ensures c.in_ok-description.ensures in
-    let written_4 = added written_3 (codes "required") (if_true p.required) _ _ c.in_ok-add-4.ensures c.true_json.ensures in
-    object c.new-members.ensures (added written_4 (codes "schema") (Some p.schema) _ _ c.in_ok-add-5.ensures (ap Some c.in_ok-schema.ensures))
+    let written_1 = first (codes "in") (Some (Text p.location)) _ _ _ c.in_ok-add_part.ensures refl in
+    let written_2 = added written_1 (codes "name") (Some (Text p.name)) _ _ c.in_ok-add_part-2.ensures refl in
+    let written_3 = added written_2 (codes "description") (option_map Text p.description) _ _ c.in_ok-add_option.ensures refl in
+    let written_4 = added written_3 (codes "required") (if_true p.required) _ _ c.in_ok-add.ensures c.true_json.ensures in
+    object c.new-members.ensures (added written_4 (codes "schema") (Some p.schema) _ _ c.in_ok-add_part-3.ensures refl)

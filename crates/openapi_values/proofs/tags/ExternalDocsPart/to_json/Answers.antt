@@ -1,4 +1,4 @@
-use Rattle.std.proofs.Common.{Some, codes, option_map, ap}
+use Rattle.std.proofs.Common.{Some, codes, option_map, refl}
 use Rattle.schema_values.specs.declared.json_value.Json.{Text}
 use Rattle.openapi_values.proofs.ObjectLemmas.{first, added, object}
 use Rattle.openapi_values.proofs.tags.ExternalDocsPart.to_json.Goals as goal
@@ -6,5 +6,5 @@ use Rattle.openapi_values.proofs.tags.ExternalDocsPart.to_json.Goals as goal
 pub returns : goal.returns
 returns c =
     let docs = c.args.self.now in
-    let written_1 = first (codes "description") (option_map Text docs.description) _ _ _ c.in_ok-add.ensures c.in_ok-description.ensures in
-    object c.new-members.ensures (added written_1 (codes "url") (Some (Text docs.url)) _ _ c.in_ok-add-2.ensures (ap Some c.in_ok-url.ensures))
+    let written_1 = first (codes "description") (option_map Text docs.description) _ _ _ c.in_ok-add_option.ensures refl in
+    object c.new-members.ensures (added written_1 (codes "url") (Some (Text docs.url)) _ _ c.in_ok-add_part.ensures refl)

@@ -36,40 +36,40 @@ lent refs = map (λ member. member.now) refs
 pub decode_at-decode_option-requires : goal.decode_at-decode_option-requires
 decode_at-decode_option-requires t c =
     let d = c.args.desc.now in
-    let less = option-lt c.args.self.now.table.now c.args.self.now.whole.now (size-Json c.args.json.now) d (c.args.self.now.sound d c.requires) c.in-Option.inner c.in-Option.is in
+    let less = option-lt c.args.self.now.table.now c.args.self.now.whole.now (size-Json c.args.json.now) d (c.args.self.now.all_rest d c.requires) c.in-Option.inner c.in-Option.is in
     let part = part_of_option c.requires c.in-Option.inner c.in-Option.is in
     rw c.get.ensures (omega (arith, c.decreases, less), part)
 
 pub decode_at-returns-in-Option : goal.decode_at-returns-in-Option
-decode_at-returns-in-Option t c = rw (row_option _ _ c.args.json.now c.args.desc.now (c.args.self.now.sound _ c.requires) c.in-Option.inner c.in-Option.is, ← c.get.ensures) c.decode_option.ensures
+decode_at-returns-in-Option t c = rw (row_option _ _ c.args.json.now c.args.desc.now (c.args.self.now.all_rest _ c.requires) c.in-Option.inner c.in-Option.is, ← c.get.ensures) c.decode_option.ensures
 
 pub decode_at-returns-in_ok-copy-in-Any : goal.decode_at-returns-in_ok-copy-in-Any
-decode_at-returns-in_ok-copy-in-Any t c = rw (row_any _ _ c.args.json.now c.args.desc.now (c.args.self.now.sound _ c.requires) c.in-Any.is, c.in_ok-copy-in-Any.ensures) refl
+decode_at-returns-in_ok-copy-in-Any t c = rw (row_any _ _ c.args.json.now c.args.desc.now (c.args.self.now.all_rest _ c.requires) c.in-Any.is, c.in_ok-copy-in-Any.ensures) refl
 
 pub decode_at-returns-in-Never : goal.decode_at-returns-in-Never
-decode_at-returns-in-Never t c = rw (row_never _ _ c.args.json.now c.args.desc.now (c.args.self.now.sound _ c.requires) c.in-Never.is) c.refused.ensures
+decode_at-returns-in-Never t c = rw (row_never _ _ c.args.json.now c.args.desc.now (c.args.self.now.all_rest _ c.requires) c.in-Never.is) c.refused.ensures
 
 pub decode_at-returns-in-Null : goal.decode_at-returns-in-Null
-decode_at-returns-in-Null t c = rw (row_nought _ _ c.args.json.now c.args.desc.now (c.args.self.now.sound _ c.requires) c.in-Null.is) c.decode_null.ensures
+decode_at-returns-in-Null t c = rw (row_nought _ _ c.args.json.now c.args.desc.now (c.args.self.now.all_rest _ c.requires) c.in-Null.is) c.decode_null.ensures
 
 pub decode_at-returns-in-Char : goal.decode_at-returns-in-Char
-decode_at-returns-in-Char t c = rw (row_char _ _ c.args.json.now c.args.desc.now (c.args.self.now.sound _ c.requires) c.in-Char.is) c.decode_char.ensures
+decode_at-returns-in-Char t c = rw (row_char _ _ c.args.json.now c.args.desc.now (c.args.self.now.all_rest _ c.requires) c.in-Char.is) c.decode_char.ensures
 
 pub decode_at-decode_name-requires : goal.decode_at-decode_name-requires
 decode_at-decode_name-requires t c = rw c.as_slice.ensures (record { few = few_names c.requires c.args.self.now.ranged c.in-Enumeration.names c.in-Enumeration.is })
 
 pub decode_at-returns-in-Enumeration : goal.decode_at-returns-in-Enumeration
 decode_at-returns-in-Enumeration t c =
-    rw (row_enumeration _ _ c.args.json.now c.args.desc.now (c.args.self.now.sound _ c.requires) c.in-Enumeration.names c.in-Enumeration.is, ← c.as_slice.ensures) c.decode_name.ensures
+    rw (row_enumeration _ _ c.args.json.now c.args.desc.now (c.args.self.now.all_rest _ c.requires) c.in-Enumeration.names c.in-Enumeration.is, ← c.as_slice.ensures) c.decode_name.ensures
 
 pub decode_at-returns-in-Bool : goal.decode_at-returns-in-Bool
-decode_at-returns-in-Bool t c = rw (row_bool _ _ c.args.json.now c.args.desc.now (c.args.self.now.sound _ c.requires) c.in-Bool.is) c.decode_bool.ensures
+decode_at-returns-in-Bool t c = rw (row_bool _ _ c.args.json.now c.args.desc.now (c.args.self.now.all_rest _ c.requires) c.in-Bool.is) c.decode_bool.ensures
 
 pub decode_at-returns-in-Int : goal.decode_at-returns-in-Int
-decode_at-returns-in-Int t c = rw (row_int _ _ c.args.json.now c.args.desc.now (c.args.self.now.sound _ c.requires) c.in-Int.kind c.in-Int.min c.in-Int.max c.in-Int.is) c.decode_int.ensures
+decode_at-returns-in-Int t c = rw (row_int _ _ c.args.json.now c.args.desc.now (c.args.self.now.all_rest _ c.requires) c.in-Int.kind c.in-Int.min c.in-Int.max c.in-Int.is) c.decode_int.ensures
 
 pub decode_at-returns-in-Text : goal.decode_at-returns-in-Text
-decode_at-returns-in-Text t c = rw (row_text _ _ c.args.json.now c.args.desc.now (c.args.self.now.sound _ c.requires) c.in-Text.min c.in-Text.max _ c.in-Text.is) c.decode_text.ensures
+decode_at-returns-in-Text t c = rw (row_text _ _ c.args.json.now c.args.desc.now (c.args.self.now.all_rest _ c.requires) c.in-Text.min c.in-Text.max _ c.in-Text.is) c.decode_text.ensures
 
 pub decode_at-decode_list-requires : goal.decode_at-decode_list-requires
 decode_at-decode_list-requires t c =
@@ -78,7 +78,7 @@ decode_at-decode_list-requires t c =
 
 pub decode_at-returns-in-List : goal.decode_at-returns-in-List
 decode_at-returns-in-List t c =
-    rw (row_list _ _ c.args.json.now c.args.desc.now (c.args.self.now.sound _ c.requires) c.in-List.item c.in-List.min c.in-List.max c.in-List.is, ← c.get-in-List.ensures) c.decode_list.ensures
+    rw (row_list _ _ c.args.json.now c.args.desc.now (c.args.self.now.all_rest _ c.requires) c.in-List.item c.in-List.min c.in-List.max c.in-List.is, ← c.get-in-List.ensures) c.decode_list.ensures
 
 pub decode_at-decode_map-requires : goal.decode_at-decode_map-requires
 decode_at-decode_map-requires t c =
@@ -86,7 +86,7 @@ decode_at-decode_map-requires t c =
     (omega (arith, c.decreases, less), rw c.get-in-Map.ensures (part_of_map c.requires c.in-Map.value c.in-Map.is))
 
 pub decode_at-returns-in-Map : goal.decode_at-returns-in-Map
-decode_at-returns-in-Map t c = rw (row_map _ _ c.args.json.now c.args.desc.now (c.args.self.now.sound _ c.requires) c.in-Map.value c.in-Map.is, ← c.get-in-Map.ensures) c.decode_map.ensures
+decode_at-returns-in-Map t c = rw (row_map _ _ c.args.json.now c.args.desc.now (c.args.self.now.all_rest _ c.requires) c.in-Map.value c.in-Map.is, ← c.get-in-Map.ensures) c.decode_map.ensures
 
 pub decode_at-decode_struct-requires : goal.decode_at-decode_struct-requires
 decode_at-decode_struct-requires t c =
@@ -95,7 +95,7 @@ decode_at-decode_struct-requires t c =
 
 pub decode_at-returns-in-Struct : goal.decode_at-returns-in-Struct
 decode_at-returns-in-Struct t c =
-    rw (row_struct _ _ c.args.json.now c.args.desc.now (c.args.self.now.sound _ c.requires) c.in-Struct.fields c.in-Struct.deny_unknown c.in-Struct.is, ← c.as_slice-in-Struct.ensures) c.decode_struct.ensures
+    rw (row_struct _ _ c.args.json.now c.args.desc.now (c.args.self.now.all_rest _ c.requires) c.in-Struct.fields c.in-Struct.deny_unknown c.in-Struct.is, ← c.as_slice-in-Struct.ensures) c.decode_struct.ensures
 
 pub decode_at-decode_external-requires : goal.decode_at-decode_external-requires
 decode_at-decode_external-requires t c =
@@ -106,7 +106,7 @@ decode_at-decode_external-requires t c =
 
 pub decode_at-returns-in-External : goal.decode_at-returns-in-External
 decode_at-returns-in-External t c =
-    rw (row_external _ _ c.args.json.now c.args.desc.now (c.args.self.now.sound _ c.requires) c.in-External.variants c.in-External.is, ← c.as_slice-in-External.ensures) c.decode_external.ensures
+    rw (row_external _ _ c.args.json.now c.args.desc.now (c.args.self.now.all_rest _ c.requires) c.in-External.variants c.in-External.is, ← c.as_slice-in-External.ensures) c.decode_external.ensures
 
 pub decode_at-decode_tagged-requires : goal.decode_at-decode_tagged-requires
 decode_at-decode_tagged-requires t c =
@@ -117,34 +117,34 @@ decode_at-decode_tagged-requires t c =
 
 pub decode_at-returns-in-Tagged : goal.decode_at-returns-in-Tagged
 decode_at-returns-in-Tagged t c =
-    rw (row_tagged _ _ c.args.json.now c.args.desc.now (c.args.self.now.sound _ c.requires) c.in-Tagged.tag c.in-Tagged.variants c.in-Tagged.is, ← c.as_slice-in-Tagged.ensures) c.decode_tagged.ensures
+    rw (row_tagged _ _ c.args.json.now c.args.desc.now (c.args.self.now.all_rest _ c.requires) c.in-Tagged.tag c.in-Tagged.variants c.in-Tagged.is, ← c.as_slice-in-Tagged.ensures) c.decode_tagged.ensures
 
 pub decode_at-decode_untagged-requires : goal.decode_at-decode_untagged-requires
 decode_at-decode_untagged-requires t c =
     let d = c.args.desc.now in
-    let less = choice-lt-at c.args.self.now.table.now c.args.self.now.whole.now (size-Json c.args.json.now) d (c.args.self.now.sound d c.requires) c.in-Untagged.alternatives c.in-Untagged.is in
+    let less = choice-lt-at c.args.self.now.table.now c.args.self.now.whole.now (size-Json c.args.json.now) d (c.args.self.now.all_rest d c.requires) c.in-Untagged.alternatives c.in-Untagged.is in
     let parts = parts_of_untagged c.requires c.in-Untagged.alternatives c.in-Untagged.is in
     let few = few_alternatives c.requires c.args.self.now.ranged c.in-Untagged.alternatives c.in-Untagged.is in
     rw c.as_slice-in-Untagged.ensures (omega (arith, c.decreases, less), (parts, few))
 
 pub decode_at-returns-in-Untagged : goal.decode_at-returns-in-Untagged
 decode_at-returns-in-Untagged t c =
-    rw (row_untagged _ _ c.args.json.now c.args.desc.now (c.args.self.now.sound _ c.requires) c.in-Untagged.alternatives c.in-Untagged.is, ← c.as_slice-in-Untagged.ensures) c.decode_untagged.ensures
+    rw (row_untagged _ _ c.args.json.now c.args.desc.now (c.args.self.now.all_rest _ c.requires) c.in-Untagged.alternatives c.in-Untagged.is, ← c.as_slice-in-Untagged.ensures) c.decode_untagged.ensures
 
 pub decode_at-decode_at-requires : goal.decode_at-decode_at-requires
 decode_at-decode_at-requires t c =
     let d = c.args.desc.now in
     let found = sym c.in-Some.ensures in
-    let less = ref-lt c.args.self.now.table.now c.args.self.now.whole.now (size-Json c.args.json.now) d (c.args.self.now.sound d c.requires) c.in-Ref.name c.in-Some.definition.now c.in-Ref.is found in
+    let less = ref-lt c.args.self.now.table.now c.args.self.now.whole.now (size-Json c.args.json.now) d (c.args.self.now.all_rest d c.requires) c.in-Ref.name c.in-Some.definition.now c.in-Ref.is found in
     (omega (arith, c.decreases, less), definition_is_part _ _ c.in-Ref.name c.in-Some.definition.now found)
 
 pub decode_at-returns-in-Some : goal.decode_at-returns-in-Some
 decode_at-returns-in-Some t c =
-    rw (row_ref _ _ c.args.json.now c.args.desc.now (c.args.self.now.sound _ c.requires) c.in-Ref.name (Some c.in-Some.definition.now) c.in-Ref.is (sym c.in-Some.ensures)) c.decode_at.ensures
+    rw (row_ref _ _ c.args.json.now c.args.desc.now (c.args.self.now.all_rest _ c.requires) c.in-Ref.name (Some c.in-Some.definition.now) c.in-Ref.is (sym c.in-Some.ensures)) c.decode_at.ensures
 
 pub decode_at-returns-in-None : goal.decode_at-returns-in-None
 decode_at-returns-in-None t c =
-    rw (row_ref _ _ c.args.json.now c.args.desc.now (c.args.self.now.sound _ c.requires) c.in-Ref.name None c.in-Ref.is (sym c.in-None.ensures)) c.refused-in-None.ensures
+    rw (row_ref _ _ c.args.json.now c.args.desc.now (c.args.self.now.all_rest _ c.requires) c.in-Ref.name None c.in-Ref.is (sym c.in-None.ensures)) c.refused-in-None.ensures
 
 pub decode_list-decode_items-requires : goal.decode_list-decode_items-requires
 decode_list-decode_items-requires t c =
@@ -172,7 +172,7 @@ decode_pair-decode_at-requires t c =
 pub decode_entries-decode_pair-requires : goal.decode_entries-decode_pair-requires
 decode_entries-decode_pair-requires t c =
     let ms = c.args.members.now in
-    let same = ap lent c.deref-member-items.ensures.value ∙ c.in_ok-in_order.ensures in
+    let same = ap lent c.deref-member-items.ensures.value ∙ c.in_ok-ordered.ensures in
     let at = taken_behind (λ member. member.now) c.deref-member-items.result.now (sorted_by member_name ms) same c.loop-member.member-index c.member-item.result (omega arith) c.member-item.is in
     let less = alone-le-alone c.args.self.now.table.now c.args.self.now.whole.now (size-Member c.member-item.result.now) (most size-Member ms) (entry_at_most ms c.loop-member.member-index c.member-item.result.now at.0 at.1) in
     (omega (arith, c.decreases, less), c.requires)
@@ -181,7 +181,7 @@ pub decode_entries-returns-in_err-decode_pair : goal.decode_entries-returns-in_e
 decode_entries-returns-in_err-decode_pair t c =
     let ms = sorted_by member_name c.args.members.now in
     let f : ℕ → Member → Result Pair Trouble = λ i m. told_entry c.args.self.now.table.now c.args.self.now.whole.now c.args.value.now m in
-    let same = ap lent c.deref-member-items.ensures.value ∙ c.in_ok-in_order.ensures in
+    let same = ap lent c.deref-member-items.ensures.value ∙ c.in_ok-ordered.ensures in
     let at = taken_behind (λ member. member.now) c.deref-member-items.result.now ms same c.loop-member.member-index c.member-item.result (omega arith) c.member-item.is in
     let p = err_from_is_err_and c.from_residual-in_err-decode_pair.result c.from_residual-in_err-decode_pair.ensures.1 in
     rw (p.1, p.2) (all_err f (all_told f 0 ms) ms c.loop-member.member-index c.loop-member.pairs c.loop-member.invariant (as_tree Entries) (λ k. refl) c.member-item.result.now c.in_err-decode_pair.field-0.0 at.0 at.1 c.in_err-decode_pair.ensures)
@@ -190,7 +190,7 @@ pub decode_entries-loop-member-preserved : goal.decode_entries-loop-member-prese
 decode_entries-loop-member-preserved t c =
     let ms = sorted_by member_name c.args.members.now in
     let f : ℕ → Member → Result Pair Trouble = λ i m. told_entry c.args.self.now.table.now c.args.self.now.whole.now c.args.value.now m in
-    let same = ap lent c.deref-member-items.ensures.value ∙ c.in_ok-in_order.ensures in
+    let same = ap lent c.deref-member-items.ensures.value ∙ c.in_ok-ordered.ensures in
     let at = taken_behind (λ member. member.now) c.deref-member-items.result.now ms same c.loop-member.member-index c.member-item.result (omega arith) c.member-item.is in
     all_step f (all_told f 0 ms) ms c.loop-member.member-index c.loop-member.pairs c.loop-member.invariant c.member-item.result.now _ at.0 at.1 c.in_ok-decode_pair.ensures
     ∙ ap (λ (ps : List Pair). after ps (all_told f (c.loop-member.member-index + 1) (drop (c.loop-member.member-index + 1) ms))) (sym c.in_ok-push.ensures.ok)
@@ -199,7 +199,7 @@ pub decode_entries-returns : goal.decode_entries-returns
 decode_entries-returns t c =
     let ms = sorted_by member_name c.args.members.now in
     let f : ℕ → Member → Result Pair Trouble = λ i m. told_entry c.args.self.now.table.now c.args.self.now.whole.now c.args.value.now m in
-    let same = ap lent c.deref-member-items.ensures.value ∙ c.in_ok-in_order.ensures in
+    let same = ap lent c.deref-member-items.ensures.value ∙ c.in_ok-ordered.ensures in
     let n : length ms ≡ length c.deref-member-items.result.now = ap length (sym same) ∙ length-map c.deref-member-items.result.now (λ member. member.now) in
     ap (as_tree Entries) (all_end f (all_told f 0 ms) ms c.loop-member.member-index c.loop-member.pairs c.loop-member.invariant (omega (arith, n)))
 
@@ -274,24 +274,23 @@ decode_external-decode_payload-requires t c =
 
 pub decode_payload-decode_at-requires : goal.decode_payload-decode_at-requires
 decode_payload-decode_at-requires t c =
-    let v = c.in-Some.variant.now in
+    let v = c.in-Some.chosen.now in
     let inside = found_inside variant_name c.args.variants.now c.args.member.now.name (c.in-Some.place, v) (sym c.in-Some.ensures) in
     let less = at-lt-alone c.args.self.now.table.now c.args.self.now.whole.now (size-Json c.args.member.now.value) (size-Member c.args.member.now) c.in-Some-payload.payload (member_greater c.args.member.now) in
     (omega (arith, c.decreases, less), subst (λ (o : Option Desc). IfSome o (IsPart c.args.self.now.table.now c.args.self.now.whole.now)) c.in-Some-payload.is (c.requires.parts v inside))
 
-pub decode_payload-overflow_cast-result : goal.decode_payload-overflow_cast-result
-decode_payload-overflow_cast-result t c =
-    let less = place_below variant_name c.args.variants.now c.args.member.now.name (c.in-Some.place, c.in-Some.variant.now) (sym c.in-Some.ensures) in
+pub decode_payload-variant-requires : goal.decode_payload-variant-requires
+decode_payload-variant-requires t c =
+    let less = place_below variant_name c.args.variants.now c.args.member.now.name (c.in-Some.place, c.in-Some.chosen.now) (sym c.in-Some.ensures) in
     omega (arith, less, c.requires.few)
 
-pub decode_payload-returns-in_ok-copy-in-Err : goal.decode_payload-returns-in_ok-copy-in-Err
-decode_payload-returns-in_ok-copy-in-Err t c =
+pub decode_payload-returns-in-Err : goal.decode_payload-returns-in-Err
+decode_payload-returns-in-Err t c =
     let inner = told c.args.self.now.table.now c.args.self.now.whole.now c.args.member.now.value in
     let of_payload = inner c.in-Some-payload.payload in
-    let at = payload_at inner c.args.variants.now c.args.member.now.name c.in-Some.place c.in-Some.variant.now c.in-Some-payload.payload (sym c.in-Some.ensures) c.in-Some-payload.is in
-    let bad = chosen_err c.in-Some.place (below (Name c.in_ok-copy-in-Err.field-0) of_payload) c.below.result (c.below.ensures of_payload c.in-Err.ensures) in
-    subst (λ (o : Told). Tells (Err c.below.result) o) (sym at)
-    (subst (λ (n : List ℕ). Tells (Err c.below.result) (chosen c.in-Some.place (below (Name n) of_payload))) c.in_ok-copy-in-Err.ensures bad)
+    let at = payload_at inner c.args.variants.now c.args.member.now.name c.in-Some.place c.in-Some.chosen.now c.in-Some-payload.payload (sym c.in-Some.ensures) c.in-Some-payload.is in
+    let bad = chosen_err c.in-Some.place (below (Name c.args.member.now.name) of_payload) c.below_name.result (c.below_name.ensures of_payload c.in-Err.ensures) in
+    subst (λ (o : Told). Tells (Err c.below_name.result) o) (sym at) bad
 
 pub decode_tagged-decode_variant-requires : goal.decode_tagged-decode_variant-requires
 decode_tagged-decode_variant-requires t c =
@@ -303,10 +302,10 @@ decode_tagged-decode_variant-requires t c =
 
 pub decode_variant-decode_fields-requires : goal.decode_variant-decode_fields-requires
 decode_variant-decode_fields-requires t c =
-    let inside = found_inside tagged_name c.args.variants.now c.in-Text.name (c.in-Some.place, c.in-Some.variant.now) (sym c.in-Some.ensures) in
-    (omega (arith, c.decreases), rw c.as_slice.ensures (c.requires.parts c.in-Some.variant.now inside))
+    let inside = found_inside tagged_name c.args.variants.now c.in-Text.name (c.in-Some.place, c.in-Some.chosen.now) (sym c.in-Some.ensures) in
+    (omega (arith, c.decreases), rw c.as_slice.ensures (c.requires.parts c.in-Some.chosen.now inside))
 
-pub decode_variant-overflow_cast-result : goal.decode_variant-overflow_cast-result
-decode_variant-overflow_cast-result t c =
-    let less = place_below tagged_name c.args.variants.now c.in-Text.name (c.in-Some.place, c.in-Some.variant.now) (sym c.in-Some.ensures) in
+pub decode_variant-variant-requires : goal.decode_variant-variant-requires
+decode_variant-variant-requires t c =
+    let less = place_below tagged_name c.args.variants.now c.in-Text.name (c.in-Some.place, c.in-Some.chosen.now) (sym c.in-Some.ensures) in
     omega (arith, less, c.requires.few)

@@ -4,6 +4,6 @@ use Rattle.typed_values.proofs.scope.Decoder.new.Goals as goal
 
 pub invariant_of-result : goal.invariant_of-result
 invariant_of-result c = record {
-  sound = guarded_rests _ _ c.requires.table.guarded;
+  all_rest = guarded_rests _ _ c.requires.table.guarded;
   ranged = ranges_right _ _ c.requires.table c.requires.whole;
 }

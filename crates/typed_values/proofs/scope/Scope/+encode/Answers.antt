@@ -54,50 +54,50 @@ encode_at-encode_choice-requires t c =
 pub encode_at-encode_at-requires : goal.encode_at-encode_at-requires
 encode_at-encode_at-requires t c =
     let found = sym c.in-Some.ensures in
-    let less = ref-lt c.args.self.now.table.now c.args.self.now.whole.now (size-Tree c.args.tree.now) c.args.desc.now (c.args.self.now.sound _ c.requires) c.in-Ref.name c.in-Some.definition.now c.in-Ref.is found in
+    let less = ref-lt c.args.self.now.table.now c.args.self.now.whole.now (size-Tree c.args.tree.now) c.args.desc.now (c.args.self.now.all_rest _ c.requires) c.in-Ref.name c.in-Some.definition.now c.in-Ref.is found in
     (omega (arith, c.decreases, less), definition_is_part _ _ c.in-Ref.name c.in-Some.definition.now found)
 
 pub encode_at-returns-in-Any : goal.encode_at-returns-in-Any
 encode_at-returns-in-Any t c =
-    rw (written_any _ _ c.args.tree.now c.args.desc.now (c.args.self.now.sound _ c.requires) c.in-Any.is) c.encode_whole.ensures
+    rw (written_any _ _ c.args.tree.now c.args.desc.now (c.args.self.now.all_rest _ c.requires) c.in-Any.is) c.encode_whole.ensures
 
 pub encode_at-returns-in-Never : goal.encode_at-returns-in-Never
-encode_at-returns-in-Never t c = sym (written_null _ _ c.args.tree.now c.args.desc.now (c.args.self.now.sound _ c.requires) c.in-Never.is)
+encode_at-returns-in-Never t c = sym (written_null _ _ c.args.tree.now c.args.desc.now (c.args.self.now.all_rest _ c.requires) c.in-Never.is)
 
 pub encode_at-returns-in-Bool : goal.encode_at-returns-in-Bool
 encode_at-returns-in-Bool t c =
-    rw (written_scalar _ _ c.args.tree.now c.args.desc.now (c.args.self.now.sound _ c.requires) c.in-Bool.is) c.encode_scalar.ensures
+    rw (written_scalar _ _ c.args.tree.now c.args.desc.now (c.args.self.now.all_rest _ c.requires) c.in-Bool.is) c.encode_scalar.ensures
 
 pub encode_at-returns-in-Enumeration : goal.encode_at-returns-in-Enumeration
 encode_at-returns-in-Enumeration t c =
-    rw (written_enumeration _ _ c.args.tree.now c.args.desc.now (c.args.self.now.sound _ c.requires) c.in-Enumeration.names c.in-Enumeration.is, ← c.as_slice.ensures) c.encode_name.ensures
+    rw (written_enumeration _ _ c.args.tree.now c.args.desc.now (c.args.self.now.all_rest _ c.requires) c.in-Enumeration.names c.in-Enumeration.is, ← c.as_slice.ensures) c.encode_name.ensures
 
 pub encode_at-returns-in-Option : goal.encode_at-returns-in-Option
-encode_at-returns-in-Option t c = rw (written_option _ _ c.args.tree.now c.args.desc.now (c.args.self.now.sound _ c.requires) c.in-Option.inner c.in-Option.is, ← c.get.ensures) c.encode_option.ensures
+encode_at-returns-in-Option t c = rw (written_option _ _ c.args.tree.now c.args.desc.now (c.args.self.now.all_rest _ c.requires) c.in-Option.inner c.in-Option.is, ← c.get.ensures) c.encode_option.ensures
 
 pub encode_at-returns-in-List : goal.encode_at-returns-in-List
-encode_at-returns-in-List t c = rw (written_list _ _ c.args.tree.now c.args.desc.now (c.args.self.now.sound _ c.requires) c.in-List.item _ _ c.in-List.is, ← c.get-in-List.ensures) c.encode_list.ensures
+encode_at-returns-in-List t c = rw (written_list _ _ c.args.tree.now c.args.desc.now (c.args.self.now.all_rest _ c.requires) c.in-List.item _ _ c.in-List.is, ← c.get-in-List.ensures) c.encode_list.ensures
 
 pub encode_at-returns-in-Map : goal.encode_at-returns-in-Map
-encode_at-returns-in-Map t c = rw (written_map _ _ c.args.tree.now c.args.desc.now (c.args.self.now.sound _ c.requires) c.in-Map.value c.in-Map.is, ← c.get-in-Map.ensures) c.encode_map.ensures
+encode_at-returns-in-Map t c = rw (written_map _ _ c.args.tree.now c.args.desc.now (c.args.self.now.all_rest _ c.requires) c.in-Map.value c.in-Map.is, ← c.get-in-Map.ensures) c.encode_map.ensures
 
 pub encode_at-returns-in-Struct : goal.encode_at-returns-in-Struct
-encode_at-returns-in-Struct t c = rw (written_struct _ _ c.args.tree.now c.args.desc.now (c.args.self.now.sound _ c.requires) c.in-Struct.fields _ c.in-Struct.is, ← c.as_slice-in-Struct.ensures) c.encode_struct.ensures
+encode_at-returns-in-Struct t c = rw (written_struct _ _ c.args.tree.now c.args.desc.now (c.args.self.now.all_rest _ c.requires) c.in-Struct.fields _ c.in-Struct.is, ← c.as_slice-in-Struct.ensures) c.encode_struct.ensures
 
 pub encode_at-returns-in-External : goal.encode_at-returns-in-External
-encode_at-returns-in-External t c = rw (written_external _ _ c.args.tree.now c.args.desc.now (c.args.self.now.sound _ c.requires) c.in-External.variants c.in-External.is, ← c.as_slice-in-External.ensures) c.encode_external.ensures
+encode_at-returns-in-External t c = rw (written_external _ _ c.args.tree.now c.args.desc.now (c.args.self.now.all_rest _ c.requires) c.in-External.variants c.in-External.is, ← c.as_slice-in-External.ensures) c.encode_external.ensures
 
 pub encode_at-returns-in-Tagged : goal.encode_at-returns-in-Tagged
-encode_at-returns-in-Tagged t c = rw (written_tagged _ _ c.args.tree.now c.args.desc.now (c.args.self.now.sound _ c.requires) c.in-Tagged.tag c.in-Tagged.variants c.in-Tagged.is, ← c.as_slice-in-Tagged.ensures) c.encode_tagged.ensures
+encode_at-returns-in-Tagged t c = rw (written_tagged _ _ c.args.tree.now c.args.desc.now (c.args.self.now.all_rest _ c.requires) c.in-Tagged.tag c.in-Tagged.variants c.in-Tagged.is, ← c.as_slice-in-Tagged.ensures) c.encode_tagged.ensures
 
 pub encode_at-returns-in-Untagged : goal.encode_at-returns-in-Untagged
-encode_at-returns-in-Untagged t c = rw (written_untagged _ _ c.args.tree.now c.args.desc.now (c.args.self.now.sound _ c.requires) c.in-Untagged.alternatives c.in-Untagged.is, ← c.as_slice-in-Untagged.ensures) c.encode_choice.ensures
+encode_at-returns-in-Untagged t c = rw (written_untagged _ _ c.args.tree.now c.args.desc.now (c.args.self.now.all_rest _ c.requires) c.in-Untagged.alternatives c.in-Untagged.is, ← c.as_slice-in-Untagged.ensures) c.encode_choice.ensures
 
 pub encode_at-returns-in-Some : goal.encode_at-returns-in-Some
-encode_at-returns-in-Some t c = rw (written_ref _ _ c.args.tree.now c.args.desc.now (c.args.self.now.sound _ c.requires) c.in-Ref.name (Some c.in-Some.definition.now) c.in-Ref.is (sym c.in-Some.ensures)) c.encode_at.ensures
+encode_at-returns-in-Some t c = rw (written_ref _ _ c.args.tree.now c.args.desc.now (c.args.self.now.all_rest _ c.requires) c.in-Ref.name (Some c.in-Some.definition.now) c.in-Ref.is (sym c.in-Some.ensures)) c.encode_at.ensures
 
 pub encode_at-returns-in-None : goal.encode_at-returns-in-None
-encode_at-returns-in-None t c = rw (written_ref _ _ c.args.tree.now c.args.desc.now (c.args.self.now.sound _ c.requires) c.in-Ref.name None c.in-Ref.is (sym c.in-None.ensures)) refl
+encode_at-returns-in-None t c = rw (written_ref _ _ c.args.tree.now c.args.desc.now (c.args.self.now.all_rest _ c.requires) c.in-Ref.name None c.in-Ref.is (sym c.in-None.ensures)) refl
 
 pub encode_option-encode_at-requires : goal.encode_option-encode_at-requires
 encode_option-encode_at-requires t c =

@@ -54,59 +54,59 @@ fits_at-choice_fits-requires t c =
 pub fits_at-fits_at-requires : goal.fits_at-fits_at-requires
 fits_at-fits_at-requires t c =
     let found = sym c.in-Some.ensures in
-    let less = ref-lt c.args.self.now.table.now c.args.self.now.whole.now (size-Tree c.args.tree.now) c.args.desc.now (c.args.self.now.sound _ c.requires) c.in-Ref.name c.in-Some.definition.now c.in-Ref.is found in
+    let less = ref-lt c.args.self.now.table.now c.args.self.now.whole.now (size-Tree c.args.tree.now) c.args.desc.now (c.args.self.now.all_rest _ c.requires) c.in-Ref.name c.in-Some.definition.now c.in-Ref.is found in
     (omega (arith, c.decreases, less), definition_is_part _ _ c.in-Ref.name c.in-Some.definition.now found)
 
 pub fits_at-returns-in-Any : goal.fits_at-returns-in-Any
-fits_at-returns-in-Any t c = c.whole_fits.ensures ∙ sym (fits_any _ _ _ _ (c.args.self.now.sound _ c.requires) c.in-Any.is)
+fits_at-returns-in-Any t c = c.whole_fits.ensures ∙ sym (fits_any _ _ _ _ (c.args.self.now.all_rest _ c.requires) c.in-Any.is)
 
 pub fits_at-returns-in-Never : goal.fits_at-returns-in-Never
-fits_at-returns-in-Never t c = sym (fits_never _ _ _ _ (c.args.self.now.sound _ c.requires) c.in-Never.is)
+fits_at-returns-in-Never t c = sym (fits_never _ _ _ _ (c.args.self.now.all_rest _ c.requires) c.in-Never.is)
 
 pub fits_at-returns-in-Null : goal.fits_at-returns-in-Null
-fits_at-returns-in-Null t c = c.nought_fits.ensures ∙ sym (fits_null _ _ _ _ (c.args.self.now.sound _ c.requires) c.in-Null.is)
+fits_at-returns-in-Null t c = c.nought_fits.ensures ∙ sym (fits_null _ _ _ _ (c.args.self.now.all_rest _ c.requires) c.in-Null.is)
 
 pub fits_at-returns-in-Bool : goal.fits_at-returns-in-Bool
-fits_at-returns-in-Bool t c = c.truth_fits.ensures ∙ sym (fits_bool _ _ _ _ (c.args.self.now.sound _ c.requires) c.in-Bool.is)
+fits_at-returns-in-Bool t c = c.truth_fits.ensures ∙ sym (fits_bool _ _ _ _ (c.args.self.now.all_rest _ c.requires) c.in-Bool.is)
 
 pub fits_at-returns-in-Char : goal.fits_at-returns-in-Char
-fits_at-returns-in-Char t c = c.character_fits.ensures ∙ sym (fits_char _ _ _ _ (c.args.self.now.sound _ c.requires) c.in-Char.is)
+fits_at-returns-in-Char t c = c.character_fits.ensures ∙ sym (fits_char _ _ _ _ (c.args.self.now.all_rest _ c.requires) c.in-Char.is)
 
 pub fits_at-returns-in-Int : goal.fits_at-returns-in-Int
-fits_at-returns-in-Int t c = c.number_fits.ensures ∙ sym (fits_int _ _ _ _ (c.args.self.now.sound _ c.requires) c.in-Int.kind c.in-Int.min c.in-Int.max c.in-Int.is)
+fits_at-returns-in-Int t c = c.number_fits.ensures ∙ sym (fits_int _ _ _ _ (c.args.self.now.all_rest _ c.requires) c.in-Int.kind c.in-Int.min c.in-Int.max c.in-Int.is)
 
 pub fits_at-returns-in-Text : goal.fits_at-returns-in-Text
-fits_at-returns-in-Text t c = c.words_fit.ensures ∙ sym (fits_text _ _ _ _ (c.args.self.now.sound _ c.requires) c.in-Text.min c.in-Text.max _ c.in-Text.is)
+fits_at-returns-in-Text t c = c.words_fit.ensures ∙ sym (fits_text _ _ _ _ (c.args.self.now.all_rest _ c.requires) c.in-Text.min c.in-Text.max _ c.in-Text.is)
 
 pub fits_at-returns-in-Enumeration : goal.fits_at-returns-in-Enumeration
-fits_at-returns-in-Enumeration t c = rw (fits_enumeration _ _ _ _ (c.args.self.now.sound _ c.requires) c.in-Enumeration.names c.in-Enumeration.is, ← c.as_slice.ensures) c.name_fits.ensures
+fits_at-returns-in-Enumeration t c = rw (fits_enumeration _ _ _ _ (c.args.self.now.all_rest _ c.requires) c.in-Enumeration.names c.in-Enumeration.is, ← c.as_slice.ensures) c.name_fits.ensures
 
 pub fits_at-returns-in-Option : goal.fits_at-returns-in-Option
-fits_at-returns-in-Option t c = rw (fits_option _ _ _ _ (c.args.self.now.sound _ c.requires) c.in-Option.inner c.in-Option.is, ← c.get.ensures) c.option_fits.ensures
+fits_at-returns-in-Option t c = rw (fits_option _ _ _ _ (c.args.self.now.all_rest _ c.requires) c.in-Option.inner c.in-Option.is, ← c.get.ensures) c.option_fits.ensures
 
 pub fits_at-returns-in-List : goal.fits_at-returns-in-List
-fits_at-returns-in-List t c = rw (fits_list _ _ _ _ (c.args.self.now.sound _ c.requires) c.in-List.item c.in-List.min c.in-List.max c.in-List.is, ← c.get-in-List.ensures) c.items_fit.ensures
+fits_at-returns-in-List t c = rw (fits_list _ _ _ _ (c.args.self.now.all_rest _ c.requires) c.in-List.item c.in-List.min c.in-List.max c.in-List.is, ← c.get-in-List.ensures) c.items_fit.ensures
 
 pub fits_at-returns-in-Map : goal.fits_at-returns-in-Map
-fits_at-returns-in-Map t c = rw (fits_map _ _ _ _ (c.args.self.now.sound _ c.requires) c.in-Map.value c.in-Map.is, ← c.get-in-Map.ensures) c.entries_fit.ensures
+fits_at-returns-in-Map t c = rw (fits_map _ _ _ _ (c.args.self.now.all_rest _ c.requires) c.in-Map.value c.in-Map.is, ← c.get-in-Map.ensures) c.entries_fit.ensures
 
 pub fits_at-returns-in-Struct : goal.fits_at-returns-in-Struct
-fits_at-returns-in-Struct t c = rw (fits_struct _ _ _ _ (c.args.self.now.sound _ c.requires) c.in-Struct.fields c.in-Struct.deny_unknown c.in-Struct.is, ← c.as_slice-in-Struct.ensures) c.fields_fit.ensures
+fits_at-returns-in-Struct t c = rw (fits_struct _ _ _ _ (c.args.self.now.all_rest _ c.requires) c.in-Struct.fields c.in-Struct.deny_unknown c.in-Struct.is, ← c.as_slice-in-Struct.ensures) c.fields_fit.ensures
 
 pub fits_at-returns-in-External : goal.fits_at-returns-in-External
-fits_at-returns-in-External t c = rw (fits_external _ _ _ _ (c.args.self.now.sound _ c.requires) c.in-External.variants c.in-External.is, ← c.as_slice-in-External.ensures) c.external_fits.ensures
+fits_at-returns-in-External t c = rw (fits_external _ _ _ _ (c.args.self.now.all_rest _ c.requires) c.in-External.variants c.in-External.is, ← c.as_slice-in-External.ensures) c.external_fits.ensures
 
 pub fits_at-returns-in-Tagged : goal.fits_at-returns-in-Tagged
-fits_at-returns-in-Tagged t c = rw (fits_tagged _ _ _ _ (c.args.self.now.sound _ c.requires) _ c.in-Tagged.variants c.in-Tagged.is, ← c.as_slice-in-Tagged.ensures) c.tagged_fits.ensures
+fits_at-returns-in-Tagged t c = rw (fits_tagged _ _ _ _ (c.args.self.now.all_rest _ c.requires) _ c.in-Tagged.variants c.in-Tagged.is, ← c.as_slice-in-Tagged.ensures) c.tagged_fits.ensures
 
 pub fits_at-returns-in-Untagged : goal.fits_at-returns-in-Untagged
-fits_at-returns-in-Untagged t c = rw (fits_untagged _ _ _ _ (c.args.self.now.sound _ c.requires) c.in-Untagged.alternatives c.in-Untagged.is, ← c.as_slice-in-Untagged.ensures) c.choice_fits.ensures
+fits_at-returns-in-Untagged t c = rw (fits_untagged _ _ _ _ (c.args.self.now.all_rest _ c.requires) c.in-Untagged.alternatives c.in-Untagged.is, ← c.as_slice-in-Untagged.ensures) c.choice_fits.ensures
 
 pub fits_at-returns-in-Some : goal.fits_at-returns-in-Some
-fits_at-returns-in-Some t c = rw (fits_ref _ _ _ _ (c.args.self.now.sound _ c.requires) c.in-Ref.name (Some c.in-Some.definition.now) c.in-Ref.is (sym c.in-Some.ensures)) c.fits_at.ensures
+fits_at-returns-in-Some t c = rw (fits_ref _ _ _ _ (c.args.self.now.all_rest _ c.requires) c.in-Ref.name (Some c.in-Some.definition.now) c.in-Ref.is (sym c.in-Some.ensures)) c.fits_at.ensures
 
 pub fits_at-returns-in-None : goal.fits_at-returns-in-None
-fits_at-returns-in-None t c = rw (fits_ref _ _ _ _ (c.args.self.now.sound _ c.requires) c.in-Ref.name None c.in-Ref.is (sym c.in-None.ensures)) refl
+fits_at-returns-in-None t c = rw (fits_ref _ _ _ _ (c.args.self.now.all_rest _ c.requires) c.in-Ref.name None c.in-Ref.is (sym c.in-None.ensures)) refl
 
 pub option_fits-fits_at-requires : goal.option_fits-fits_at-requires
 option_fits-fits_at-requires t c =

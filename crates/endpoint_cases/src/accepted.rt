@@ -1,0 +1,119 @@
+//! The calls over endpoints that may all be registered; a refused one is told instead.
+ghost use Rattle.std.specs.Prelude.{[], IfOk};
+ghost use Rattle.api_description.specs.Endpoints.{boxed};
+ghost use Rattle.api_description.specs.Registering.{AreAccepted};
+ghost use Rattle.schema_values.specs.Sound.{IsSound};
+
+use crate::exchanges::exchanged;
+use crate::members::{push, push_word, text_or};
+use crate::registering::refusal;
+use crate::requests::{version_of, wire_request};
+use crate::streams::{lines_told, sink_of};
+use api_description::api_respond::RouteHandler;
+use api_description::{ApiDescription, ApiEndpoint, TagConfig, WriteError};
+use case_notation::{CaseError, form, given, text_of};
+use line_session::MemorySink;
+use request_admission::check_admits;
+use schema_values::{Json, List, Text};
+use semver::Version;
+use std::alloc::Global;
+
+/// What a call answers over endpoints that may all be registered.
+pub fn over_accepted(
+    alloc: Global,
+    case: &Json,
+    call: &str,
+    endpoints: Vec<ApiEndpoint>,
+) -> Result<Json, CaseError> {
+    match ApiDescription::of_endpoints(alloc, TagConfig::default_config(alloc), endpoints) {
+        Ok(api) => over_api(alloc, case, call, &api),
+        Err(error) => {
+            let told = refusal(alloc, &error)?;
+            Ok(form(alloc, "refused", told)?)
+        }
+    }
+}
+
+fn over_api(alloc: Global, case: &Json, call: &str, api: &ApiDescription) -> Result<Json, CaseError>
+    requires { AreAccepted
+        (boxed ⟦<dyn RouteHandler as RouteHandler>⟧) [] api.now.endpoints.items }
+{
+    match call {
+        "exchange" => exchanged(alloc, case, api),
+        "document" => document(alloc, case, api),
+        "text" => Ok(Json::Text(document_text(alloc, case, api)?)),
+        "write" => written(alloc, case, api),
+        "admits" => admits(alloc, case, api),
+        _ => Err(CaseError::Expected("the name of a call")),
+    }
+}
+
+// The document at the title and the version of a case.
+fn document(alloc: Global, case: &Json, api: &ApiDescription) -> Result<Json, CaseError>
+    requires { AreAccepted
+        (boxed ⟦<dyn RouteHandler as RouteHandler>⟧) [] api.now.endpoints.items }
+    ensures { IfOk result IsSound }
+{
+    let title = text_or(alloc, case, "title", "sample")?;
+    let version = version_of(alloc, case)?;
+    let document = api.openapi(alloc, title.as_str(), version)?.json(alloc)?;
+    Ok(document)
+}
+
+// The text of the document.
+fn document_text(alloc: Global, case: &Json, api: &ApiDescription) -> Result<Text, CaseError>
+    requires { AreAccepted
+        (boxed ⟦<dyn RouteHandler as RouteHandler>⟧) [] api.now.endpoints.items }
+{
+    let title = text_or(alloc, case, "title", "sample")?;
+    let version = version_of(alloc, case)?;
+    let text = api.openapi(alloc, title.as_str(), version)?.text(alloc)?;
+    Ok(text)
+}
+
+// How the document is written to a sink of which some calls fail, and what the sink has taken then.
+fn written(alloc: Global, case: &Json, api: &ApiDescription) -> Result<Json, CaseError>
+    requires { AreAccepted
+        (boxed ⟦<dyn RouteHandler as RouteHandler>⟧) [] api.now.endpoints.items }
+{
+    let title = text_or(alloc, case, "title", "sample")?;
+    let version = version_of(alloc, case)?;
+    let text = document_text(alloc, case, api)?;
+    let mut sink = sink_of(alloc, case)?;
+    let told = match write(alloc, title.as_str(), version, api, &mut sink) {
+        Ok(()) => "Done",
+        Err(WriteError::WriteFault) => "WriteFault",
+        Err(WriteError::OutOfMemory) => return Err(CaseError::OutOfMemory),
+    };
+    let mut members = List::new(alloc);
+    push_word(alloc, &mut members, "ended", told)?;
+    let lines = lines_told(alloc, sink.taken(), text.as_str())?;
+    push(alloc, &mut members, "written", lines)?;
+    Ok(Json::Object(members))
+}
+
+fn write(
+    alloc: Global,
+    title: &str,
+    version: Version,
+    api: &ApiDescription,
+    sink: &mut MemorySink,
+) -> Result<(), WriteError>
+    requires { AreAccepted
+        (boxed ⟦<dyn RouteHandler as RouteHandler>⟧) [] api.now.endpoints.items }
+{
+    api.openapi(alloc, title, version)?.write(alloc, sink)
+}
+
+fn admits(alloc: Global, case: &Json, api: &ApiDescription) -> Result<Json, CaseError>
+    requires { AreAccepted
+        (boxed ⟦<dyn RouteHandler as RouteHandler>⟧) [] api.now.endpoints.items }
+{
+    let document = document(alloc, case, api)?;
+    let noted = given(case, "request")?;
+    let path = text_of(given(noted, "template")?)?.as_str();
+    let method = text_of(given(noted, "method")?)?.as_str();
+    let request = wire_request(alloc, noted)?;
+    let admitted = check_admits(alloc, &document, path, method, &request)?;
+    Ok(Json::Bool(admitted))
+}

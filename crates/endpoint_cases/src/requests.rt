@@ -1,0 +1,83 @@
+//! Reads requests as cases note them: as a request line of the tool, whose head are `"method"`,
+//! `"template"` and `"request_id"` and whose body is the one text of `"frames"`. The version stands
+//! in the case, `1.0.0` where it is left out.
+use crate::endpoint::method_of;
+use crate::members::{push_word, text_or};
+use api_description::api_extract::{RequestInfo, RequestParts, ServerConfig};
+use case_notation::{CaseError, given, items_of, text_of};
+use openapi_values::WireRequest;
+use schema_values::{Json, List, Text};
+use semver::Version;
+use std::alloc::Global;
+use std::collections::BTreeMap;
+use std::num::NonZeroU32;
+
+/// A copy of the head of the request of a case.
+pub fn request_of(alloc: Global, case: &Json, noted: &Json) -> Result<RequestParts, CaseError> {
+    let request = RequestParts {
+        template: text_of(given(noted, "template")?)?.copy(alloc)?,
+        request_id: text_of(given(noted, "request_id")?)?.copy(alloc)?,
+        version: version_of(alloc, case)?,
+        info: RequestInfo::new(method_of(alloc, noted)?),
+    };
+    Ok(request.copy(alloc)?)
+}
+
+/// The parts of a copy of the head of the request of a case.
+pub fn request_told(alloc: Global, case: &Json) -> Result<Json, CaseError> {
+    let request = request_of(alloc, case, given(case, "request")?)?;
+    let version = format!(in alloc; "{}", request.version)?;
+    let mut members = List::new(alloc);
+    push_word(
+        alloc,
+        &mut members,
+        "method",
+        request.info.method().as_str(),
+    )?;
+    push_word(alloc, &mut members, "template", request.template.as_str())?;
+    push_word(alloc, &mut members, "version", version.as_str())?;
+    push_word(
+        alloc,
+        &mut members,
+        "request_id",
+        request.request_id.as_str(),
+    )?;
+    Ok(Json::Object(members))
+}
+
+/// The version of a case.
+pub fn version_of(alloc: Global, case: &Json) -> Result<Version, CaseError> {
+    let text = text_or(alloc, case, "version", "1.0.0")?;
+    match Version::parse(alloc, text.as_str()) {
+        Ok(version) => Ok(version),
+        Err(_) => Err(CaseError::Expected("a version")),
+    }
+}
+
+/// The body of a request.
+pub fn body_of(noted: &Json) -> Result<&[u8], CaseError> {
+    match items_of(given(noted, "frames")?)? {
+        [Json::Text(frame)] => Ok(frame.as_bytes()),
+        _ => Err(CaseError::Expected("one frame")),
+    }
+}
+
+/// The request as a document sees it.
+pub fn wire_request(alloc: Global, noted: &Json) -> Result<WireRequest, CaseError> {
+    Ok(WireRequest {
+        variables: BTreeMap::new(alloc),
+        query: Text::new(alloc),
+        headers: List::new(alloc),
+        body: List::from_bytes(alloc, body_of(noted)?)?,
+    })
+}
+
+/// The limits of the server of every case.
+pub fn config() -> Result<ServerConfig, CaseError> {
+    let limit = NonZeroU32::new(10).ok_or(CaseError::Expected("a limit"))?;
+    Ok(ServerConfig {
+        default_request_body_max_bytes: 1_024,
+        page_max_nitems: limit,
+        page_default_nitems: limit,
+    })
+}

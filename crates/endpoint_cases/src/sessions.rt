@@ -1,0 +1,151 @@
+//! Sessions of the tool over the endpoints of a case.
+use crate::members::{number_or, push, push_word, text_or};
+use crate::stores::tree_at;
+use crate::streams::{lines_told, sink_of, source_of};
+use api_description::tree_store::Store;
+use api_description::{ApiEndpoint, TagConfig};
+use case_notation::{CaseError, items_of, text_of};
+use contract_tool::{MemorySink, MemorySource, ToolConfig, ToolStatus, run, sample};
+use schema_values::{Json, List, Member};
+use std::alloc::{AllocError, Global};
+
+/// What a session is run with.
+#[derive(Drop)]
+struct Setting {
+    words: Vec<String>,
+    longest_line: u32,
+    most_input: u32,
+    source: MemorySource,
+    sink: MemorySink,
+    store: Store,
+}
+
+/// How a session over endpoints ends, what it wrote, and the tree that the store then has under
+/// `"key"`.
+pub fn session(
+    alloc: Global,
+    case: &Json,
+    endpoints: Vec<ApiEndpoint>,
+    front: &str,
+) -> Result<Json, CaseError> {
+    let mut setting = setting_of(alloc, case)?;
+    let status = run_session(alloc, endpoints, &mut setting)?;
+    session_told(alloc, case, &setting, &status, front)
+}
+
+// The words `session` and the version of the case, limits that are not in reach, ends of which no
+// call fails, and an empty store, where the case says no other.
+fn setting_of(alloc: Global, case: &Json) -> Result<Setting, CaseError> {
+    Ok(Setting {
+        words: words_of(alloc, case)?,
+        longest_line: number_or(case, "longest_line", 1 << 20)?,
+        most_input: number_or(case, "most_input", 1 << 31)?,
+        source: source_of(alloc, case)?,
+        sink: sink_of(alloc, case)?,
+        store: Store::new(alloc),
+    })
+}
+
+fn words_of(alloc: Global, case: &Json) -> Result<Vec<String>, CaseError> {
+    let mut words = Vec::new(alloc);
+    match case.get("words") {
+        Some(noted) => {
+            for word in items_of(noted)? {
+                words.push(String::from_str(alloc, text_of(word)?.as_str())?)?;
+            }
+        }
+        None => {
+            words.push(String::from_str(alloc, "session")?)?;
+            words.push(text_or(alloc, case, "version", "1.0.0")?.into_string())?;
+        }
+    }
+    Ok(words)
+}
+
+fn run_session(
+    alloc: Global,
+    endpoints: Vec<ApiEndpoint>,
+    setting: &mut Setting,
+) -> Result<ToolStatus, AllocError> {
+    let config = ToolConfig {
+        longest_line: u64::from(setting.longest_line),
+        most_input: u64::from(setting.most_input),
+        ..sample::config(alloc)?
+    };
+    Ok(run(
+        alloc,
+        setting.words.as_slice(),
+        endpoints,
+        TagConfig::default_config(alloc),
+        &mut setting.store,
+        &config,
+        &mut setting.source,
+        &mut setting.sink,
+    ))
+}
+
+fn session_told(
+    alloc: Global,
+    case: &Json,
+    setting: &Setting,
+    status: &ToolStatus,
+    front: &str,
+) -> Result<Json, CaseError> {
+    let mut members = List::new(alloc);
+    push_status(alloc, &mut members, status)?;
+    push(
+        alloc,
+        &mut members,
+        "written",
+        lines_told(alloc, setting.sink.taken(), front)?,
+    )?;
+    if let Some(key) = case.get("key") {
+        push(
+            alloc,
+            &mut members,
+            "stored",
+            tree_at(alloc, &setting.store, key)?,
+        )?;
+    }
+    Ok(Json::Object(members))
+}
+
+// The code of a copy of a status, and its text where it is no success.
+fn push_status(
+    alloc: Global,
+    members: &mut List<Member>,
+    status: &ToolStatus,
+) -> Result<(), CaseError> {
+    let status = status.copy(alloc)?;
+    push(alloc, members, "status", Json::Int(status.code().into()))?;
+    let told = format!(in alloc; "{status}")?;
+    if !told.is_empty() {
+        push_word(alloc, members, "text", told.as_str())?;
+    }
+    Ok(())
+}
+
+/// The title and the limits of a copy of the shipped configuration.
+pub fn shipped_config(alloc: Global) -> Result<Json, CaseError> {
+    let config = sample::config(alloc)?.copy(alloc)?;
+    let server = &config.server;
+    let mut members = List::new(alloc);
+    push_word(alloc, &mut members, "title", config.title.as_str())?;
+    for (name, limit) in [
+        (
+            "default_request_body_max_bytes",
+            server.default_request_body_max_bytes,
+        ),
+        (
+            "page_default_nitems",
+            u64::from(server.page_default_nitems.get()),
+        ),
+        ("page_max_nitems", u64::from(server.page_max_nitems.get())),
+        ("frame_budget", config.frame_budget),
+        ("longest_line", config.longest_line),
+        ("most_input", config.most_input),
+    ] {
+        push(alloc, &mut members, name, Json::Int(limit.into()))?;
+    }
+    Ok(Json::Object(members))
+}

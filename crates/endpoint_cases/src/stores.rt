@@ -1,0 +1,46 @@
+//! What a store holds. `"steps"` are `[TABLE, KEY]`, which tells the tree there, and `[TABLE, KEY,
+//! TREE]`, which puts a tree there and tells the one that it replaces. Null is told where there is
+//! none.
+use api_description::tree_store::Store;
+use case_notation::{CaseError, given, items_of, tree_noted, tree_of};
+use schema_values::{Json, List};
+use std::alloc::{AllocError, Global};
+use typed_values::Tree;
+
+/// What the steps of a case tell, from an empty store.
+pub fn stored(alloc: Global, case: &Json) -> Result<Json, CaseError> {
+    let mut store = Store::new(alloc);
+    let mut told = List::new(alloc);
+    for step in items_of(given(case, "steps")?)? {
+        told.push(step_told(alloc, &mut store, step)?)?;
+    }
+    Ok(Json::List(told))
+}
+
+fn step_told(alloc: Global, store: &mut Store, step: &Json) -> Result<Json, CaseError> {
+    match items_of(step)? {
+        [Json::Text(table), Json::Text(key), tree] => {
+            let tree = tree_of(alloc, tree)?;
+            let replaced = store.insert(table.as_str(), key.as_str(), tree)?;
+            Ok(tree_or_null(alloc, replaced.as_ref())?)
+        }
+        _ => tree_at(alloc, store, step),
+    }
+}
+
+/// The tree under a table and a key.
+pub fn tree_at(alloc: Global, store: &Store, key: &Json) -> Result<Json, CaseError> {
+    match items_of(key)? {
+        [Json::Text(table), Json::Text(key)] => {
+            Ok(tree_or_null(alloc, store.get(table.as_str(), key.as_str()))?)
+        }
+        _ => Err(CaseError::Expected("a table and a key")),
+    }
+}
+
+fn tree_or_null(alloc: Global, tree: Option<&Tree>) -> Result<Json, AllocError> {
+    match tree {
+        Some(tree) => tree_noted(alloc, tree),
+        None => Ok(Json::Null),
+    }
+}

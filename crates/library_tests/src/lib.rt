@@ -1,0 +1,11 @@
+//! Tests of what can't be written as data for the programs of cases.
+#![tactic(auto)]
+
+#[cfg(test)]
+mod endpoints;
+#[cfg(test)]
+mod ends;
+#[cfg(test)]
+mod schemas;
+#[cfg(test)]
+mod values;

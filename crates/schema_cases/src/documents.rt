@@ -1,0 +1,75 @@
+//! Calls on documents: what their parts are written as, and what they admit.
+use crate::info::info_answer;
+use crate::part_notation::{Noted, written};
+use crate::request_notation::request_of;
+use crate::values::noted_value;
+use case_notation::{CaseError, given, text_of};
+use openapi_values::{
+    Components, HeaderObject, MediaType, OpenApi, Operation, Parameter, PathItem, RequestBody,
+    ResponseObject, json_admits, text_admits,
+};
+use request_admission::check_admits;
+use schema_values::{Json, List};
+use std::alloc::{AllocError, Global};
+
+/// What a copy of a part of a document is written as. The kind of the part stands under `kind`.
+pub fn part(alloc: Global, case: &Json) -> Result<Json, CaseError> {
+    let noted = given(case, "part")?;
+    match text_of(given(case, "kind")?)?.as_str() {
+        "OpenApi" => written::<OpenApi>(alloc, noted),
+        "Components" => written::<Components>(alloc, noted),
+        "PathItem" => written::<PathItem>(alloc, noted),
+        "Operation" => written::<Operation>(alloc, noted),
+        "Parameter" => written::<Parameter>(alloc, noted),
+        "HeaderObject" => written::<HeaderObject>(alloc, noted),
+        "MediaType" => written::<MediaType>(alloc, noted),
+        "RequestBody" => written::<RequestBody>(alloc, noted),
+        "ResponseObject" => written::<ResponseObject>(alloc, noted),
+        kind => info_answer(alloc, kind, noted),
+    }
+}
+
+/// The same in lines, as a text.
+pub fn pretty_part(alloc: Global, case: &Json) -> Result<Json, CaseError> {
+    Ok(Json::Text(part(alloc, case)?.pretty(alloc)?))
+}
+
+/// The document of a case. Without one it is an empty object.
+fn noted_document(alloc: Global, case: &Json) -> Result<Json, AllocError> {
+    match case.get("document") {
+        Some(document) => document.copy(alloc),
+        None => Ok(Json::Object(List::new(alloc))),
+    }
+}
+
+/// Whether a schema admits a value.
+pub fn json_admitted(alloc: Global, case: &Json) -> Result<Json, CaseError> {
+    let document = noted_document(alloc, case)?;
+    let value = noted_value(alloc, case)?;
+    Ok(Json::Bool(json_admits(&document, given(case, "schema")?, &value)))
+}
+
+/// Whether a schema admits a text.
+pub fn text_admitted(alloc: Global, case: &Json) -> Result<Json, CaseError> {
+    let schema = given(case, "schema")?;
+    let text = text_of(given(case, "text")?)?;
+    let document = noted_document(alloc, case)?;
+    if document.sound() && schema.sound() {
+        Ok(Json::Bool(text_admits(&document, schema, text.as_str())))
+    } else {
+        Err(CaseError::Expected("sound values"))
+    }
+}
+
+/// Whether a document admits a copy of a request for the operation of a path and a method.
+pub fn request_admitted(alloc: Global, case: &Json) -> Result<Json, CaseError> {
+    let document = given(case, "document")?;
+    let path = text_of(given(case, "path")?)?;
+    let method = text_of(given(case, "method")?)?;
+    if !document.sound() {
+        return Err(CaseError::Expected("a sound document"));
+    }
+    let request = request_of(alloc, case)?.copy(alloc)?;
+    let admitted = check_admits(alloc, document, path.as_str(), method.as_str(), &request)?;
+    Ok(Json::Bool(admitted))
+}

@@ -1,0 +1,169 @@
+//! Reads documents, their paths and their operations.
+use crate::part_notation::{Noted, is_true_at, list_at, map_at, maybe_at, part_at, text_at};
+use case_notation::{CaseError, given};
+use openapi_values::{
+    Components, HeaderObject, MediaType, OpenApi, Operation, Parameter, PathItem, RequestBody,
+    ResponseObject,
+};
+use schema_values::{Boxed, Json, List, Text};
+use std::alloc::Global;
+
+impl Noted for OpenApi {
+    fn read(alloc: Global, noted: &Json) -> Result<OpenApi, CaseError> {
+        Ok(OpenApi {
+            openapi: part_at(alloc, noted, "openapi")?,
+            paths: map_at(alloc, noted, "paths")?,
+            tags: list_at(alloc, noted, "tags")?,
+            components: part_at(alloc, noted, "components")?,
+            info: part_at(alloc, noted, "info")?,
+        })
+    }
+}
+
+impl Noted for Components {
+    fn read(alloc: Global, noted: &Json) -> Result<Components, CaseError> {
+        Ok(Components {
+            responses: map_at(alloc, noted, "responses")?,
+            schemas: map_at(alloc, noted, "schemas")?,
+        })
+    }
+}
+
+// The operations stand in boxes until all of them are read.
+impl Noted for PathItem {
+    fn read(alloc: Global, noted: &Json) -> Result<PathItem, CaseError> {
+        let get = operation_at(alloc, noted, "get")?;
+        let put = operation_at(alloc, noted, "put")?;
+        let post = operation_at(alloc, noted, "post")?;
+        let delete = operation_at(alloc, noted, "delete")?;
+        let options = operation_at(alloc, noted, "options")?;
+        let head = operation_at(alloc, noted, "head")?;
+        let patch = operation_at(alloc, noted, "patch")?;
+        let trace = operation_at(alloc, noted, "trace")?;
+        Ok(PathItem {
+            get: unboxed(get),
+            put: unboxed(put),
+            post: unboxed(post),
+            delete: unboxed(delete),
+            options: unboxed(options),
+            head: unboxed(head),
+            patch: unboxed(patch),
+            trace: unboxed(trace),
+        })
+    }
+}
+
+fn operation_at(
+    alloc: Global,
+    noted: &Json,
+    method: &str,
+) -> Result<Option<Boxed<Operation>>, CaseError> {
+    match noted.get(method) {
+        Some(operation) => Ok(Some(Boxed::new(alloc, Operation::read(alloc, operation)?)?)),
+        None => Ok(None),
+    }
+}
+
+fn unboxed(operation: Option<Boxed<Operation>>) -> Option<Operation> {
+    match operation {
+        Some(operation) => Some(operation.into_inner()),
+        None => None,
+    }
+}
+
+impl Noted for Operation {
+    fn read(alloc: Global, noted: &Json) -> Result<Operation, CaseError> {
+        let Told {
+            operation_id,
+            summary,
+            description,
+        } = Told::read(alloc, noted)?;
+        Ok(Operation {
+            operation_id,
+            summary,
+            description,
+            tags: list_at(alloc, noted, "tags")?,
+            parameters: list_at(alloc, noted, "parameters")?,
+            request_body: maybe_at(alloc, noted, "requestBody")?,
+            responses: map_at(alloc, noted, "responses")?,
+            pagination: pagination_of(alloc, noted)?,
+            deprecated: is_true_at(noted, "deprecated"),
+        })
+    }
+}
+
+/// The texts of an operation.
+#[derive(Drop)]
+struct Told {
+    operation_id: Text,
+    summary: Option<Text>,
+    description: Option<Text>,
+}
+
+impl Noted for Told {
+    fn read(alloc: Global, noted: &Json) -> Result<Told, CaseError> {
+        Ok(Told {
+            operation_id: part_at(alloc, noted, "operationId")?,
+            summary: text_at(alloc, noted, "summary")?,
+            description: text_at(alloc, noted, "description")?,
+        })
+    }
+}
+
+fn pagination_of(alloc: Global, noted: &Json) -> Result<Option<List<Text>>, CaseError> {
+    match noted.get("x-dropshot-pagination") {
+        Some(pagination) => Ok(Some(list_at(alloc, pagination, "required")?)),
+        None => Ok(None),
+    }
+}
+
+impl Noted for Parameter {
+    fn read(alloc: Global, noted: &Json) -> Result<Parameter, CaseError> {
+        Ok(Parameter {
+            location: part_at(alloc, noted, "in")?,
+            name: part_at(alloc, noted, "name")?,
+            description: text_at(alloc, noted, "description")?,
+            required: is_true_at(noted, "required"),
+            schema: part_at(alloc, noted, "schema")?,
+        })
+    }
+}
+
+impl Noted for HeaderObject {
+    fn read(alloc: Global, noted: &Json) -> Result<HeaderObject, CaseError> {
+        Ok(HeaderObject {
+            description: text_at(alloc, noted, "description")?,
+            style: part_at(alloc, noted, "style")?,
+            required: is_true_at(noted, "required"),
+            schema: part_at(alloc, noted, "schema")?,
+        })
+    }
+}
+
+impl Noted for MediaType {
+    fn read(alloc: Global, noted: &Json) -> Result<MediaType, CaseError> {
+        Ok(MediaType {
+            schema: given(noted, "schema")?.copy(alloc)?,
+        })
+    }
+}
+
+impl Noted for RequestBody {
+    fn read(alloc: Global, noted: &Json) -> Result<RequestBody, CaseError> {
+        Ok(RequestBody {
+            content: map_at(alloc, noted, "content")?,
+            required: is_true_at(noted, "required"),
+        })
+    }
+}
+
+impl Noted for ResponseObject {
+    fn read(alloc: Global, noted: &Json) -> Result<ResponseObject, CaseError> {
+        Ok(ResponseObject {
+            description: text_at(alloc, noted, "description")?,
+            headers: map_at(alloc, noted, "headers")?,
+            content: map_at(alloc, noted, "content")?,
+            reference: text_at(alloc, noted, "$ref")?,
+        })
+    }
+}

@@ -1,0 +1,168 @@
+//! Calls on schemas. A schema is told as it is written.
+use crate::answers::{error_told, put, word};
+use crate::schema_notation::{definitions_of, noted_schema};
+use case_notation::{CaseError, given, text_of};
+use openapi_values::J2oasError;
+use schema_util::{ScalarError, Schema2StructError, StructMember};
+use schema_values::{Json, List, Member, Schema, Text};
+use std::alloc::Global;
+
+/// What a copy of the schema is written as, with the title under `title` where one stands, or why
+/// it is not written.
+pub fn j2oas_schema(alloc: Global, case: &Json) -> Result<Json, CaseError> {
+    let title = title_of(case)?;
+    let schema = noted_schema(alloc, case)?.copy(alloc)?;
+    written(alloc, title, &schema)
+}
+
+fn title_of(case: &Json) -> Result<Option<&str>, CaseError> {
+    match case.get("title") {
+        Some(title) => Ok(Some(text_of(title)?.as_str())),
+        None => Ok(None),
+    }
+}
+
+fn written(alloc: Global, title: Option<&str>, schema: &Schema) -> Result<Json, CaseError> {
+    match openapi_values::j2oas_schema(alloc, title, schema) {
+        Ok(json) => Ok(json),
+        Err(J2oasError::OutOfMemory) => Err(CaseError::OutOfMemory),
+        Err(error) => error_told(alloc, format!(in alloc; "{error}")?),
+    }
+}
+
+/// The schema that references lead to, or why they lead to none.
+pub fn resolve(alloc: Global, case: &Json) -> Result<Json, CaseError> {
+    let definitions = definitions_of(alloc, case)?;
+    let schema = noted_schema(alloc, case)?;
+    match schema_util::resolve(&schema, &definitions) {
+        Ok(found) => written(alloc, None, found),
+        Err(error) => error_told(alloc, format!(in alloc; "{error}")?),
+    }
+}
+
+/// Whether the schema is empty.
+pub fn is_empty(alloc: Global, case: &Json) -> Result<Json, CaseError> {
+    Ok(Json::Bool(schema_util::is_empty(&noted_schema(alloc, case)?)))
+}
+
+/// The schema's extensions as an object, or null.
+pub fn extensions(alloc: Global, case: &Json) -> Result<Json, CaseError> {
+    let schema = noted_schema(alloc, case)?;
+    match schema_util::schema_extensions(&schema) {
+        Some(extensions) => object_of(alloc, extensions.as_slice()),
+        None => Ok(Json::Null),
+    }
+}
+
+fn object_of(alloc: Global, members: &[Member]) -> Result<Json, CaseError> {
+    let mut copies = List::new(alloc);
+    for Member { name, value } in members {
+        put(alloc, &mut copies, name.as_str(), value.copy(alloc)?)?;
+    }
+    Ok(Json::Object(copies))
+}
+
+/// The schema's description or null, and the rest: `{"description": TEXT, "schema": SCHEMA}`.
+pub fn extracted(alloc: Global, case: &Json) -> Result<Json, CaseError> {
+    let schema = noted_schema(alloc, case)?;
+    let (description, rest) = schema_util::schema_extract_description(alloc, &schema)?;
+    let mut parts = List::new(alloc);
+    put(
+        alloc,
+        &mut parts,
+        "description",
+        text_or_null(alloc, &description)?,
+    )?;
+    put(alloc, &mut parts, "schema", written(alloc, None, &rest)?)?;
+    Ok(Json::Object(parts))
+}
+
+fn text_or_null(alloc: Global, text: &Option<Text>) -> Result<Json, CaseError> {
+    match text {
+        Some(text) => Ok(Json::Text(text.copy(alloc)?)),
+        None => Ok(Json::Null),
+    }
+}
+
+/// Whether the schema is that of scalar values, as `"fits"`, or why not.
+pub fn scalar(alloc: Global, case: &Json) -> Result<Json, CaseError> {
+    let definitions = definitions_of(alloc, case)?;
+    let schema = noted_schema(alloc, case)?;
+    told(alloc, schema_util::type_is_scalar(&schema, &definitions))
+}
+
+/// Whether the schema is that of texts, as `"fits"`, or why not.
+pub fn string(alloc: Global, case: &Json) -> Result<Json, CaseError> {
+    let definitions = definitions_of(alloc, case)?;
+    let schema = noted_schema(alloc, case)?;
+    told(alloc, schema_util::type_is_string(&schema, &definitions))
+}
+
+/// Whether the schema is that of lists of texts, as `"fits"`, or why not.
+pub fn string_enum(alloc: Global, case: &Json) -> Result<Json, CaseError> {
+    let definitions = definitions_of(alloc, case)?;
+    let schema = noted_schema(alloc, case)?;
+    told(
+        alloc,
+        schema_util::type_is_string_enum(&schema, &definitions),
+    )
+}
+
+fn told(alloc: Global, outcome: Result<(), ScalarError<'_>>) -> Result<Json, CaseError> {
+    match outcome {
+        Ok(()) => word(alloc, "fits"),
+        Err(error) => error_told(alloc, format!(in alloc; "{error}")?),
+    }
+}
+
+/// The members of the schema's struct, or why it is that of no struct. They may be required where
+/// `required` is true.
+pub fn members(alloc: Global, case: &Json) -> Result<Json, CaseError> {
+    let Json::Bool(required) = given(case, "required")? else {
+        return Err(CaseError::Expected("a truth value"));
+    };
+    let definitions = definitions_of(alloc, case)?;
+    let schema = noted_schema(alloc, case)?;
+    match schema_util::schema2struct(alloc, &schema, &definitions, *required) {
+        Ok(members) => members_told(alloc, members.as_slice()),
+        Err(Schema2StructError::OutOfMemory) => Err(CaseError::OutOfMemory),
+        Err(error) => copy_told(alloc, &error),
+    }
+}
+
+fn copy_told(alloc: Global, error: &Schema2StructError) -> Result<Json, CaseError> {
+    let copy = error.copy(alloc)?;
+    error_told(alloc, format!(in alloc; "{copy}")?)
+}
+
+fn members_told(alloc: Global, members: &[StructMember]) -> Result<Json, CaseError> {
+    let mut told = List::new(alloc);
+    for member in members {
+        told.push(member_told(alloc, &member.copy(alloc)?)?)?;
+    }
+    Ok(Json::List(told))
+}
+
+fn member_told(alloc: Global, member: &StructMember) -> Result<Json, CaseError> {
+    let mut parts = List::new(alloc);
+    put(
+        alloc,
+        &mut parts,
+        "name",
+        Json::Text(member.name.copy(alloc)?),
+    )?;
+    put(
+        alloc,
+        &mut parts,
+        "description",
+        text_or_null(alloc, &member.description)?,
+    )?;
+    put(
+        alloc,
+        &mut parts,
+        "schema",
+        written(alloc, None, &member.schema)?,
+    )?;
+    put(alloc, &mut parts, "required", Json::Bool(member.required))?;
+    Ok(Json::Object(parts))
+}

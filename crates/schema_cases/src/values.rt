@@ -1,0 +1,108 @@
+//! Calls on values.
+use crate::answers::{error_told, pair};
+use crate::request_notation::bytes_of;
+use case_notation::{CaseError, form, given, made_of, text_of};
+use schema_values::{Json, ReadError, Text, ValueError};
+use serde_json::Value;
+use std::alloc::Global;
+
+/// The value of a case: under `json` as it is read, or under `made`.
+pub fn noted_value(alloc: Global, case: &Json) -> Result<Json, CaseError> {
+    match case.get("json") {
+        Some(json) => Ok(json.copy(alloc)?),
+        None => made_of(alloc, given(case, "made")?),
+    }
+}
+
+/// What the text of a case is read as, `{"json": VALUE}`, or why it is not read.
+pub fn read(alloc: Global, case: &Json) -> Result<Json, CaseError> {
+    let bytes = bytes_of(alloc, given(case, "text")?)?;
+    read_told(alloc, bytes.as_slice())
+}
+
+fn read_told(alloc: Global, bytes: &[u8]) -> Result<Json, CaseError> {
+    match Json::read(alloc, bytes) {
+        Ok(json) => Ok(form(alloc, "json", json)?),
+        Err(ReadError::OutOfMemory) => Err(CaseError::OutOfMemory),
+        Err(error) => error_told(alloc, format!(in alloc; "{error}")?),
+    }
+}
+
+/// The value's compact text.
+pub fn compact(alloc: Global, case: &Json) -> Result<Json, CaseError> {
+    Ok(Json::Text(noted_value(alloc, case)?.compact(alloc)?))
+}
+
+/// The value's text in lines.
+pub fn pretty(alloc: Global, case: &Json) -> Result<Json, CaseError> {
+    Ok(Json::Text(noted_value(alloc, case)?.pretty(alloc)?))
+}
+
+/// What the compact text is read as.
+pub fn read_compact(alloc: Global, case: &Json) -> Result<Json, CaseError> {
+    let text = noted_value(alloc, case)?.compact(alloc)?;
+    read_told(alloc, text.as_bytes())
+}
+
+/// What the text in lines is read as.
+pub fn read_pretty(alloc: Global, case: &Json) -> Result<Json, CaseError> {
+    let text = noted_value(alloc, case)?.pretty(alloc)?;
+    read_told(alloc, text.as_bytes())
+}
+
+/// How many characters a text has.
+pub fn chars_count(case: &Json) -> Result<Json, CaseError> {
+    let count = text_of(given(case, "text")?)?.chars_count();
+    match i128::try_from(count) {
+        Ok(count) => Ok(Json::Int(count)),
+        Err(_) => Err(CaseError::Expected("a count")),
+    }
+}
+
+/// The value's member of a name, `{"json": MEMBER}`, or null.
+pub fn get(alloc: Global, case: &Json) -> Result<Json, CaseError> {
+    let name = text_of(given(case, "name")?)?;
+    match given(case, "json")?.get(name.as_str()) {
+        Some(member) => Ok(form(alloc, "json", member.copy(alloc)?)?),
+        None => Ok(Json::Null),
+    }
+}
+
+/// Whether the value is sound.
+pub fn sound(alloc: Global, case: &Json) -> Result<Json, CaseError> {
+    Ok(Json::Bool(noted_value(alloc, case)?.sound()))
+}
+
+/// Whether the value is equal to the one under `other`, which is noted as one that is made.
+pub fn equals(alloc: Global, case: &Json) -> Result<Json, CaseError> {
+    let value = noted_value(alloc, case)?;
+    let other = made_of(alloc, given(case, "other")?)?;
+    Ok(Json::Bool(value.equals(&other)))
+}
+
+/// The text of the value as `serde_json` has it, and what comes back: `[TEXT, {"json": VALUE}]`.
+pub fn to_value(alloc: Global, case: &Json) -> Result<Json, CaseError> {
+    let json = noted_value(alloc, case)?;
+    if !json.sound() {
+        return Err(CaseError::Expected("a sound value"));
+    }
+    let value = json.to_value(alloc)?;
+    let text = Json::Text(Text::from_string(value.to_string(alloc)?));
+    Ok(pair(alloc, text, taken_over(alloc, &value)?)?)
+}
+
+/// What the value that `serde_json` reads a text as is here, or why it is none.
+pub fn of_value(alloc: Global, case: &Json) -> Result<Json, CaseError> {
+    match Value::from_str(alloc, text_of(given(case, "text")?)?.as_str()) {
+        Ok(value) => taken_over(alloc, &value),
+        Err(_) => Err(CaseError::Expected("a value of serde_json")),
+    }
+}
+
+fn taken_over(alloc: Global, value: &Value) -> Result<Json, CaseError> {
+    match Json::of_value(alloc, value) {
+        Ok(json) => Ok(form(alloc, "json", json)?),
+        Err(ValueError::OutOfMemory) => Err(CaseError::OutOfMemory),
+        Err(error) => error_told(alloc, format!(in alloc; "{error}")?),
+    }
+}

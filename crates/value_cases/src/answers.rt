@@ -1,0 +1,55 @@
+//! What the calls of cases answer.
+use crate::printed::{lines_printed, printed_and_read, value};
+use crate::schemas::{admits, copied_schemas, definition, schema, titled};
+use crate::tables::{add, add_together, copied_table, table_told};
+use crate::types::type_told;
+use crate::values::{decode, decode_and_encode, desc_told, encode};
+use case_notation::{AnswersCases, CaseError, given, text_of};
+use schema_values::{Json, List};
+use std::alloc::Global;
+
+/// The calls of cases of values.
+pub struct ValueCases;
+
+impl AnswersCases for ValueCases {
+    fn answer(&self, alloc: Global, case: &Json) -> Result<Json, CaseError> {
+        let answer = match given(case, "call")? {
+            Json::List(calls) => answers(alloc, calls.as_slice(), case)?,
+            call => answer(alloc, call, case)?,
+        };
+        match case.get("pretty") {
+            Some(places) => lines_printed(alloc, &answer, places),
+            None => Ok(answer),
+        }
+    }
+}
+
+fn answers(alloc: Global, calls: &[Json], case: &Json) -> Result<Json, CaseError> {
+    let mut answers = List::new(alloc);
+    for call in calls {
+        answers.push(answer(alloc, call, case)?)?;
+    }
+    Ok(Json::List(answers))
+}
+
+fn answer(alloc: Global, call: &Json, case: &Json) -> Result<Json, CaseError> {
+    match text_of(call)?.as_str() {
+        "add" => add(alloc, case),
+        "add_all" => add_together(alloc, case),
+        "copy_table" => copied_table(alloc, case),
+        "check_table" => table_told(alloc, case),
+        "check_desc" => desc_told(alloc, case),
+        "decode" => decode(alloc, case),
+        "decode_and_encode" => decode_and_encode(alloc, case),
+        "encode" => encode(alloc, case),
+        "schema_of" => schema(alloc, case),
+        "titled_schema" => titled(alloc, case),
+        "definition_schema" => definition(alloc, case),
+        "copied_schemas" => copied_schemas(alloc, case),
+        "admits" => admits(alloc, case),
+        "value" => value(alloc, case),
+        "print_and_read" => printed_and_read(alloc, case),
+        "type" => type_told(alloc, case),
+        _ => Err(CaseError::Expected("the name of a call")),
+    }
+}

@@ -1,0 +1,69 @@
+//! What stands in a case: a table and a descriptor that pass their checks, and a value.
+ghost use Rattle.std.specs.Prelude.{IfOk};
+ghost use Rattle.typed_values.specs.Checks.{TablePasses, DescPasses};
+
+use crate::refusals::flaw;
+use case_notation::{CaseError, desc_of, given, made_of, table_of, text_of};
+use schema_values::{Json, ReadError, Text};
+use std::alloc::Global;
+use typed_values::{Desc, DescTable, check_desc, check_table};
+
+/// A table and a descriptor that pass their checks.
+#[derive(Drop)]
+pub struct Scope {
+    /// The definitions.
+    pub table: DescTable,
+    /// What a value of the case is meant to be of.
+    pub desc: Desc,
+    ghost table_passes: { TablePasses table },
+    ghost desc_passes: { DescPasses table desc },
+}
+
+/// The table and the descriptor of a case.
+pub fn scope_of(alloc: Global, case: &Json) -> Result<Scope, CaseError> {
+    let table = checked_table(alloc, case)?;
+    let desc = desc_of(alloc, given(case, "desc")?)?;
+    match check_desc(&table, &desc) {
+        Ok(()) => {}
+        Err(error) => return Err(CaseError::Flawed(flaw(&error))),
+    }
+    Ok(Scope { table, desc })
+}
+
+/// The table of the definitions of a case.
+pub fn checked_table(alloc: Global, case: &Json) -> Result<DescTable, CaseError>
+    ensures { IfOk result (λ table. TablePasses table) }
+{
+    let table = table_of(alloc, case)?;
+    match check_table(&table) {
+        Ok(()) => {}
+        Err(error) => return Err(CaseError::Flawed(flaw(&error))),
+    }
+    Ok(table)
+}
+
+/// The value of a case: read from the characters of `text`, or made as `made` says, or else as it
+/// stands under `json`. There is none where a text is no JSON.
+pub fn value_of(alloc: Global, case: &Json) -> Result<Option<Json>, CaseError> {
+    if let Some(text) = case.get("text") {
+        return read(alloc, text_of(text)?.as_bytes());
+    }
+    match case.get("made") {
+        Some(made) => Ok(Some(made_of(alloc, made)?)),
+        None => Ok(Some(given(case, "json")?.copy(alloc)?)),
+    }
+}
+
+/// The value that bytes are read as.
+pub fn read(alloc: Global, bytes: &[u8]) -> Result<Option<Json>, CaseError> {
+    match Json::read(alloc, bytes) {
+        Ok(json) => Ok(Some(json)),
+        Err(ReadError::Unreadable) => Ok(None),
+        Err(ReadError::OutOfMemory) => Err(CaseError::OutOfMemory),
+    }
+}
+
+/// A word as an answer.
+pub fn word(alloc: Global, word: &str) -> Result<Json, CaseError> {
+    Ok(Json::Text(Text::from_str(alloc, word)?))
+}

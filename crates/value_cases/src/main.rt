@@ -1,0 +1,24 @@
+//! Cases of values: each line of the input is one, and is answered with one line.
+#![tactic(auto)]
+
+mod answers;
+mod case;
+mod printed;
+mod refusals;
+mod schemas;
+mod tables;
+mod types;
+mod values;
+
+use crate::answers::ValueCases;
+use case_notation::Cases;
+use std::io;
+
+fn main(rt: HostRuntime) -> io::Result<()> {
+    let mut cases = Cases::new(rt.alloc());
+    for line in rt.lines(rt.alloc()) {
+        let reply = cases.reply(rt.alloc(), &ValueCases, line?.as_str())?;
+        println!(rt; "{reply}")?;
+    }
+    Ok(())
+}

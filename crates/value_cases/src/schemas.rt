@@ -1,0 +1,104 @@
+//! Calls that write schemas, and what schemas admit.
+ghost use Rattle.typed_values.specs.Checks.{TablePasses};
+
+use crate::case::{checked_table, value_of};
+use case_notation::{CaseError, desc_of, form, given, text_of};
+use openapi_values::{J2oasError, j2oas_schema, json_admits};
+use schema_values::{Json, List, Member, Schema};
+use std::alloc::{AllocError, Global};
+use typed_values::{DescTable, SchemaPlace, schema_of, schema_of_definition};
+use written_schemas::{definition_schema, titled_schema};
+
+/// The schema of the descriptor of a case at its place, `plain` or `header`.
+pub fn schema(alloc: Global, case: &Json) -> Result<Json, CaseError> {
+    schema_at(alloc, case, place_of(case)?)
+}
+
+fn schema_at(alloc: Global, case: &Json, place: SchemaPlace) -> Result<Json, CaseError> {
+    let table = checked_table(alloc, case)?;
+    let desc = desc_of(alloc, given(case, "desc")?)?;
+    written(alloc, &schema_of(alloc, &table, &desc, place)?)
+}
+
+fn place_of(case: &Json) -> Result<SchemaPlace, CaseError> {
+    match text_of(given(case, "place")?)?.as_str() {
+        "plain" => Ok(SchemaPlace::Plain),
+        "header" => Ok(SchemaPlace::Header),
+        _ => Err(CaseError::Expected("plain or header")),
+    }
+}
+
+fn written(alloc: Global, schema: &Schema) -> Result<Json, CaseError> {
+    match j2oas_schema(alloc, None, schema) {
+        Ok(json) => Ok(json),
+        Err(J2oasError::OutOfMemory) => Err(CaseError::OutOfMemory),
+        Err(_) => Err(CaseError::Expected("a schema that can be written")),
+    }
+}
+
+/// The schema of the descriptor of a case under its title.
+pub fn titled(alloc: Global, case: &Json) -> Result<Json, CaseError> {
+    let table = checked_table(alloc, case)?;
+    let desc = desc_of(alloc, given(case, "desc")?)?;
+    Ok(titled_schema(alloc, &table, &desc, text_of(given(case, "title")?)?)?)
+}
+
+/// The schema of the definition of a name.
+pub fn definition(alloc: Global, case: &Json) -> Result<Json, CaseError> {
+    let table = checked_table(alloc, case)?;
+    match table.entry_named(text_of(given(case, "name")?)?.as_str()) {
+        Some(definition) => Ok(definition_schema(alloc, &table, definition)?),
+        None => Err(CaseError::Expected("the name of a definition")),
+    }
+}
+
+/// For each definition of a case whether its schema and a copy of that are written alike.
+pub fn copied_schemas(alloc: Global, case: &Json) -> Result<Json, CaseError> {
+    let table = checked_table(alloc, case)?;
+    let mut answers = List::new(alloc);
+    for definition in table.definitions() {
+        let schema = schema_of_definition(alloc, &table, definition)?;
+        answers.push(form(alloc, definition.name.as_str(), alike(alloc, &schema)?)?)?;
+    }
+    Ok(Json::List(answers))
+}
+
+fn alike(alloc: Global, schema: &Schema) -> Result<Json, CaseError> {
+    let json = written(alloc, schema)?;
+    let again = written(alloc, &schema.copy(alloc)?)?;
+    Ok(Json::Bool(json.equals(&again)))
+}
+
+/// Whether a document of the definitions of a case admits its value under the schema of its
+/// descriptor. What is no JSON is not admitted.
+pub fn admits(alloc: Global, case: &Json) -> Result<Json, CaseError> {
+    let schema = schema_at(alloc, case, SchemaPlace::Plain)?;
+    let document = document_of(alloc, case)?;
+    match value_of(alloc, case)? {
+        Some(json) => Ok(Json::Bool(json_admits(&document, &schema, &json))),
+        None => Ok(Json::Bool(false)),
+    }
+}
+
+/// A document of the schemas of the definitions of a case.
+fn document_of(alloc: Global, case: &Json) -> Result<Json, CaseError> {
+    let schemas = schemas_of(alloc, &checked_table(alloc, case)?)?;
+    Ok(form(
+        alloc,
+        "components",
+        form(alloc, "schemas", Json::Object(schemas))?,
+    )?)
+}
+
+fn schemas_of(alloc: Global, table: &DescTable) -> Result<List<Member>, AllocError>
+    requires { TablePasses table.now }
+{
+    let mut schemas = List::new(alloc);
+    for definition in table.definitions() {
+        schemas.push(Member {
+            name: definition.name.copy(alloc)?,
+            value: definition_schema(alloc, table, definition)?,
+        })?;
+    }
+    Ok(schemas)
+}

@@ -1,0 +1,86 @@
+//! Calls on tables of definitions.
+use crate::case::word;
+use crate::refusals::told;
+use api_types::add_all;
+use case_notation::{CaseError, definition_of, form, given, items_of, table_of};
+use schema_values::{Json, List};
+use std::alloc::Global;
+use typed_values::{AddError, Added, Definition, DescTable, check_table};
+
+/// What is told of the table of a case.
+pub fn table_told(alloc: Global, case: &Json) -> Result<Json, CaseError> {
+    told(alloc, check_table(&table_of(alloc, case)?))
+}
+
+/// What is told of each of the definitions of a case, added one after another.
+pub fn add(alloc: Global, case: &Json) -> Result<Json, CaseError> {
+    let mut table = DescTable::new(alloc);
+    let mut words = List::new(alloc);
+    for noted in items_of(given(case, "definitions")?)? {
+        words.push(added(alloc, &mut table, definition_of(alloc, noted)?)?)?;
+    }
+    Ok(Json::List(words))
+}
+
+fn added(alloc: Global, table: &mut DescTable, definition: Definition) -> Result<Json, CaseError> {
+    let Definition {
+        name,
+        description,
+        desc,
+    } = definition;
+    match table.add_described(name.as_str(), description, desc) {
+        Ok(Added::New) => word(alloc, "new"),
+        Ok(Added::Same) => word(alloc, "same"),
+        Err(error) => not_added(alloc, error),
+    }
+}
+
+fn not_added(alloc: Global, error: AddError) -> Result<Json, CaseError> {
+    match error {
+        AddError::Clash(name) => Ok(form(alloc, "clash", Json::Text(name))?),
+        AddError::OutOfMemory => Err(CaseError::OutOfMemory),
+    }
+}
+
+/// Each definition of a copy of the table of a case: what is told where it is added to the table.
+pub fn copied_table(alloc: Global, case: &Json) -> Result<Json, CaseError> {
+    let mut table = table_of(alloc, case)?;
+    let copy = table.copy(alloc)?;
+    let mut words = List::new(alloc);
+    for definition in copy.definitions() {
+        words.push(added(alloc, &mut table, definition.copy(alloc)?)?)?;
+    }
+    Ok(Json::List(words))
+}
+
+/// What is told of each list of definitions under `batches`, whose definitions are added together,
+/// and how many the table has then.
+pub fn add_together(alloc: Global, case: &Json) -> Result<Json, CaseError> {
+    let mut table = DescTable::new(alloc);
+    let mut answers = List::new(alloc);
+    for noted in items_of(given(case, "batches")?)? {
+        let definitions = definitions_of(alloc, noted)?;
+        answers.push(added_together(alloc, &mut table, definitions.as_slice())?)?;
+        answers.push(Json::Int(table.len() as i128))?;
+    }
+    Ok(Json::List(answers))
+}
+
+fn definitions_of(alloc: Global, noted: &Json) -> Result<List<Definition>, CaseError> {
+    let mut definitions = List::new(alloc);
+    for noted in items_of(noted)? {
+        definitions.push(definition_of(alloc, noted)?)?;
+    }
+    Ok(definitions)
+}
+
+fn added_together(
+    alloc: Global,
+    table: &mut DescTable,
+    definitions: &[Definition],
+) -> Result<Json, CaseError> {
+    match add_all(alloc, table, definitions) {
+        Ok(()) => word(alloc, "added"),
+        Err(error) => not_added(alloc, error),
+    }
+}

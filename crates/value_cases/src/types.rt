@@ -1,0 +1,99 @@
+//! Calls on the types that a document describes.
+ghost use Rattle.api_types.specs.Types.{IsTableOf};
+
+use crate::case::word;
+use api_types::{AnyValue, ApiType, Flaw, TypeError, json_value, table_of, value_json};
+use case_notation::{CaseError, form, given, text_of, tree_noted};
+use own_types::{Color, Label, Point};
+use schema_values::{Json, List, Member, Text};
+use std::alloc::Global;
+use std::collections::BTreeMap;
+use typed_values::{DecodeError, DescTable};
+
+/// What is told of the JSON of a case as a value of the type of this name.
+pub fn type_told(alloc: Global, case: &Json) -> Result<Json, CaseError> {
+    let json = given(case, "json")?;
+    match text_of(given(case, "type")?)?.as_str() {
+        "Boolean" => told_of::<bool>(alloc, json),
+        "Character" => told_of::<char>(alloc, json),
+        "String" => told_of::<Text>(alloc, json),
+        "int8" => told_of::<i8>(alloc, json),
+        "int16" => told_of::<i16>(alloc, json),
+        "int32" => told_of::<i32>(alloc, json),
+        "int64" => told_of::<i64>(alloc, json),
+        "uint8" => told_of::<u8>(alloc, json),
+        "uint16" => told_of::<u16>(alloc, json),
+        "uint32" => told_of::<u32>(alloc, json),
+        "uint64" => told_of::<u64>(alloc, json),
+        "Nullable_Boolean" => told_of::<Option<bool>>(alloc, json),
+        "Nullable_Nullable_Boolean" => told_of::<Option<Option<bool>>>(alloc, json),
+        "Array_of_uint8" => told_of::<List<u8>>(alloc, json),
+        "Map_of_Boolean" => told_of::<BTreeMap<Text, bool>>(alloc, json),
+        "AnyValue" => told_of::<AnyValue>(alloc, json),
+        "Label" => told_of::<Label>(alloc, json),
+        "Color" => told_of::<Color>(alloc, json),
+        "Point" => told_of::<Point>(alloc, json),
+        _ => Err(CaseError::Expected("the name of a type")),
+    }
+}
+
+fn told_of<T: ApiType>(alloc: Global, json: &Json) -> Result<Json, CaseError> {
+    match table_of::<T>(alloc) {
+        Ok(table) => value_told::<T>(alloc, &table, json),
+        Err(error) => no_table(alloc, error),
+    }
+}
+
+/// The name of a type, and the value that JSON denotes of it: its tree and what it is written as.
+/// Or the fault.
+fn value_told<T: ApiType>(alloc: Global, table: &DescTable, json: &Json) -> Result<Json, CaseError>
+    requires { IsTableOf T.definitions_of T.desc_of table.now }
+{
+    if !json.sound() {
+        return Err(CaseError::Expected("a sound value"));
+    }
+    let mut told = List::new(alloc);
+    told.push(member(alloc, "name", Json::Text(T::type_name(alloc)?))?)?;
+    match json_value::<T>(alloc, table, json) {
+        Ok(value) => {
+            told.push(member(alloc, "tree", tree_noted(alloc, &value.to_tree(alloc)?)?)?)?;
+            told.push(member(alloc, "json", value_json(alloc, table, &value)?)?)?;
+        }
+        Err(DecodeError::Fault(fault)) => {
+            told.push(member(alloc, "fault", Json::Text(fault.text(alloc)?))?)?;
+        }
+        Err(DecodeError::OutOfMemory) => return Err(CaseError::OutOfMemory),
+    }
+    Ok(Json::Object(told))
+}
+
+fn member(alloc: Global, name: &str, value: Json) -> Result<Member, CaseError> {
+    Ok(Member {
+        name: Text::from_str(alloc, name)?,
+        value,
+    })
+}
+
+/// Why a type has no table.
+fn no_table(alloc: Global, error: TypeError) -> Result<Json, CaseError> {
+    match error {
+        TypeError::Clash(name) => Ok(form(alloc, "clash", Json::Text(name))?),
+        TypeError::Table(flaw) => Ok(form(alloc, "table", word(alloc, flaw_told(&flaw))?)?),
+        TypeError::Descriptor(flaw) => Ok(form(alloc, "desc", word(alloc, flaw_told(&flaw))?)?),
+        TypeError::OutOfMemory => Err(CaseError::OutOfMemory),
+    }
+}
+
+fn flaw_told(flaw: &Flaw) -> &'static str {
+    match flaw {
+        Flaw::DoubledName => "doubled name",
+        Flaw::BadName => "bad name",
+        Flaw::Dangling => "dangling",
+        Flaw::Unguarded(_) => "unguarded",
+        Flaw::EmptyEnumeration => "empty enumeration",
+        Flaw::NullOfNull => "null of null",
+        Flaw::TagClash => "tag clash",
+        Flaw::BadRange => "bad range",
+        Flaw::BadPresence => "bad presence",
+    }
+}
