@@ -1,13 +1,15 @@
 //! The table that a type's values need.
-ghost use Rattle.std.specs.Prelude.{◌≡◌, [], IfOk, IfErr};
+ghost use Rattle.std.specs.Prelude.{◌≡◌, [], IfOk, IfErr, OnOk, MatchOption};
+ghost use Rattle.typed_values.specs.Causes.{AppliesToDesc, AppliesToTable};
+ghost use Rattle.typed_values.specs.Checks.{DescPasses, TablePasses};
 ghost use Rattle.api_types.specs.Additions.{with_all};
-ghost use Rattle.api_types.specs.TypeTables.{flaw_of, HasNoTable};
-ghost use Rattle.api_types.specs.Types.{IsTableOf};
+ghost use Rattle.api_types.specs.TypeTables.{flaw_of, HasNoTable, IsFirstFlaw};
+ghost use Rattle.api_types.specs.Types.{HoldsAll, IsTableOf};
 
 use crate::api_type::ApiType;
 use schema_values::Text;
 use std::alloc::{AllocError, Global};
-use typed_values::{AddError, DescTable, TableError, check_desc, check_table};
+use typed_values::{AddError, Desc, DescTable, TableError, check_desc, check_table};
 
 /// Why a type has no table.
 #[derive(Debug, Drop)]
@@ -98,12 +100,55 @@ pub fn table_of<T: ApiType>(alloc: Global) -> Result<DescTable, TypeError>
 {
     let mut table = DescTable::new(alloc);
     T::add_definitions(alloc, &mut table)?;
-    let desc = T::descriptor(alloc)?;
-    if let Err(error) = check_table(&table) {
-        return Err(TypeError::Table(Flaw::of(alloc, error)?));
-    }
-    if let Err(error) = check_desc(&table, &desc) {
-        return Err(TypeError::Descriptor(Flaw::of(alloc, error)?));
-    }
+    check_type::<T>(alloc, &table)?;
     Ok(table)
+}
+
+// Checks the table of a type's definitions, and then the type's descriptor beside it.
+fn check_type<T: ApiType>(alloc: Global, table: &DescTable) -> Result<(), TypeError>
+    requires made { table.now ≡ with_all [] T.definitions_of }
+    requires held { HoldsAll table.now T.definitions_of }
+    ensures ok { OnOk result (IsTableOf T.definitions_of T.desc_of table.now) }
+    ensures refused { IfErr result (HasNoTable T.definitions_of T.desc_of) }
+{
+    if let Some(flaw) = table_flaw(alloc, table)? {
+        return Err(TypeError::Table(flaw));
+    }
+    match descriptor_flaw::<T>(alloc, table)? {
+        Some(flaw) => Err(TypeError::Descriptor(flaw)),
+        None => Ok(()),
+    }
+}
+
+// The first flaw of a table, if it has one.
+fn table_flaw(alloc: Global, table: &DescTable) -> Result<Option<Flaw>, AllocError>
+    ensures { IfOk result (λ found. MatchOption found (TablePasses table.now)
+        (IsFirstFlaw (AppliesToTable table.now))) }
+{
+    match check_table(table) {
+        Ok(()) => Ok(None),
+        Err(error) => Ok(Some(Flaw::of(alloc, error)?)),
+    }
+}
+
+// The first flaw of a type's descriptor beside a table without one.
+fn descriptor_flaw<T: ApiType>(alloc: Global, table: &DescTable) -> Result<Option<Flaw>, AllocError>
+    requires { TablePasses table.now }
+    ensures { IfOk result (λ found. MatchOption found (DescPasses table.now T.desc_of)
+        (IsFirstFlaw (AppliesToDesc table.now T.desc_of))) }
+{
+    let desc = T::descriptor(alloc)?;
+    desc_flaw(alloc, table, &desc)
+}
+
+// The first flaw of a descriptor beside a table without one.
+fn desc_flaw(alloc: Global, table: &DescTable, desc: &Desc) -> Result<Option<Flaw>, AllocError>
+    requires { TablePasses table.now }
+    ensures { IfOk result (λ found. MatchOption found (DescPasses table.now desc.now)
+        (IsFirstFlaw (AppliesToDesc table.now desc.now))) }
+{
+    match check_desc(table, desc) {
+        Ok(()) => Ok(None),
+        Err(error) => Ok(Some(Flaw::of(alloc, error)?)),
+    }
 }

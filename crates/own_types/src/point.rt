@@ -83,12 +83,12 @@ fn trees_in(tree: &Tree) -> &[Tree]
 fn definition(alloc: Global) -> Result<Definition, AllocError>
     ensures { IfOk result (λ made. made ≡ point_definition) }
 {
-    let label = Label::descriptor(alloc)?;
-    let color = <Option<Color>>::descriptor(alloc)?;
-    let n = i32::descriptor(alloc)?;
     let mut fields = List::new(alloc);
+    let label = Label::descriptor(alloc)?;
     fields.push(field(alloc, "label", label, Presence::Required)?)?;
+    let color = <Option<Color>>::descriptor(alloc)?;
     fields.push(field(alloc, "color", color, Presence::Nullable)?)?;
+    let n = i32::descriptor(alloc)?;
     fields.push(field(alloc, "n", n, Presence::Required)?)?;
     Ok(Definition {
         name: Text::from_ascii(alloc, "Point")?,

@@ -12,11 +12,3 @@ returns-in_err-add_definitions-clause-refused g c =
     let error = c.in_err-add_definitions.field-0.0 in
     let p = err_from_is_err_and c.from_residual.result c.from_residual.ensures.1 in
     rw (p.1, p.2) (clash_told ds g.T.ApiType.desc_of error (subst (λ es. AreRefused es ds error) c.new-table.ensures c.in_err-add_definitions.ensures.refused))
-
-pub returns-in-Err-clause-refused : goal.returns-in-Err-clause-refused
-returns-in-Err-clause-refused g c =
-    let ds = g.T.ApiType.definitions_of in
-    let made = c.in_ok-add_definitions.ensures.added ∙ ap (λ es. with_all es ds) c.new-table.ensures in (
-      subst (λ es. HoldsAll es ds) made c.in_ok-add_definitions.ensures.held,
-      (c.in-Err.error, c.in_ok-of.ensures, subst (λ es. IsFirst (AppliesToTable es) c.in-Err.error) made c.in-Err.ensures.first),
-    )
