@@ -1,8 +1,6 @@
-use Rattle.std.proofs.Common.{◌∙◌, ap, subst}
+use Rattle.std.proofs.Common.{subst}
 use Rattle.std.proofs.lemmas.Result.{err_from_is_err_and}
-use Rattle.typed_values.specs.Causes.{AppliesToTable, IsFirst}
-use Rattle.api_types.specs.Additions.{with_all, AreRefused}
-use Rattle.api_types.specs.Types.{HoldsAll}
+use Rattle.api_types.specs.Additions.{AreRefused}
 use Rattle.api_types.proofs.Refusing.{clash_told}
 use Rattle.api_types.proofs.type_table.table_of.Goals as goal
 
