@@ -18,14 +18,21 @@ for crate in "$@"; do
     cp -r "$here/bench/edits/$crate" "$copy/crates/$crate/must-fail" || exit 1
 done
 
+tell() {
+    if [ -s "$2" ]; then
+        echo "$1:"
+        cat "$2"
+    fi
+}
+
 (cd "$copy" && rt must-fail "$@") >"$copy/log" 2>&1
 status=$?
 sed -n 's/^rt: must-fail //p' "$copy/log"
+grep -E 'of the contract' "$copy/log" >"$copy/weak"
+tell "Refused for a reason that says little of the contract" "$copy/weak"
 grep -E '(NOT REFUSED|BAD EDIT|NOT TRIED)' "$copy/log" >"$copy/left"
-if [ -s "$copy/left" ]; then
-    echo "Not refused:"
-    cat "$copy/left"
-elif [ $status -ne 0 ]; then
+tell "Not refused" "$copy/left"
+if [ $status -ne 0 ] && [ ! -s "$copy/left" ]; then
     tail -n 20 "$copy/log"
 fi
 exit $status
