@@ -6,6 +6,8 @@ mod endpoints;
 #[cfg(test)]
 mod ends;
 #[cfg(test)]
+mod own_types;
+#[cfg(test)]
 mod schemas;
 #[cfg(test)]
 mod values;

@@ -40,9 +40,11 @@ fn want_of_memory_has_a_text(rt: HostRuntime) -> Result<(), Fail> {
 }
 
 fn request(alloc: Global) -> Result<WireRequest, AllocError> {
-    let value = VariableValue::String(Text::from_str(alloc, "7")?);
     let mut variables = BTreeMap::new(alloc);
-    variables.insert(Text::from_str(alloc, "id")?, value)?;
+    for name in ["id", "other"] {
+        let value = VariableValue::String(Text::from_str(alloc, "7")?);
+        variables.insert(Text::from_str(alloc, name)?, value)?;
+    }
     Ok(WireRequest {
         variables,
         query: Text::from_str(alloc, "after=1")?,
@@ -54,7 +56,7 @@ fn request(alloc: Global) -> Result<WireRequest, AllocError> {
 #[test]
 fn a_copy_of_a_request_has_its_parts(rt: HostRuntime) -> Result<(), Fail> {
     let copy = request(rt.alloc())?.copy(rt.alloc())?;
-    assert_eq!(rt; copy.variables.len(), 1);
+    assert_eq!(rt; copy.variables.len(), 2);
     assert!(rt; copy.query.equals_str("after=1"));
     assert!(rt; copy.headers.is_empty() && copy.body.len() == 1);
     Ok(())
