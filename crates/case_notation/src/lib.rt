@@ -12,9 +12,9 @@ mod written_trees;
 
 pub use descs::desc_of;
 pub use error::CaseError;
-pub use lines::{AnswersCases, Cases, reply};
+pub use lines::{AnswersCases, Cases};
 pub use made::made_of;
-pub use parts::{given, items_of, maybe_text, members_of, number_of, text_of};
+pub use parts::{given, items_of, maybe_text, number_of, text_of};
 pub use tables::{define, definition_of, table_of};
 pub use trees::tree_of;
 pub use written_trees::{form, tree_noted};

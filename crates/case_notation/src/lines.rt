@@ -1,9 +1,9 @@
 //! Lines of cases, and the lines that answer them.
 //!
 //! A case is an object on a line of its own. Its member `case` is its name, which no case before it
-//! has, and what else stands in it says what is asked. A case that is `like` an earlier one has
-//! that one's members too, but for those that it has itself. It is answered by its name, a colon
-//! and the answer as compact JSON.
+//! has, and what else stands in it says what is asked, under names that the program knows. A case
+//! that is `like` an earlier one has that one's members too, but for those that it has itself. It is
+//! answered by its name, a colon and the answer as compact JSON.
 use crate::error::CaseError;
 use crate::parts::{given, members_of, text_of};
 use schema_values::{Json, List, Member, ReadError, Text};
@@ -11,13 +11,11 @@ use std::alloc::{AllocError, Global};
 
 /// A program of cases.
 pub trait AnswersCases {
+    /// The names that the members of a case may have besides `case` and `like`.
+    fn members(&self) -> &'static [&'static str];
+
     /// What the call of a case answers.
     fn answer(&self, alloc: Global, case: &Json) -> Result<Json, CaseError>;
-}
-
-/// The line that answers a line by itself, whose case is like no other.
-pub fn reply<P: AnswersCases>(alloc: Global, program: &P, line: &str) -> Result<Text, AllocError> {
-    Cases::new(alloc).reply(alloc, program, line)
 }
 
 /// The cases that stand on the lines so far.
@@ -57,7 +55,11 @@ impl Cases {
         program: &P,
         line: &str,
     ) -> Result<Text, CaseError> {
-        let case = self.completed(alloc, &read(alloc, line)?)?;
+        let case = read(alloc, line)?;
+        if !are_known(program.members(), members_of(&case)?) {
+            return Err(CaseError::Expected("members of known names"));
+        }
+        let case = self.completed(alloc, &case)?;
         self.cases.push(case)?;
         match self.cases.as_slice().last() {
             Some(case) => answered(alloc, program, case),
@@ -101,6 +103,24 @@ impl Cases {
         }
         None
     }
+}
+
+fn are_known(names: &[&str], members: &[Member]) -> bool {
+    for member in members {
+        if !is_known(names, &member.name) {
+            return false;
+        }
+    }
+    true
+}
+
+fn is_known(names: &[&str], name: &Text) -> bool {
+    for known in names {
+        if name.equals_str(known) {
+            return true;
+        }
+    }
+    name.equals_str("case") || name.equals_str("like")
 }
 
 fn is_named(case: &Json, name: &Text) -> bool {

@@ -11,7 +11,8 @@ use std::alloc::Global;
 
 /// What the call of a case answers.
 pub fn answered(alloc: Global, case: &Json) -> Result<Json, CaseError> {
-    match text_of(given(case, "call")?)?.as_str() {
+    let call = text_of(given(case, "call")?)?.as_str();
+    match call {
         "session" => session_answered(alloc, case),
         "serve" => served(alloc, case),
         "config" => shipped_config(alloc),
@@ -20,7 +21,10 @@ pub fn answered(alloc: Global, case: &Json) -> Result<Json, CaseError> {
         "bad_request" => bad_request(alloc, case),
         "error_body" => error_body(alloc, case),
         "status_code" => status_code(alloc, case),
-        call => over_endpoints(alloc, case, Asked { call, front: "" }),
+        "register" | "endpoints" | "exchange" | "document" | "text" | "write" | "admits" => {
+            over_endpoints(alloc, case, Asked { call, front: "" })
+        }
+        _ => Err(CaseError::Expected("the name of a call")),
     }
 }
 

@@ -14,6 +14,7 @@ use schema_values::Json;
 use std::alloc::Global;
 
 /// The answer to the request of a case, from an empty store: as a reply line of the tool tells it.
+/// The handler of a case tells a reply that does not fit the response as want of memory.
 pub fn exchanged(alloc: Global, case: &Json, api: &ApiDescription) -> Result<Json, CaseError>
     requires { AreAccepted
         (boxed ⟦<dyn RouteHandler as RouteHandler>⟧) [] api.now.endpoints.items }
@@ -40,7 +41,9 @@ fn error_told(alloc: Global, error: ExchangeError) -> Result<Json, CaseError> {
     match error {
         ExchangeError::BadRequestId => outcome(alloc, "bad-request-id"),
         ExchangeError::NoSuchOperation => outcome(alloc, "no-such-operation"),
-        ExchangeError::OutOfMemory => Err(CaseError::OutOfMemory),
+        ExchangeError::OutOfMemory => Err(CaseError::Expected(
+            "a reply of the type of the response, or more memory",
+        )),
     }
 }
 

@@ -24,10 +24,37 @@ use schema_values::Json;
 use std::alloc::Global;
 use std::io;
 
+/// The names that members of a case have.
+const MEMBERS: [&str; 19] = [
+    "call",
+    "endpoints",
+    "sample",
+    "request",
+    "version",
+    "title",
+    "failing_writes",
+    "lines",
+    "key",
+    "longest_line",
+    "most_input",
+    "failing_reads",
+    "words",
+    "steps",
+    "error_code",
+    "message",
+    "request_id",
+    "text",
+    "number",
+];
+
 /// The calls of `api_description`, `contract_tool` and `line_session`.
 struct EndpointCases;
 
 impl AnswersCases for EndpointCases {
+    fn members(&self) -> &'static [&'static str] {
+        &MEMBERS
+    }
+
     fn answer(&self, alloc: Global, case: &Json) -> Result<Json, CaseError> {
         calls::answered(alloc, case)
     }

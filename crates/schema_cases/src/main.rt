@@ -17,9 +17,36 @@ use schema_values::Json;
 use std::alloc::Global;
 use std::io;
 
+/// The names that members of a case have.
+const MEMBERS: [&str; 19] = [
+    "call",
+    "text",
+    "json",
+    "name",
+    "made",
+    "other",
+    "schema",
+    "title",
+    "definitions",
+    "required",
+    "kind",
+    "part",
+    "document",
+    "path",
+    "method",
+    "body",
+    "headers",
+    "variables",
+    "query",
+];
+
 struct SchemaCases;
 
 impl AnswersCases for SchemaCases {
+    fn members(&self) -> &'static [&'static str] {
+        &MEMBERS
+    }
+
     fn answer(&self, alloc: Global, case: &Json) -> Result<Json, CaseError> {
         match text_of(given(case, "call")?)?.as_str() {
             "read" => values::read(alloc, case),

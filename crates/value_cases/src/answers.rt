@@ -8,10 +8,31 @@ use case_notation::{AnswersCases, CaseError, given, text_of};
 use schema_values::{Json, List};
 use std::alloc::Global;
 
+/// The names that members of a case have.
+const MEMBERS: [&str; 13] = [
+    "call",
+    "definitions",
+    "desc",
+    "batches",
+    "made",
+    "name",
+    "json",
+    "tree",
+    "place",
+    "pretty",
+    "title",
+    "text",
+    "type",
+];
+
 /// The calls of cases of values.
 pub struct ValueCases;
 
 impl AnswersCases for ValueCases {
+    fn members(&self) -> &'static [&'static str] {
+        &MEMBERS
+    }
+
     fn answer(&self, alloc: Global, case: &Json) -> Result<Json, CaseError> {
         let answer = match given(case, "call")? {
             Json::List(calls) => answers(alloc, calls.as_slice(), case)?,
