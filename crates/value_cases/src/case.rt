@@ -23,12 +23,25 @@ pub fn scope_of(alloc: Global, case: &Json) -> Result<Scope, CaseError>
     ensures desc { IfOk result (λ scope. DescPasses scope.table scope.desc) }
 {
     let table = checked_table(alloc, case)?;
-    let desc = desc_of(alloc, given(case, "desc")?)?;
-    match check_desc(&table, &desc) {
+    let desc = checked_desc(alloc, &table, case)?;
+    Ok(Scope { table, desc })
+}
+
+fn checked_desc(alloc: Global, table: &DescTable, case: &Json) -> Result<Desc, CaseError>
+    requires { TablePasses table.now }
+    ensures { IfOk result (λ desc. DescPasses table.now desc) }
+{
+    let desc = noted_desc(alloc, case)?;
+    match check_desc(table, &desc) {
         Ok(()) => {}
         Err(error) => return Err(CaseError::Flawed(flaw(&error))),
     }
-    Ok(Scope { table, desc })
+    Ok(desc)
+}
+
+/// The descriptor of a case, whatever is told of it.
+pub fn noted_desc(alloc: Global, case: &Json) -> Result<Desc, CaseError> {
+    desc_of(alloc, given(case, "desc")?)
 }
 
 /// The table of the definitions of a case.

@@ -1,10 +1,10 @@
 //! Calls that write schemas, and what schemas admit.
 ghost use Rattle.typed_values.specs.Checks.{TablePasses};
 
-use crate::case::{checked_table, value_of};
-use case_notation::{CaseError, desc_of, form, given, text_of};
+use crate::case::{checked_table, noted_desc, value_of};
+use case_notation::{CaseError, form, given, text_of};
 use openapi_values::{J2oasError, j2oas_schema, json_admits};
-use schema_values::{Json, List, Member, Schema};
+use schema_values::{Json, List, Member, Schema, Text};
 use std::alloc::{AllocError, Global};
 use typed_values::{DescTable, SchemaPlace, schema_of, schema_of_definition};
 use written_schemas::{definition_schema, titled_schema};
@@ -15,9 +15,19 @@ pub fn schema(alloc: Global, case: &Json) -> Result<Json, CaseError> {
 }
 
 fn schema_at(alloc: Global, case: &Json, place: SchemaPlace) -> Result<Json, CaseError> {
-    let table = checked_table(alloc, case)?;
-    let desc = desc_of(alloc, given(case, "desc")?)?;
-    written(alloc, &schema_of(alloc, &table, &desc, place)?)
+    schema_in(alloc, &checked_table(alloc, case)?, case, place)
+}
+
+fn schema_in(
+    alloc: Global,
+    table: &DescTable,
+    case: &Json,
+    place: SchemaPlace,
+) -> Result<Json, CaseError>
+    requires { TablePasses table.now }
+{
+    let desc = noted_desc(alloc, case)?;
+    written(alloc, &schema_of(alloc, table, &desc, place)?)
 }
 
 fn place_of(case: &Json) -> Result<SchemaPlace, CaseError> {
@@ -38,46 +48,72 @@ fn written(alloc: Global, schema: &Schema) -> Result<Json, CaseError> {
 
 /// The schema of the descriptor of a case under its title.
 pub fn titled(alloc: Global, case: &Json) -> Result<Json, CaseError> {
-    let table = checked_table(alloc, case)?;
-    let desc = desc_of(alloc, given(case, "desc")?)?;
-    Ok(titled_schema(alloc, &table, &desc, text_of(given(case, "title")?)?)?)
+    let title = text_of(given(case, "title")?)?;
+    titled_in(alloc, &checked_table(alloc, case)?, case, title)
+}
+
+fn titled_in(alloc: Global, table: &DescTable, case: &Json, title: &Text) -> Result<Json, CaseError>
+    requires { TablePasses table.now }
+{
+    let desc = noted_desc(alloc, case)?;
+    Ok(titled_schema(alloc, table, &desc, title)?)
 }
 
 /// The schema of the definition of a name.
 pub fn definition(alloc: Global, case: &Json) -> Result<Json, CaseError> {
-    let table = checked_table(alloc, case)?;
-    match table.entry_named(text_of(given(case, "name")?)?.as_str()) {
-        Some(definition) => Ok(definition_schema(alloc, &table, definition)?),
+    let name = text_of(given(case, "name")?)?;
+    definition_in(alloc, &checked_table(alloc, case)?, name)
+}
+
+fn definition_in(alloc: Global, table: &DescTable, name: &Text) -> Result<Json, CaseError>
+    requires { TablePasses table.now }
+{
+    match table.entry_named(name.as_str()) {
+        Some(definition) => Ok(definition_schema(alloc, table, definition)?),
         None => Err(CaseError::Expected("the name of a definition")),
     }
 }
 
 /// For each definition of a case whether its schema and a copy of that are written alike.
 pub fn copied_schemas(alloc: Global, case: &Json) -> Result<Json, CaseError> {
-    let table = checked_table(alloc, case)?;
+    schemas_told(alloc, &checked_table(alloc, case)?)
+}
+
+fn schemas_told(alloc: Global, table: &DescTable) -> Result<Json, CaseError>
+    requires { TablePasses table.now }
+{
     let mut answers = List::new(alloc);
     for definition in table.definitions() {
-        let schema = schema_of_definition(alloc, &table, definition)?;
-        answers.push(form(alloc, definition.name.as_str(), alike(alloc, &schema)?)?)?;
+        let alike = alike(alloc, &schema_of_definition(alloc, table, definition)?)?;
+        answers.push(form(alloc, definition.name.as_str(), alike)?)?;
     }
     Ok(Json::List(answers))
 }
 
+/// Whether a schema and its copy are written alike.
 fn alike(alloc: Global, schema: &Schema) -> Result<Json, CaseError> {
     let json = written(alloc, schema)?;
-    let again = written(alloc, &schema.copy(alloc)?)?;
+    let again = copy_written(alloc, schema)?;
     Ok(Json::Bool(json.equals(&again)))
+}
+
+fn copy_written(alloc: Global, schema: &Schema) -> Result<Json, CaseError> {
+    written(alloc, &schema.copy(alloc)?)
 }
 
 /// Whether a document of the definitions of a case admits its value under the schema of its
 /// descriptor. What is no JSON is not admitted.
 pub fn admits(alloc: Global, case: &Json) -> Result<Json, CaseError> {
-    let schema = schema_at(alloc, case, SchemaPlace::Plain)?;
-    let document = document_of(alloc, case)?;
     match value_of(alloc, case)? {
-        Some(json) => Ok(Json::Bool(json_admits(&document, &schema, &json))),
+        Some(json) => admitted(alloc, case, &json),
         None => Ok(Json::Bool(false)),
     }
+}
+
+fn admitted(alloc: Global, case: &Json, json: &Json) -> Result<Json, CaseError> {
+    let schema = schema_at(alloc, case, SchemaPlace::Plain)?;
+    let document = document_of(alloc, case)?;
+    Ok(Json::Bool(json_admits(&document, &schema, json)))
 }
 
 /// A document of the schemas of the definitions of a case.

@@ -14,10 +14,25 @@ pub fn table_told(alloc: Global, case: &Json) -> Result<Json, CaseError> {
 
 /// What is told of each of the definitions of a case, added one after another.
 pub fn add(alloc: Global, case: &Json) -> Result<Json, CaseError> {
-    let mut table = DescTable::new(alloc);
+    let definitions = definitions_of(alloc, given(case, "definitions")?)?;
+    all_added(alloc, &mut DescTable::new(alloc), definitions.as_slice())
+}
+
+/// What is told of each definition of a copy of the table of a case, added to that table.
+pub fn copied_table(alloc: Global, case: &Json) -> Result<Json, CaseError> {
+    let mut table = table_of(alloc, case)?;
+    let copy = table.copy(alloc)?;
+    all_added(alloc, &mut table, copy.definitions())
+}
+
+fn all_added(
+    alloc: Global,
+    table: &mut DescTable,
+    definitions: &[Definition],
+) -> Result<Json, CaseError> {
     let mut words = List::new(alloc);
-    for noted in items_of(given(case, "definitions")?)? {
-        words.push(added(alloc, &mut table, definition_of(alloc, noted)?)?)?;
+    for definition in definitions {
+        words.push(added(alloc, table, definition.copy(alloc)?)?)?;
     }
     Ok(Json::List(words))
 }
@@ -42,28 +57,28 @@ fn not_added(alloc: Global, error: AddError) -> Result<Json, CaseError> {
     }
 }
 
-/// Each definition of a copy of the table of a case: what is told where it is added to the table.
-pub fn copied_table(alloc: Global, case: &Json) -> Result<Json, CaseError> {
-    let mut table = table_of(alloc, case)?;
-    let copy = table.copy(alloc)?;
-    let mut words = List::new(alloc);
-    for definition in copy.definitions() {
-        words.push(added(alloc, &mut table, definition.copy(alloc)?)?)?;
-    }
-    Ok(Json::List(words))
-}
-
 /// What is told of each list of definitions under `batches`, whose definitions are added together,
 /// and how many the table has then.
 pub fn add_together(alloc: Global, case: &Json) -> Result<Json, CaseError> {
-    let mut table = DescTable::new(alloc);
+    let batches = items_of(given(case, "batches")?)?;
+    batches_told(alloc, &mut DescTable::new(alloc), batches)
+}
+
+fn batches_told(alloc: Global, table: &mut DescTable, batches: &[Json]) -> Result<Json, CaseError> {
     let mut answers = List::new(alloc);
-    for noted in items_of(given(case, "batches")?)? {
-        let definitions = definitions_of(alloc, noted)?;
-        answers.push(added_together(alloc, &mut table, definitions.as_slice())?)?;
+    for batch in batches {
+        answers.push(batch_told(alloc, table, batch)?)?;
         answers.push(Json::Int(table.len() as i128))?;
     }
     Ok(Json::List(answers))
+}
+
+fn batch_told(alloc: Global, table: &mut DescTable, batch: &Json) -> Result<Json, CaseError> {
+    let definitions = definitions_of(alloc, batch)?;
+    match add_all(alloc, table, definitions.as_slice()) {
+        Ok(()) => word(alloc, "added"),
+        Err(error) => not_added(alloc, error),
+    }
 }
 
 fn definitions_of(alloc: Global, noted: &Json) -> Result<List<Definition>, CaseError> {
@@ -72,15 +87,4 @@ fn definitions_of(alloc: Global, noted: &Json) -> Result<List<Definition>, CaseE
         definitions.push(definition_of(alloc, noted)?)?;
     }
     Ok(definitions)
-}
-
-fn added_together(
-    alloc: Global,
-    table: &mut DescTable,
-    definitions: &[Definition],
-) -> Result<Json, CaseError> {
-    match add_all(alloc, table, definitions) {
-        Ok(()) => word(alloc, "added"),
-        Err(error) => not_added(alloc, error),
-    }
 }

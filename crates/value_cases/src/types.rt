@@ -62,21 +62,25 @@ fn value_told<T: ApiType>(alloc: Global, table: &DescTable, json: &Json) -> Resu
 fn tree_and_json<T: ApiType>(alloc: Global, table: &DescTable, value: &T) -> Result<Json, CaseError>
     requires { IsTableOf T.definitions_of T.desc_of table.now }
 {
-    let mut told = List::new(alloc);
-    tell(alloc, &mut told, "name", Json::Text(T::type_name(alloc)?))?;
-    tell(
-        alloc,
-        &mut told,
-        "tree",
-        tree_noted(alloc, &value.to_tree(alloc)?)?,
-    )?;
+    let mut told = name_told::<T>(alloc)?;
+    tell(alloc, &mut told, "tree", tree_told(alloc, value)?)?;
     tell(alloc, &mut told, "json", value_json(alloc, table, value)?)?;
     Ok(Json::Object(told))
 }
 
-fn fault_told<T: ApiType>(alloc: Global, fault: &Fault) -> Result<Json, CaseError> {
+fn name_told<T: ApiType>(alloc: Global) -> Result<List<Member>, CaseError> {
+    let name = T::type_name(alloc)?;
     let mut told = List::new(alloc);
-    tell(alloc, &mut told, "name", Json::Text(T::type_name(alloc)?))?;
+    tell(alloc, &mut told, "name", Json::Text(name))?;
+    Ok(told)
+}
+
+fn tree_told<T: ApiType>(alloc: Global, value: &T) -> Result<Json, AllocError> {
+    tree_noted(alloc, &value.to_tree(alloc)?)
+}
+
+fn fault_told<T: ApiType>(alloc: Global, fault: &Fault) -> Result<Json, CaseError> {
+    let mut told = name_told::<T>(alloc)?;
     tell(alloc, &mut told, "fault", Json::Text(fault.text(alloc)?))?;
     Ok(Json::Object(told))
 }
