@@ -1,12 +1,12 @@
 //! Calls on documents: what their parts are written as, and what they admit.
-use crate::info::info_answer;
-use crate::part_notation::{Noted, written};
+use crate::info::info_written;
+use crate::part_notation::written;
 use crate::request_notation::request_of;
 use crate::values::noted_value;
 use case_notation::{CaseError, given, text_of};
 use openapi_values::{
     Components, HeaderObject, MediaType, OpenApi, Operation, Parameter, PathItem, RequestBody,
-    ResponseObject, json_admits, text_admits,
+    ResponseObject, WireRequest, json_admits, text_admits,
 };
 use request_admission::check_admits;
 use schema_values::{Json, List};
@@ -25,7 +25,7 @@ pub fn part(alloc: Global, case: &Json) -> Result<Json, CaseError> {
         "MediaType" => written::<MediaType>(alloc, noted),
         "RequestBody" => written::<RequestBody>(alloc, noted),
         "ResponseObject" => written::<ResponseObject>(alloc, noted),
-        kind => info_answer(alloc, kind, noted),
+        kind => info_written(alloc, kind, noted),
     }
 }
 
@@ -63,13 +63,17 @@ pub fn text_admitted(alloc: Global, case: &Json) -> Result<Json, CaseError> {
 
 /// Whether a document admits a copy of a request for the operation of a path and a method.
 pub fn request_admitted(alloc: Global, case: &Json) -> Result<Json, CaseError> {
+    let request = request_of(alloc, case)?.copy(alloc)?;
+    admitted(alloc, case, &request)
+}
+
+fn admitted(alloc: Global, case: &Json, request: &WireRequest) -> Result<Json, CaseError> {
     let document = given(case, "document")?;
     let path = text_of(given(case, "path")?)?;
     let method = text_of(given(case, "method")?)?;
     if !document.sound() {
         return Err(CaseError::Expected("a sound document"));
     }
-    let request = request_of(alloc, case)?.copy(alloc)?;
-    let admitted = check_admits(alloc, document, path.as_str(), method.as_str(), &request)?;
+    let admitted = check_admits(alloc, document, path.as_str(), method.as_str(), request)?;
     Ok(Json::Bool(admitted))
 }

@@ -6,7 +6,7 @@ use schema_values::Json;
 use std::alloc::Global;
 
 /// What a copy of such a part is written as.
-pub fn info_answer(alloc: Global, kind: &str, noted: &Json) -> Result<Json, CaseError> {
+pub fn info_written(alloc: Global, kind: &str, noted: &Json) -> Result<Json, CaseError> {
     match kind {
         "Info" => written::<Info>(alloc, noted),
         "Contact" => written::<Contact>(alloc, noted),

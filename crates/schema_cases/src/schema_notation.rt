@@ -96,15 +96,13 @@ fn add_part(
         "subschemas" => {
             kinds(object);
         }
-        "allOf" => kinds(object).all_of = Some(schemas_of(alloc, value)?),
-        "anyOf" => kinds(object).any_of = Some(schemas_of(alloc, value)?),
-        "oneOf" => kinds(object).one_of = Some(schemas_of(alloc, value)?),
-        "not" => kinds(object).not = Some(schema_of(alloc, value)?),
-        "items" => array(object).items = Some(each_of(alloc, value)?),
+        "allOf" => set_all_of(object, schemas_of(alloc, value)?),
+        "anyOf" => set_any_of(object, schemas_of(alloc, value)?),
+        "oneOf" => set_one_of(object, schemas_of(alloc, value)?),
+        "not" => set_not(object, schema_of(alloc, value)?),
+        "items" => set_items(object, each_of(alloc, value)?),
         "properties" => add_properties(alloc, value, &mut members(alloc, object).properties)?,
-        "additionalProperties" => {
-            members(alloc, object).additional = Some(schema_of(alloc, value)?);
-        }
+        "additionalProperties" => set_additional(alloc, object, schema_of(alloc, value)?),
         _ => add_limit(alloc, name, value, object)?,
     }
     Ok(())
@@ -168,6 +166,30 @@ fn add_named(
         })?;
     }
     Ok(())
+}
+
+fn set_all_of(object: &mut SchemaObject, schemas: List<Schema>) {
+    kinds(object).all_of = Some(schemas);
+}
+
+fn set_any_of(object: &mut SchemaObject, schemas: List<Schema>) {
+    kinds(object).any_of = Some(schemas);
+}
+
+fn set_one_of(object: &mut SchemaObject, schemas: List<Schema>) {
+    kinds(object).one_of = Some(schemas);
+}
+
+fn set_not(object: &mut SchemaObject, schema: Schema) {
+    kinds(object).not = Some(schema);
+}
+
+fn set_items(object: &mut SchemaObject, items: Items) {
+    array(object).items = Some(items);
+}
+
+fn set_additional(alloc: Global, object: &mut SchemaObject, schema: Schema) {
+    members(alloc, object).additional = Some(schema);
 }
 
 fn kinds(object: &mut SchemaObject) -> &mut Subschemas {
@@ -267,12 +289,16 @@ fn annotate(
         "readOnly" => object.read_only = truth_of(value)?,
         "writeOnly" => object.write_only = truth_of(value)?,
         "nullable" => object.nullable = truth_of(value)?,
-        _ => object.extensions.push(Member {
-            name: Text::from_str(alloc, name)?,
-            value: value.copy(alloc)?,
-        })?,
+        _ => object.extensions.push(extension_of(alloc, name, value)?)?,
     }
     Ok(())
+}
+
+fn extension_of(alloc: Global, name: &str, value: &Json) -> Result<Member, CaseError> {
+    Ok(Member {
+        name: Text::from_str(alloc, name)?,
+        value: value.copy(alloc)?,
+    })
 }
 
 fn truth_of(noted: &Json) -> Result<bool, CaseError> {

@@ -3,7 +3,7 @@ use crate::answers::{error_told, put, word};
 use crate::schema_notation::{definitions_of, noted_schema};
 use case_notation::{CaseError, given, text_of};
 use openapi_values::J2oasError;
-use schema_util::{ScalarError, Schema2StructError, StructMember};
+use schema_util::{ResolveError, ScalarError, Schema2StructError, StructMember};
 use schema_values::{Json, List, Member, Schema, Text};
 use std::alloc::Global;
 
@@ -34,7 +34,14 @@ fn written(alloc: Global, title: Option<&str>, schema: &Schema) -> Result<Json, 
 pub fn resolve(alloc: Global, case: &Json) -> Result<Json, CaseError> {
     let definitions = definitions_of(alloc, case)?;
     let schema = noted_schema(alloc, case)?;
-    match schema_util::resolve(&schema, &definitions) {
+    found_told(alloc, schema_util::resolve(&schema, &definitions))
+}
+
+fn found_told(
+    alloc: Global,
+    outcome: Result<&Schema, ResolveError<'_>>,
+) -> Result<Json, CaseError> {
+    match outcome {
         Ok(found) => written(alloc, None, found),
         Err(error) => error_told(alloc, format!(in alloc; "{error}")?),
     }
@@ -66,14 +73,22 @@ fn object_of(alloc: Global, members: &[Member]) -> Result<Json, CaseError> {
 pub fn extracted(alloc: Global, case: &Json) -> Result<Json, CaseError> {
     let schema = noted_schema(alloc, case)?;
     let (description, rest) = schema_util::schema_extract_description(alloc, &schema)?;
+    description_told(alloc, &description, &rest)
+}
+
+fn description_told(
+    alloc: Global,
+    description: &Option<Text>,
+    rest: &Schema,
+) -> Result<Json, CaseError> {
     let mut parts = List::new(alloc);
     put(
         alloc,
         &mut parts,
         "description",
-        text_or_null(alloc, &description)?,
+        text_or_null(alloc, description)?,
     )?;
-    put(alloc, &mut parts, "schema", written(alloc, None, &rest)?)?;
+    put(alloc, &mut parts, "schema", written(alloc, None, rest)?)?;
     Ok(Json::Object(parts))
 }
 
@@ -123,7 +138,17 @@ pub fn members(alloc: Global, case: &Json) -> Result<Json, CaseError> {
     };
     let definitions = definitions_of(alloc, case)?;
     let schema = noted_schema(alloc, case)?;
-    match schema_util::schema2struct(alloc, &schema, &definitions, *required) {
+    struct_told(
+        alloc,
+        schema_util::schema2struct(alloc, &schema, &definitions, *required),
+    )
+}
+
+fn struct_told(
+    alloc: Global,
+    outcome: Result<List<StructMember>, Schema2StructError>,
+) -> Result<Json, CaseError> {
+    match outcome {
         Ok(members) => members_told(alloc, members.as_slice()),
         Err(Schema2StructError::OutOfMemory) => Err(CaseError::OutOfMemory),
         Err(error) => copy_told(alloc, &error),
@@ -138,9 +163,14 @@ fn copy_told(alloc: Global, error: &Schema2StructError) -> Result<Json, CaseErro
 fn members_told(alloc: Global, members: &[StructMember]) -> Result<Json, CaseError> {
     let mut told = List::new(alloc);
     for member in members {
-        told.push(member_told(alloc, &member.copy(alloc)?)?)?;
+        told.push(copied_member_told(alloc, member)?)?;
     }
     Ok(Json::List(told))
+}
+
+fn copied_member_told(alloc: Global, member: &StructMember) -> Result<Json, CaseError> {
+    let copy = member.copy(alloc)?;
+    member_told(alloc, &copy)
 }
 
 fn member_told(alloc: Global, member: &StructMember) -> Result<Json, CaseError> {

@@ -82,13 +82,18 @@ pub fn equals(alloc: Global, case: &Json) -> Result<Json, CaseError> {
 
 /// The text of the value as `serde_json` has it, and what comes back: `[TEXT, {"json": VALUE}]`.
 pub fn to_value(alloc: Global, case: &Json) -> Result<Json, CaseError> {
-    let json = noted_value(alloc, case)?;
-    if !json.sound() {
-        return Err(CaseError::Expected("a sound value"));
-    }
-    let value = json.to_value(alloc)?;
+    let value = handed_over(alloc, case)?;
     let text = Json::Text(Text::from_string(value.to_string(alloc)?));
     Ok(pair(alloc, text, taken_over(alloc, &value)?)?)
+}
+
+fn handed_over(alloc: Global, case: &Json) -> Result<Value, CaseError> {
+    let json = noted_value(alloc, case)?;
+    if json.sound() {
+        Ok(json.to_value(alloc)?)
+    } else {
+        Err(CaseError::Expected("a sound value"))
+    }
 }
 
 /// What the value that `serde_json` reads a text as is here, or why it is none.
