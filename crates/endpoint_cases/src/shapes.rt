@@ -134,9 +134,10 @@ pub fn response_of(alloc: Global, noted: &Json) -> Result<ApiEndpointResponse, C
 }
 
 fn noted_response(alloc: Global, noted: &Json) -> Result<ApiEndpointResponse, CaseError> {
+    let code = success_code(noted)?;
     Ok(ApiEndpointResponse {
         description: text_or(alloc, noted, "description", "successful operation")?,
-        success: success_of(noted)?,
+        success: success_of(code),
         content: content_of(alloc, noted)?,
     })
 }
@@ -150,15 +151,19 @@ fn content_of(alloc: Global, noted: &Json) -> Result<ContentShape, CaseError> {
     Ok(ContentShape::Json(desc, name))
 }
 
-fn success_of(noted: &Json) -> Result<Option<StatusCode>, CaseError> {
+fn success_code(noted: &Json) -> Result<Option<i128>, CaseError> {
     match noted.get("success") {
-        None => Ok(Some(StatusCode::OK)),
+        None => Ok(Some(200)),
         Some(Json::Null) => Ok(None),
-        Some(Json::Int(number)) => match status_of(*number) {
-            Some(status) => Ok(Some(status)),
-            None => Err(CaseError::Expected("a status code")),
-        },
+        Some(Json::Int(number)) if status_of(*number).is_some() => Ok(Some(*number)),
         Some(_) => Err(CaseError::Expected("a status code or null")),
+    }
+}
+
+fn success_of(code: Option<i128>) -> Option<StatusCode> {
+    match code {
+        Some(number) => status_of(number),
+        None => None,
     }
 }
 
