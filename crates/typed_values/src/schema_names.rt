@@ -6,8 +6,8 @@ ghost use Rattle.typed_values.specs.SchemaTable.{is_described};
 ghost use Rattle.typed_values.specs.Schemas as meant;
 
 use crate::desc::Named;
-use crate::schema_parts::{no_subschemas, object_of, of_single, with_description};
-use schema_values::{InstanceType, Json, List, Schema, SchemaObject};
+use crate::schema_parts::{no_subschemas, object_of, of_single, only, with_description};
+use schema_values::{InstanceType, Json, List, Schema, SchemaObject, copy_text};
 use std::alloc::{AllocError, Global};
 
 /// One of some names, or a choice where some are described.
@@ -95,8 +95,7 @@ fn plain_choice(alloc: Global, texts: List<Json>) -> Result<List<Schema>, AllocE
 fn described_choice(alloc: Global, named: &Named) -> Result<Schema, AllocError>
     ensures { IfOk result (λ schema. schema ≡ meant.described_choice named.now) }
 {
-    let mut texts = List::new(alloc);
-    texts.push(Json::Text(named.name.copy(alloc)?))?;
-    let parts = with_description(alloc, &named.description, enumerated(alloc, texts))?;
-    object_of(alloc, parts)
+    let texts = only(alloc, Json::Text(named.name.copy(alloc)?))?;
+    let description = copy_text(alloc, &named.description)?;
+    object_of(alloc, with_description(alloc, description, enumerated(alloc, texts))?)
 }

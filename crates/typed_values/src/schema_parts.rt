@@ -1,4 +1,4 @@
-ghost use Rattle.std.specs.Prelude.{◌≡◌, IfOk};
+ghost use Rattle.std.specs.Prelude.{◌≡◌, ◌∷◌, [], IfOk};
 ghost use Rattle.schema_values.specs.declared.schema.Schema.{Object};
 ghost use Rattle.schema_values.specs.declared.schema.SchemaObject.{out-SchemaObject};
 ghost use Rattle.schema_values.specs.declared.schema.Subschemas.{out-Subschemas};
@@ -14,6 +14,15 @@ pub(crate) fn object_of(alloc: Global, parts: SchemaObject) -> Result<Schema, Al
     ensures { IfOk result (λ schema. schema ≡ Object parts) }
 {
     Ok(Schema::Object(Boxed::new(alloc, parts)?))
+}
+
+/// A list of one item.
+pub(crate) fn only<T: Drop>(alloc: Global, item: T) -> Result<List<T>, AllocError>
+    ensures { IfOk result (λ list. list ≡ item ∷ []) }
+{
+    let mut list = List::new(alloc);
+    list.push(item)?;
+    Ok(list)
 }
 
 pub(crate) fn no_subschemas() -> Subschemas
@@ -43,8 +52,7 @@ fn annotatable(alloc: Global, parts: SchemaObject) -> Result<SchemaObject, Alloc
     if parts.reference.is_none() {
         return Ok(parts);
     }
-    let mut all_of = List::new(alloc);
-    all_of.push(object_of(alloc, parts)?)?;
+    let all_of = only(alloc, object_of(alloc, parts)?)?;
     let mut annotated = SchemaObject::new(alloc);
     let mut subschemas = no_subschemas();
     subschemas.all_of = Some(all_of);
@@ -62,17 +70,17 @@ pub(crate) fn with_null(alloc: Global, parts: SchemaObject) -> Result<SchemaObje
 
 pub(crate) fn with_description(
     alloc: Global,
-    description: &Option<Text>,
+    description: Option<Text>,
     parts: SchemaObject,
 ) -> Result<SchemaObject, AllocError>
-    ensures { IfOk result (λ described. out-SchemaObject described ≡ meant.with_description description.now
+    ensures { IfOk result (λ described. out-SchemaObject described ≡ meant.with_description description
         (out-SchemaObject parts)) }
 {
     match description {
         None => Ok(parts),
         Some(text) => {
             let mut parts = annotatable(alloc, parts)?;
-            parts.description = Some(text.copy(alloc)?);
+            parts.description = Some(text);
             Ok(parts)
         }
     }

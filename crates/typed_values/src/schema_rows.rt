@@ -100,8 +100,9 @@ pub(crate) fn text_parts(
     ensures { IfOk result (λ parts. out-SchemaObject parts
         ≡ meant.text_parts min max format.now) }
 {
+    let format = copy_text(alloc, format)?;
     let mut parts = of_single(alloc, InstanceType::String);
-    parts.format = copy_text(alloc, format)?;
+    parts.format = format;
     parts.string = length_bounds(min, max);
     Ok(parts)
 }

@@ -9,11 +9,11 @@ ghost use Rattle.typed_values.specs.Schemas as meant;
 
 use crate::desc::{Named, TaggedVariant, Variant};
 use crate::schema_names::{choices_of, enumerated, one_of};
-use crate::schema_parts::{object_of, with_description};
+use crate::schema_parts::{object_of, only, with_description};
 use crate::schema_rows::struct_parts;
 use crate::schemas::{parts_of, properties_of, property, required_names};
 use crate::table::DescTable;
-use schema_values::{Json, List, Schema, SchemaObject, Text, copy_text};
+use schema_values::{Json, List, Property, Schema, SchemaObject, Text, copy_text};
 use std::alloc::{AllocError, Global};
 
 /// One of the names without payload, or an object of one payload.
@@ -65,11 +65,24 @@ fn payload_choice(
         (meant.struct_parts (meant.property name.now (out-SchemaObject payload) ∷ [])
         (name.now ∷ []) true))) }
 {
-    let mut properties = List::new(alloc);
-    properties.push(property(alloc, name, payload)?)?;
-    let mut required = List::new(alloc);
-    required.push(name.copy(alloc)?)?;
-    let parts = struct_parts(alloc, properties, required, true);
+    let properties = only(alloc, property(alloc, name, payload)?)?;
+    let required = only(alloc, name.copy(alloc)?)?;
+    described_struct(alloc, description, properties, required, true)
+}
+
+/// An object of some properties, with its description.
+fn described_struct(
+    alloc: Global,
+    description: &Option<Text>,
+    properties: List<Property>,
+    required: List<Text>,
+    deny_unknown: bool,
+) -> Result<Schema, AllocError>
+    ensures { IfOk result (λ schema. schema ≡ meant.object_of (meant.with_description description.now
+        (meant.struct_of properties required deny_unknown))) }
+{
+    let description = copy_text(alloc, description)?;
+    let parts = struct_parts(alloc, properties, required, deny_unknown);
     object_of(alloc, with_description(alloc, description, parts)?)
 }
 
@@ -105,24 +118,18 @@ fn tagged_choice(
         ≡ meant.tagged_choice table.now tag.now (meant.sketch_of_tagged table.now variant.now)) }
 {
     let fields = variant.fields.as_slice();
-    let mut properties = Vec::new(alloc);
-    properties.push(property(alloc, tag, name_alone(alloc, &variant.name)?)?)?;
-    let mut required = Vec::new(alloc);
-    required.push(tag.copy(alloc)?)?;
-    let parts = struct_parts(
-        alloc,
-        properties_of(alloc, table, properties, fields)?,
-        required_names(alloc, required, fields)?,
-        false,
-    );
-    object_of(alloc, with_description(alloc, &variant.description, parts)?)
+    let tag_alone = property(alloc, tag, name_alone(alloc, &variant.name)?)?;
+    let properties = only(alloc, tag_alone)?.into_vec();
+    let properties = properties_of(alloc, table, properties, fields)?;
+    let required = only(alloc, tag.copy(alloc)?)?.into_vec();
+    let required = required_names(alloc, required, fields)?;
+    described_struct(alloc, &variant.description, properties, required, false)
 }
 
 /// One name alone.
 fn name_alone(alloc: Global, name: &Text) -> Result<SchemaObject, AllocError>
     ensures { IfOk result (λ parts. out-SchemaObject parts ≡ meant.enumerated (Words name.now ∷ [])) }
 {
-    let mut texts = List::new(alloc);
-    texts.push(Json::Text(name.copy(alloc)?))?;
+    let texts = only(alloc, Json::Text(name.copy(alloc)?))?;
     Ok(enumerated(alloc, texts))
 }

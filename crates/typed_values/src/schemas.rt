@@ -19,7 +19,9 @@ use crate::schema_rows::{
 };
 use crate::schema_variants::{external_parts, tagged_parts};
 use crate::table::{Definition, DescTable};
-use schema_values::{InstanceType, Json, List, Property, Schema, SchemaObject, Text, sort_by_name};
+use schema_values::{
+    InstanceType, Json, List, Property, Schema, SchemaObject, Text, copy_text, sort_by_name,
+};
 use std::alloc::{AllocError, Global};
 
 /// Where a schema stands in a document.
@@ -59,11 +61,9 @@ pub fn schema_of_definition(
     requires { TablePasses table.now }
     ensures { IfOk result (λ schema. schema ≡ definition_value table.now definition.now) }
 {
+    let description = copy_text(alloc, &definition.description)?;
     let parts = parts_of(alloc, table, &definition.desc)?;
-    object_of(
-        alloc,
-        with_description(alloc, &definition.description, parts)?,
-    )
+    object_of(alloc, with_description(alloc, description, parts)?)
 }
 
 fn schema_at(alloc: Global, table: &DescTable, desc: &Desc) -> Result<Schema, AllocError>
@@ -154,27 +154,54 @@ pub(crate) fn properties_of(
         ++ map (meant.property_of table.now) (map (meant.sketch_of_field table.now) fields.now))) }
 {
     for field in fields {
+        let annotations = annotations_of(alloc, table, field)?;
         let parts = parts_of(alloc, table, &field.desc)?;
-        properties.push(property_of(alloc, table, field, parts)?)?;
+        properties.push(property_of(alloc, &field.name, annotations, parts)?)?;
     }
     sort_by_name(&mut properties)?;
     Ok(List::from_vec(properties))
 }
 
-/// A field as a property, with its description and its default.
-fn property_of(
+/// What a property says beside the parts that its values meet.
+#[derive(Drop)]
+struct Annotations {
+    description: Option<Text>,
+    default: Option<Json>,
+}
+
+fn annotations_of(
     alloc: Global,
     table: &DescTable,
     field: &Field,
+) -> Result<Annotations, AllocError>
+    requires { TablePasses table.now }
+    ensures description { IfOk result (λ annotations. annotations.description ≡ field.now.description) }
+    ensures default { IfOk result (λ annotations.
+        annotations.default ≡ default_of table.now field.now.presence field.now.desc) }
+{
+    let description = copy_text(alloc, &field.description)?;
+    let default = default_json(alloc, table, &field.presence, &field.desc)?;
+    Ok(Annotations {
+        description,
+        default,
+    })
+}
+
+fn property_of(
+    alloc: Global,
+    name: &Text,
+    annotations: Annotations,
     parts: SchemaObject,
 ) -> Result<Property, AllocError>
-    requires { TablePasses table.now }
-    ensures { out-SchemaObject parts ≡ schema_parts table.now field.now.desc → IfOk result (λ property.
-        property ≡ meant.property_of table.now (meant.sketch_of_field table.now field.now)) }
+    ensures { IfOk result (λ property. property ≡ meant.property name.now (meant.with_default
+        annotations.default (meant.with_description annotations.description (out-SchemaObject parts)))) }
 {
-    let parts = with_description(alloc, &field.description, parts)?;
-    let default = default_json(alloc, table, &field.presence, &field.desc)?;
-    property(alloc, &field.name, with_default(alloc, default, parts)?)
+    let Annotations {
+        description,
+        default,
+    } = annotations;
+    let parts = with_description(alloc, description, parts)?;
+    property(alloc, name, with_default(alloc, default, parts)?)
 }
 
 /// The JSON of the value that an absent field has.

@@ -2,6 +2,7 @@ use Rattle.std.proofs.Common.{◌≡◌, [], ◌∷◌, map, false, refl, append
 use Rattle.std.proofs.lemmas.List.{map-append, map_more}
 use Rattle.schema_values.specs.declared.json_value.Json.{Text as Words}
 use Rattle.schema_values.specs.declared.schema.SchemaObject.{out-SchemaObject, roll-out-SchemaObject}
+use Rattle.schema_values.specs.Order.{property_name, same_name, sorted_by}
 use Rattle.typed_values.specs.declared.desc.Desc.TheVariants as desc
 use Rattle.typed_values.specs.Schemas.{object_of, with_description, property, property_of, required_names, struct_parts, enumerated, schema_parts, sketch_of_field, sketch_of_tagged}
 use Rattle.typed_values.proofs.SchemaRows.{sketch_are, parts_are, struct_parts_are, external_parts_are, tagged_parts_are, choice_parts_are, other_members_are}
@@ -85,7 +86,7 @@ schemas::schemas_of-loop-desc-preserved t c =
 pub schemas::properties_of-loop-field-preserved : goal.schemas::properties_of-loop-field-preserved
 schemas::properties_of-loop-field-preserved t c =
     let more = map_more (sketch_of_field c.args.table.now) c.args.fields.now c.loop-field.field-index c.field-item.result (omega arith) in
-    rw (c.in_ok-push.ensures.items, c.in_ok-property_of.ensures c.in_ok-parts.ensures, c.loop-field.invariant, more, map-append, append_assoc, ← c.field-item.is) refl
+    rw (c.in_ok-push.ensures.items, c.in_ok-property_of.ensures, c.in_ok-annotations.ensures.description, c.in_ok-annotations.ensures.default, c.in_ok-parts.ensures, c.loop-field.invariant, more, map-append, append_assoc, ← c.field-item.is) refl
 
 pub schema_variants::external_parts-loop-variant-init : goal.schema_variants::external_parts-loop-variant-init
 schema_variants::external_parts-loop-variant-init t c =
@@ -96,7 +97,8 @@ schema_variants::tagged_choice-returns t c =
     let table = c.args.table.now in
     let tag = c.args.tag.now in
     let v = sketch_of_tagged table c.args.variant.now in
-    let parts : out-SchemaObject c.in_ok-with_description.field-0
-    ≡ with_description v.description (struct_parts (property tag (enumerated (Words v.name ∷ [])) ∷ map (property_of table) v.fields) (tag ∷ required_names v.fields) false) =
-    rw (c.in_ok-with_description.ensures, c.struct_parts-parts.ensures, c.in_ok-properties_of.ensures, c.in_ok-required_names.ensures table, c.in_ok-push.ensures.items, c.in_ok-push-2.ensures.items, c.new-properties.ensures.items, c.new-required.ensures.items, c.in_ok-property.ensures, c.in_ok-name_alone.ensures, c.in_ok-copy.ensures, c.as_slice-fields.ensures) refl in
-    rw (← parts, roll-out-SchemaObject c.in_ok-with_description.field-0) c.object_of.ensures
+    let properties : c.in_ok-properties.properties ≡ sorted_by property_name (property tag (enumerated (Words v.name ∷ [])) ∷ map (property_of table) v.fields) =
+    rw (c.in_ok-properties.ensures, c.into_vec-properties.ensures, c.in_ok-only.ensures, c.in_ok-tag_alone.ensures, c.in_ok-name_alone.ensures, c.as_slice-fields.ensures) refl in
+    let required : c.in_ok-required.required ≡ sorted_by same_name (tag ∷ required_names v.fields) =
+    rw (c.in_ok-required.ensures table, c.into_vec-required.ensures, c.in_ok-only-2.ensures, c.in_ok-copy.ensures, c.as_slice-fields.ensures) refl in
+    rw (← properties, ← required) c.described_struct.ensures
