@@ -1,6 +1,7 @@
 //! How the case programs note descriptors, trees and values, and how they answer lines.
 #![tactic(auto)]
 
+mod answers;
 mod descs;
 mod error;
 mod lines;
@@ -10,6 +11,7 @@ mod tables;
 mod trees;
 mod written_trees;
 
+pub use answers::{form, pair, put, word};
 pub use descs::desc_of;
 pub use error::CaseError;
 pub use lines::{AnswersCases, Cases};
@@ -17,4 +19,4 @@ pub use made::made_of;
 pub use parts::{given, items_of, maybe_text, number_of, text_of};
 pub use tables::{define, definition_of, table_of};
 pub use trees::tree_of;
-pub use written_trees::{form, tree_noted};
+pub use written_trees::tree_noted;

@@ -5,13 +5,13 @@ ghost use Rattle.api_description.specs.Registering.{AreAccepted};
 ghost use Rattle.schema_values.specs.Sound.{IsSound};
 
 use crate::exchanges::exchanged;
-use crate::members::{push, push_word, text_or};
+use crate::members::{push_word, text_or};
 use crate::registering::refusal;
 use crate::requests::{version_of, wire_request};
 use crate::streams::{lines_told, sink_of};
 use api_description::api_respond::RouteHandler;
 use api_description::{ApiDescription, ApiEndpoint, TagConfig, WriteError};
-use case_notation::{CaseError, form, given, text_of};
+use case_notation::{CaseError, form, given, put, text_of};
 use line_session::MemorySink;
 use request_admission::check_admits;
 use schema_values::{Json, List, Text};
@@ -88,7 +88,7 @@ fn written(alloc: Global, case: &Json, api: &ApiDescription) -> Result<Json, Cas
     let mut members = List::new(alloc);
     push_word(alloc, &mut members, "ended", told)?;
     let lines = lines_told(alloc, sink.taken(), text.as_str())?;
-    push(alloc, &mut members, "written", lines)?;
+    put(alloc, &mut members, "written", lines)?;
     Ok(Json::Object(members))
 }
 

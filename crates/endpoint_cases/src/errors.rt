@@ -1,13 +1,13 @@
 //! Errors, their status codes and the bodies of their responses.
 use crate::exchanges::outcome;
-use crate::members::{push, push_word};
+use crate::members::push_word;
 use crate::responses::response_told;
 use crate::shapes::status_of;
 use api_description::http_status::{
     ErrorStatusCode, HttpError, HttpErrorResponseBody, RequestId, RequestIdError,
 };
 use api_types::{ApiType, json_value, table_of, value_json};
-use case_notation::{CaseError, given, maybe_text, number_of, text_of, tree_noted};
+use case_notation::{CaseError, given, maybe_text, number_of, put, text_of, tree_noted};
 use schema_values::{Json, List, ReadError, Text};
 use std::alloc::Global;
 use typed_values::DescTable;
@@ -74,13 +74,13 @@ fn body_told(
     let mut members = List::new(alloc);
     let name = HttpErrorResponseBody::type_name(alloc)?;
     push_word(alloc, &mut members, "type_name", name.as_str())?;
-    push(
+    put(
         alloc,
         &mut members,
         "tree",
         tree_noted(alloc, &body.to_tree(alloc)?)?,
     )?;
-    push(
+    put(
         alloc,
         &mut members,
         "written",
@@ -88,6 +88,6 @@ fn body_told(
     )?;
     let json = body.copy(alloc)?.to_json(alloc)?;
     push_word(alloc, &mut members, "pretty", json.pretty(alloc)?.as_str())?;
-    push(alloc, &mut members, "json", json)?;
+    put(alloc, &mut members, "json", json)?;
     Ok(Json::Object(members))
 }

@@ -3,13 +3,12 @@ ghost use Rattle.std.specs.Prelude.{[]};
 ghost use Rattle.api_description.specs.Endpoints.{boxed};
 ghost use Rattle.api_description.specs.Registering.{AreAccepted};
 
-use crate::members::word;
 use crate::requests::{body_of, config, request_of};
 use crate::responses::response_told;
 use api_description::api_respond::RouteHandler;
 use api_description::tree_store::Store;
 use api_description::{ApiDescription, Exchange, ExchangeError};
-use case_notation::{CaseError, form, given};
+use case_notation::{CaseError, form, given, word};
 use schema_values::Json;
 use std::alloc::Global;
 

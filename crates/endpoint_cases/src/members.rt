@@ -1,5 +1,5 @@
 //! Members of cases that may be left out, and members of answers.
-use case_notation::{CaseError, items_of, number_of, text_of};
+use case_notation::{CaseError, items_of, number_of, put, text_of};
 use schema_values::{Json, List, Member, Text};
 use std::alloc::{AllocError, Global};
 
@@ -40,22 +40,6 @@ fn u64_of(noted: &Json) -> Result<u64, CaseError> {
     }
 }
 
-/// A text.
-pub fn word(alloc: Global, word: &str) -> Result<Json, AllocError> {
-    Ok(Json::Text(Text::from_str(alloc, word)?))
-}
-
-/// Adds a member to an answer.
-pub fn push(
-    alloc: Global,
-    members: &mut List<Member>,
-    name: &str,
-    value: Json,
-) -> Result<(), AllocError> {
-    let name = Text::from_str(alloc, name)?;
-    members.push(Member { name, value })
-}
-
 /// Adds a member whose value is a text.
 pub fn push_word(
     alloc: Global,
@@ -63,5 +47,6 @@ pub fn push_word(
     name: &str,
     text: &str,
 ) -> Result<(), AllocError> {
-    push(alloc, members, name, word(alloc, text)?)
+    let text = Text::from_str(alloc, text)?;
+    put(alloc, members, name, Json::Text(text))
 }

@@ -1,7 +1,7 @@
 //! What is told of endpoints as they are registered, and which endpoints an API then has.
-use crate::members::{push_word, word};
+use crate::members::push_word;
 use api_description::{ApiDescription, ApiEndpoint, RegisterError};
-use case_notation::CaseError;
+use case_notation::{CaseError, word};
 use schema_values::{Json, List, Text};
 use std::alloc::{AllocError, Global};
 

@@ -1,7 +1,7 @@
 //! Responses as cases tell them: as a reply line of the tool does.
-use crate::members::{push, push_word, word};
+use crate::members::push_word;
 use api_description::http_status::{HeaderList, Response};
-use case_notation::CaseError;
+use case_notation::{CaseError, put, word};
 use http_header::{HeaderName, HeaderValue};
 use schema_values::{Json, List, Text};
 use std::alloc::Global;
@@ -12,14 +12,14 @@ pub fn response_told(alloc: Global, outcome: &str, response: &Response) -> Resul
     let status = Json::Int(response.status.as_u16().into());
     let mut members = List::new(alloc);
     push_word(alloc, &mut members, "outcome", outcome)?;
-    push(alloc, &mut members, "status", status)?;
-    push(
+    put(alloc, &mut members, "status", status)?;
+    put(
         alloc,
         &mut members,
         "headers",
         headers_told(alloc, &response.headers)?,
     )?;
-    push(
+    put(
         alloc,
         &mut members,
         "body",

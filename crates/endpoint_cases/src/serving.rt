@@ -1,7 +1,7 @@
 //! Sessions of lines of which each is answered with itself.
-use crate::members::{number_or, push, push_word};
+use crate::members::{number_or, push_word};
 use crate::streams::{lines_told, sink_of, source_of};
-use case_notation::CaseError;
+use case_notation::{CaseError, put};
 use line_session::{Answering, MemorySink, MemorySource, SessionEnd, serve};
 use schema_values::{Json, List};
 use std::alloc::{AllocError, Global};
@@ -68,8 +68,8 @@ fn end_told(alloc: Global, end: SessionEnd, lines: u64, written: &[u8]) -> Resul
     let end = format!(in alloc; "{end:?}")?;
     let mut members = List::new(alloc);
     push_word(alloc, &mut members, "ended", end.as_str())?;
-    push(alloc, &mut members, "answered", Json::Int(lines.into()))?;
-    push(
+    put(alloc, &mut members, "answered", Json::Int(lines.into()))?;
+    put(
         alloc,
         &mut members,
         "written",

@@ -1,10 +1,10 @@
 //! Sessions of the tool over the endpoints of a case.
-use crate::members::{number_or, push, push_word, text_or};
+use crate::members::{number_or, push_word, text_or};
 use crate::stores::tree_at;
 use crate::streams::{lines_told, sink_of, source_of};
 use api_description::tree_store::Store;
 use api_description::{ApiEndpoint, TagConfig};
-use case_notation::{CaseError, items_of, text_of};
+use case_notation::{CaseError, items_of, put, text_of};
 use contract_tool::{MemorySink, MemorySource, ToolConfig, ToolStatus, run, sample};
 use schema_values::{Json, List, Member};
 use std::alloc::{AllocError, Global};
@@ -93,14 +93,14 @@ fn session_told(
 ) -> Result<Json, CaseError> {
     let mut members = List::new(alloc);
     push_status(alloc, &mut members, status)?;
-    push(
+    put(
         alloc,
         &mut members,
         "written",
         lines_told(alloc, setting.sink.taken(), front)?,
     )?;
     if let Some(key) = case.get("key") {
-        push(
+        put(
             alloc,
             &mut members,
             "stored",
@@ -117,7 +117,7 @@ fn push_status(
     status: &ToolStatus,
 ) -> Result<(), CaseError> {
     let status = status.copy(alloc)?;
-    push(alloc, members, "status", Json::Int(status.code().into()))?;
+    put(alloc, members, "status", Json::Int(status.code().into()))?;
     let told = format!(in alloc; "{status}")?;
     if !told.is_empty() {
         push_word(alloc, members, "text", told.as_str())?;
@@ -145,7 +145,7 @@ pub fn shipped_config(alloc: Global) -> Result<Json, CaseError> {
         ("longest_line", config.longest_line),
         ("most_input", config.most_input),
     ] {
-        push(alloc, &mut members, name, Json::Int(limit.into()))?;
+        put(alloc, &mut members, name, Json::Int(limit.into()))?;
     }
     Ok(Json::Object(members))
 }

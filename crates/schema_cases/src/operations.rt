@@ -29,26 +29,17 @@ impl Noted for Components {
     }
 }
 
-// The operations stand in boxes until all of them are read.
 impl Noted for PathItem {
     fn read(alloc: Global, noted: &Json) -> Result<PathItem, CaseError> {
-        let get = operation_at(alloc, noted, "get")?;
-        let put = operation_at(alloc, noted, "put")?;
-        let post = operation_at(alloc, noted, "post")?;
-        let delete = operation_at(alloc, noted, "delete")?;
-        let options = operation_at(alloc, noted, "options")?;
-        let head = operation_at(alloc, noted, "head")?;
-        let patch = operation_at(alloc, noted, "patch")?;
-        let trace = operation_at(alloc, noted, "trace")?;
         Ok(PathItem {
-            get: unboxed(get),
-            put: unboxed(put),
-            post: unboxed(post),
-            delete: unboxed(delete),
-            options: unboxed(options),
-            head: unboxed(head),
-            patch: unboxed(patch),
-            trace: unboxed(trace),
+            get: operation_at(alloc, noted, "get")?,
+            put: operation_at(alloc, noted, "put")?,
+            post: operation_at(alloc, noted, "post")?,
+            delete: operation_at(alloc, noted, "delete")?,
+            options: operation_at(alloc, noted, "options")?,
+            head: operation_at(alloc, noted, "head")?,
+            patch: operation_at(alloc, noted, "patch")?,
+            trace: operation_at(alloc, noted, "trace")?,
         })
     }
 }
@@ -59,15 +50,11 @@ fn operation_at(
     method: &str,
 ) -> Result<Option<Boxed<Operation>>, CaseError> {
     match noted.get(method) {
-        Some(operation) => Ok(Some(Boxed::new(alloc, Operation::read(alloc, operation)?)?)),
+        Some(operation) => {
+            let operation = Operation::read(alloc, operation)?;
+            Ok(Some(Boxed::new(alloc, operation)?))
+        }
         None => Ok(None),
-    }
-}
-
-fn unboxed(operation: Option<Boxed<Operation>>) -> Option<Operation> {
-    match operation {
-        Some(operation) => Some(operation.into_inner()),
-        None => None,
     }
 }
 

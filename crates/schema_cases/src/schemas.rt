@@ -1,7 +1,7 @@
 //! Calls on schemas. A schema is told as it is written.
-use crate::answers::{error_told, put, word};
+use crate::answers::error_told;
 use crate::schema_notation::{definitions_of, noted_schema};
-use case_notation::{CaseError, given, text_of};
+use case_notation::{CaseError, given, put, text_of, word};
 use openapi_values::J2oasError;
 use schema_util::{ResolveError, ScalarError, Schema2StructError, StructMember};
 use schema_values::{Json, List, Member, Schema, Text};

@@ -1,7 +1,7 @@
 //! Calls on values.
-use crate::answers::{error_told, pair};
+use crate::answers::error_told;
 use crate::request_notation::bytes_of;
-use case_notation::{CaseError, form, given, made_of, text_of};
+use case_notation::{CaseError, form, given, made_of, pair, text_of};
 use schema_values::{Json, ReadError, Text, ValueError};
 use serde_json::Value;
 use std::alloc::Global;

@@ -76,8 +76,3 @@ pub fn read(alloc: Global, bytes: &[u8]) -> Result<Option<Json>, CaseError> {
         Err(ReadError::OutOfMemory) => Err(CaseError::OutOfMemory),
     }
 }
-
-/// A word as an answer.
-pub fn word(alloc: Global, word: &str) -> Result<Json, CaseError> {
-    Ok(Json::Text(Text::from_str(alloc, word)?))
-}

@@ -1,6 +1,5 @@
 //! What tables and descriptors are told.
-use crate::case::word;
-use case_notation::{CaseError, form};
+use case_notation::{CaseError, form, word};
 use schema_values::Json;
 use std::alloc::Global;
 use typed_values::TableError;

@@ -1,8 +1,7 @@
 //! Calls on tables of definitions.
-use crate::case::word;
 use crate::refusals::told;
 use api_types::add_all;
-use case_notation::{CaseError, definition_of, form, given, items_of, table_of};
+use case_notation::{CaseError, definition_of, form, given, items_of, table_of, word};
 use schema_values::{Json, List};
 use std::alloc::Global;
 use typed_values::{AddError, Added, Definition, DescTable, check_table};

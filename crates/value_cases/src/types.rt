@@ -1,9 +1,8 @@
 //! Calls on the types that a document describes.
 ghost use Rattle.api_types.specs.Types.{IsTableOf};
 
-use crate::case::word;
 use api_types::{AnyValue, ApiType, Flaw, TypeError, json_value, table_of, value_json};
-use case_notation::{CaseError, form, given, text_of, tree_noted};
+use case_notation::{CaseError, form, given, put, text_of, tree_noted, word};
 use own_types::{Color, Label, Point};
 use schema_values::{Json, List, Member, Text};
 use std::alloc::{AllocError, Global};
@@ -63,15 +62,15 @@ fn tree_and_json<T: ApiType>(alloc: Global, table: &DescTable, value: &T) -> Res
     requires { IsTableOf T.definitions_of T.desc_of table.now }
 {
     let mut told = name_told::<T>(alloc)?;
-    tell(alloc, &mut told, "tree", tree_told(alloc, value)?)?;
-    tell(alloc, &mut told, "json", value_json(alloc, table, value)?)?;
+    put(alloc, &mut told, "tree", tree_told(alloc, value)?)?;
+    put(alloc, &mut told, "json", value_json(alloc, table, value)?)?;
     Ok(Json::Object(told))
 }
 
 fn name_told<T: ApiType>(alloc: Global) -> Result<List<Member>, CaseError> {
     let name = T::type_name(alloc)?;
     let mut told = List::new(alloc);
-    tell(alloc, &mut told, "name", Json::Text(name))?;
+    put(alloc, &mut told, "name", Json::Text(name))?;
     Ok(told)
 }
 
@@ -81,13 +80,8 @@ fn tree_told<T: ApiType>(alloc: Global, value: &T) -> Result<Json, AllocError> {
 
 fn fault_told<T: ApiType>(alloc: Global, fault: &Fault) -> Result<Json, CaseError> {
     let mut told = name_told::<T>(alloc)?;
-    tell(alloc, &mut told, "fault", Json::Text(fault.text(alloc)?))?;
+    put(alloc, &mut told, "fault", Json::Text(fault.text(alloc)?))?;
     Ok(Json::Object(told))
-}
-
-fn tell(alloc: Global, told: &mut List<Member>, name: &str, value: Json) -> Result<(), AllocError> {
-    let name = Text::from_str(alloc, name)?;
-    told.push(Member { name, value })
 }
 
 /// Why a type has no table.
