@@ -4,7 +4,7 @@ ghost use Rattle.typed_values.specs.Checks.{TablePasses, DescPasses};
 
 use crate::refusals::flaw;
 use case_notation::{CaseError, desc_of, given, made_of, table_of, text_of};
-use schema_values::{Json, ReadError, Text};
+use schema_values::{Json, ReadError};
 use std::alloc::Global;
 use typed_values::{Desc, DescTable, check_desc, check_table};
 
