@@ -15,7 +15,7 @@ pub trait AnswersCases {
     fn answer(&self, alloc: Global, case: &Json) -> Result<Json, CaseError>;
 }
 
-/// The line that answers a line of which no other line is known, as `Cases` answers it.
+/// The line that answers a line by itself, whose case is like no other.
 pub fn reply<P: AnswersCases>(alloc: Global, program: &P, line: &str) -> Result<Text, AllocError> {
     Cases::new(alloc).reply(alloc, program, line)
 }

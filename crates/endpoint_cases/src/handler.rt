@@ -44,21 +44,10 @@ pub struct Replies {
 
 /// The handler that is noted.
 pub fn handler_of(alloc: Global, noted: &Json) -> Result<Replies, CaseError> {
-    let gives = match noted.get("handler") {
-        None => Gives::Body,
-        Some(Json::Text(word)) => match word.as_str() {
-            "returns" => Gives::Body,
-            "context" => Gives::Context,
-            "fails" => return failing_handler(alloc, noted),
-            _ => return Err(CaseError::Expected("the name of a handler")),
-        },
-        Some(handler) => Gives::Tree(tree_of(alloc, given(handler, "gives")?)?),
-    };
-    Ok(Replies {
-        shape: shape_of(alloc, noted)?,
-        fails: false,
-        gives,
-    })
+    match noted.get("handler") {
+        Some(Json::Text(word)) if word.equals_str("fails") => failing_handler(alloc, noted),
+        handler => giving_handler(alloc, noted, handler),
+    }
 }
 
 fn failing_handler(alloc: Global, noted: &Json) -> Result<Replies, CaseError> {
@@ -69,14 +58,42 @@ fn failing_handler(alloc: Global, noted: &Json) -> Result<Replies, CaseError> {
     })
 }
 
+fn giving_handler(
+    alloc: Global,
+    noted: &Json,
+    handler: Option<&Json>,
+) -> Result<Replies, CaseError> {
+    Ok(Replies {
+        gives: gives_of(alloc, handler)?,
+        fails: false,
+        shape: shape_of(alloc, noted)?,
+    })
+}
+
+fn gives_of(alloc: Global, handler: Option<&Json>) -> Result<Gives, CaseError> {
+    match handler {
+        None => Ok(Gives::Body),
+        Some(Json::Text(word)) => gives_named(word.as_str()),
+        Some(handler) => Ok(Gives::Tree(tree_of(alloc, given(handler, "gives")?)?)),
+    }
+}
+
+fn gives_named(word: &str) -> Result<Gives, CaseError> {
+    match word {
+        "returns" => Ok(Gives::Body),
+        "context" => Ok(Gives::Context),
+        _ => Err(CaseError::Expected("the name of a handler")),
+    }
+}
+
 fn failing_shape(alloc: Global, noted: &Json) -> Result<HandlerShape, CaseError>
     ensures { IfOk result (λ shape. HasHttpErrors shape) }
 {
     Ok(HandlerShape {
         table: error_table(alloc)?,
         slots: slots_of(alloc, noted)?,
-        response: response_of(alloc, noted)?,
         error: Some(http_errors(alloc)?),
+        response: response_of(alloc, noted)?,
     })
 }
 

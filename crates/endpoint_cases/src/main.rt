@@ -19,7 +19,7 @@ mod shapes;
 mod stores;
 mod streams;
 
-use case_notation::{AnswersCases, CaseError, reply};
+use case_notation::{AnswersCases, CaseError, Cases};
 use schema_values::Json;
 use std::alloc::Global;
 use std::io;
@@ -34,8 +34,9 @@ impl AnswersCases for EndpointCases {
 }
 
 fn main(rt: HostRuntime) -> io::Result<()> {
+    let mut cases = Cases::new(rt.alloc());
     for line in rt.lines(rt.alloc()) {
-        let reply = reply(rt.alloc(), &EndpointCases, line?.as_str())?;
+        let reply = cases.reply(rt.alloc(), &EndpointCases, line?.as_str())?;
         println!(rt; "{reply}")?;
     }
     Ok(())

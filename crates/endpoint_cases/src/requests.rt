@@ -8,19 +8,26 @@ use case_notation::{CaseError, given, items_of, text_of};
 use openapi_values::WireRequest;
 use schema_values::{Json, List, Text};
 use semver::Version;
-use std::alloc::Global;
+use std::alloc::{AllocError, Global};
 use std::collections::BTreeMap;
 use std::num::NonZeroU32;
 
 /// A copy of the head of the request of a case.
 pub fn request_of(alloc: Global, case: &Json, noted: &Json) -> Result<RequestParts, CaseError> {
-    let request = RequestParts {
+    Ok(copied(alloc, noted_request(alloc, case, noted)?)?)
+}
+
+fn copied(alloc: Global, request: RequestParts) -> Result<RequestParts, AllocError> {
+    request.copy(alloc)
+}
+
+fn noted_request(alloc: Global, case: &Json, noted: &Json) -> Result<RequestParts, CaseError> {
+    Ok(RequestParts {
         template: text_of(given(noted, "template")?)?.copy(alloc)?,
         request_id: text_of(given(noted, "request_id")?)?.copy(alloc)?,
         version: version_of(alloc, case)?,
         info: RequestInfo::new(method_of(alloc, noted)?),
-    };
-    Ok(request.copy(alloc)?)
+    })
 }
 
 /// The parts of a copy of the head of the request of a case.

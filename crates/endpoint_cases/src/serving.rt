@@ -33,7 +33,7 @@ pub fn served(alloc: Global, case: &Json) -> Result<Json, CaseError> {
     let mut source = source_of(alloc, case)?;
     let mut sink = sink_of(alloc, case)?;
     let mut lines = 0;
-    let end = echo(
+    let end = ended(
         alloc,
         &mut lines,
         most_input,
@@ -44,7 +44,7 @@ pub fn served(alloc: Global, case: &Json) -> Result<Json, CaseError> {
     end_told(alloc, end, lines, sink.taken())
 }
 
-fn echo(
+fn ended(
     alloc: Global,
     lines: &mut u64,
     most_input: u32,

@@ -26,13 +26,20 @@ use typed_values::{AddError, Definition, Desc, DescTable};
 
 /// A copy of the shape that is noted.
 pub fn shape_of(alloc: Global, noted: &Json) -> Result<HandlerShape, CaseError> {
-    let shape = HandlerShape {
+    Ok(copied(alloc, noted_shape(alloc, noted)?)?)
+}
+
+fn copied(alloc: Global, shape: HandlerShape) -> Result<HandlerShape, AllocError> {
+    shape.copy(alloc)
+}
+
+fn noted_shape(alloc: Global, noted: &Json) -> Result<HandlerShape, CaseError> {
+    Ok(HandlerShape {
         table: table_of(alloc, noted)?,
         slots: slots_of(alloc, noted)?,
-        response: response_of(alloc, noted)?,
         error: errors_of(alloc, noted)?,
-    };
-    Ok(shape.copy(alloc)?)
+        response: response_of(alloc, noted)?,
+    })
 }
 
 fn table_of(alloc: Global, noted: &Json) -> Result<DescTable, CaseError> {

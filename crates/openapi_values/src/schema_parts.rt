@@ -1,6 +1,7 @@
-ghost use Rattle.std.specs.Prelude.{◌≡◌, ◌++◌, ◌∷◌, [], IfOk, OnOk, Some, codes, map, option_map};
+ghost use Rattle.std.specs.Prelude.{◌≡◌, ◌++◌, ◌∷◌, [], IfOk, IsTrue, OnOk, Some, codes, map, option_map};
 ghost use Rattle.std.specs.Prelude.{option_and_then};
 ghost use Rattle.std.specs.Option.{option_or, option_map_or};
+ghost use Rattle.schema_values.specs.Ascii.{all_ascii};
 ghost use Rattle.schema_values.specs.Get.{first_named};
 ghost use Rattle.schema_values.specs.declared.json_value.Json.{Text as TextOf};
 ghost use Rattle.schema_values.specs.declared.schema.SchemaObject.{out-SchemaObject};
@@ -15,7 +16,7 @@ ghost use Rattle.openapi_values.specs.SchemaJson.{truth_json as json_of_truth, t
 
 use crate::find::find_word;
 use crate::keywords::text_after;
-use crate::objects::{add, true_json};
+use crate::objects::{add, add_option, true_json};
 use crate::part::{copy_option, option_json};
 use schema_values::{
     InstanceType, Json, LengthBounds, List, Member, NumberBounds, SchemaObject, Text,
@@ -57,13 +58,31 @@ pub fn type_text(alloc: Global, kind: InstanceType) -> Result<Json, AllocError>
     Ok(Json::Text(name))
 }
 
-pub fn count_json(count: Option<u32>) -> Option<Json>
+fn count_json(count: Option<u32>) -> Option<Json>
     ensures { result ≡ count_of count }
 {
     match count {
         Some(count) => Some(Json::Int(count as i128)),
         None => None,
     }
+}
+
+/// Adds the least and the greatest count of something, where they are given.
+pub fn add_counts(
+    alloc: Global,
+    members: &mut List<Member>,
+    least_name: &str,
+    least: Option<u32>,
+    greatest_name: &str,
+    greatest: Option<u32>,
+) -> Result<(), AllocError>
+    requires least { IsTrue (all_ascii least_name.now) }
+    requires greatest { IsTrue (all_ascii greatest_name.now) }
+    ensures { OnOk result (members.new ≡ members.old ++ members_of
+        ((least_name.now, count_of least) ∷ (greatest_name.now, count_of greatest) ∷ [])) }
+{
+    add(alloc, members, least_name, count_json(least))?;
+    add(alloc, members, greatest_name, count_json(greatest))
 }
 
 /// The given title, or else the schema's own.
@@ -124,8 +143,7 @@ pub fn add_annotations(
     add(alloc, members, "example", example)?;
     let title = title_json(alloc, given, &schema.title)?;
     add(alloc, members, "title", title)?;
-    let description = option_json(alloc, &schema.description)?;
-    add(alloc, members, "description", description)?;
+    add_option(alloc, members, "description", &schema.description)?;
     let default = copy_option(alloc, &schema.default)?;
     add(alloc, members, "default", default)?;
     add_extensions(alloc, members, schema.extensions.as_slice())?;
@@ -185,8 +203,7 @@ pub fn add_number(
         (number_entries (out-SchemaObject schema.now).format (out-SchemaObject schema.now).number
         (values_of (out-SchemaObject schema.now).const_value (out-SchemaObject schema.now).enum_values))) }
 {
-    let format = option_json(alloc, &schema.format)?;
-    add(alloc, members, "format", format)?;
+    add_option(alloc, members, "format", &schema.format)?;
     add_bounds(alloc, members, &schema.number)?;
     add_values(alloc, members, schema)?;
     Ok(())
@@ -220,22 +237,11 @@ pub fn add_text(
         (text_entries (out-SchemaObject schema.now).format (out-SchemaObject schema.now).string
         (values_of (out-SchemaObject schema.now).const_value (out-SchemaObject schema.now).enum_values))) }
 {
-    let format = option_json(alloc, &schema.format)?;
-    add(alloc, members, "format", format)?;
+    add_option(alloc, members, "format", &schema.format)?;
     add_values(alloc, members, schema)?;
-    add(
-        alloc,
-        members,
-        "minLength",
-        count_json(shortest(&schema.string)),
-    )?;
-    add(
-        alloc,
-        members,
-        "maxLength",
-        count_json(longest(&schema.string)),
-    )?;
-    Ok(())
+    let least = shortest(&schema.string);
+    let greatest = longest(&schema.string);
+    add_counts(alloc, members, "minLength", least, "maxLength", greatest)
 }
 
 /// Adds the values: that of a const alone, or else those that are given.

@@ -11,11 +11,10 @@ ghost use Rattle.openapi_values.specs.SchemaJson.{entries_behind, object_level};
 ghost use Rattle.openapi_values.specs.SchemaJson.{items_written, array_written, object_parts_written};
 ghost use Rattle.openapi_values.specs.SchemaJson.{property_written, subschemas_written};
 
-use crate::objects::{add, reference};
-use crate::part::list_unless_empty;
+use crate::objects::{add, add_list, reference};
 use crate::schema_parts::{
-    add_annotations, add_const, add_nothing, add_null, add_number, add_text, add_values,
-    count_json, is_without_values, truth_json, type_text,
+    add_annotations, add_const, add_counts, add_nothing, add_null, add_number, add_text,
+    add_values, is_without_values, truth_json, type_text,
 };
 use schema_values::{
     ArrayParts, InstanceType, InstanceTypes, Items, Json, List, Member, ObjectParts, Property,
@@ -65,8 +64,7 @@ fn add_behind(
         return add_nothing(alloc, members);
     }
     add_type(alloc, members, schema)?;
-    add_subschemas(alloc, members, schema)?;
-    Ok(())
+    add_subschemas(alloc, members, schema)
 }
 
 #[cycle(written)]
@@ -151,9 +149,7 @@ fn add_array_parts(
 {
     let items = items_json(alloc, array)?;
     add(alloc, members, "items", items)?;
-    add(alloc, members, "minItems", count_json(array.min))?;
-    add(alloc, members, "maxItems", count_json(array.max))?;
-    Ok(())
+    add_counts(alloc, members, "minItems", array.min, "maxItems", array.max)
 }
 
 #[cycle(written)]
@@ -186,13 +182,17 @@ fn add_object_parts(
 {
     let properties = properties_json(alloc, object)?;
     add(alloc, members, "properties", properties)?;
-    let required = list_unless_empty(alloc, &object.required)?;
-    add(alloc, members, "required", required)?;
+    add_list(alloc, members, "required", &object.required)?;
     let additional = additional_json(alloc, object)?;
     add(alloc, members, "additionalProperties", additional)?;
-    add(alloc, members, "minProperties", count_json(object.min))?;
-    add(alloc, members, "maxProperties", count_json(object.max))?;
-    Ok(())
+    add_counts(
+        alloc,
+        members,
+        "minProperties",
+        object.min,
+        "maxProperties",
+        object.max,
+    )
 }
 
 #[cycle(written)]
@@ -279,8 +279,7 @@ fn add_schemas(
     let one_of = schemas_json(alloc, &subschemas.one_of)?;
     add(alloc, members, "oneOf", one_of)?;
     let not = not_json(alloc, &subschemas.not)?;
-    add(alloc, members, "not", not)?;
-    Ok(())
+    add(alloc, members, "not", not)
 }
 
 #[cycle(written)]

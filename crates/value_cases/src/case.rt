@@ -8,19 +8,20 @@ use schema_values::{Json, ReadError, Text};
 use std::alloc::Global;
 use typed_values::{Desc, DescTable, check_desc, check_table};
 
-/// A table and a descriptor that pass their checks.
+/// A table, and a descriptor beside it.
 #[derive(Drop)]
 pub struct Scope {
     /// The definitions.
     pub table: DescTable,
     /// What a value of the case is meant to be of.
     pub desc: Desc,
-    ghost table_passes: { TablePasses table },
-    ghost desc_passes: { DescPasses table desc },
 }
 
-/// The table and the descriptor of a case.
-pub fn scope_of(alloc: Global, case: &Json) -> Result<Scope, CaseError> {
+/// The table and the descriptor of a case. They pass their checks.
+pub fn scope_of(alloc: Global, case: &Json) -> Result<Scope, CaseError>
+    ensures table { IfOk result (λ scope. TablePasses scope.table) }
+    ensures desc { IfOk result (λ scope. DescPasses scope.table scope.desc) }
+{
     let table = checked_table(alloc, case)?;
     let desc = desc_of(alloc, given(case, "desc")?)?;
     match check_desc(&table, &desc) {

@@ -6,9 +6,9 @@ use api_types::{AnyValue, ApiType, Flaw, TypeError, json_value, table_of, value_
 use case_notation::{CaseError, form, given, text_of, tree_noted};
 use own_types::{Color, Label, Point};
 use schema_values::{Json, List, Member, Text};
-use std::alloc::Global;
+use std::alloc::{AllocError, Global};
 use std::collections::BTreeMap;
-use typed_values::{DecodeError, DescTable};
+use typed_values::{DecodeError, DescTable, Fault};
 
 /// What is told of the JSON of a case as a value of the type of this name.
 pub fn type_told(alloc: Global, case: &Json) -> Result<Json, CaseError> {
@@ -44,34 +44,46 @@ fn told_of<T: ApiType>(alloc: Global, json: &Json) -> Result<Json, CaseError> {
     }
 }
 
-/// The name of a type, and the value that JSON denotes of it: its tree and what it is written as.
-/// Or the fault.
+/// The name of a type, and of the value that JSON denotes the tree and what it is written as, or the
+/// fault.
 fn value_told<T: ApiType>(alloc: Global, table: &DescTable, json: &Json) -> Result<Json, CaseError>
     requires { IsTableOf T.definitions_of T.desc_of table.now }
 {
     if !json.sound() {
         return Err(CaseError::Expected("a sound value"));
     }
-    let mut told = List::new(alloc);
-    told.push(member(alloc, "name", Json::Text(T::type_name(alloc)?))?)?;
     match json_value::<T>(alloc, table, json) {
-        Ok(value) => {
-            told.push(member(alloc, "tree", tree_noted(alloc, &value.to_tree(alloc)?)?)?)?;
-            told.push(member(alloc, "json", value_json(alloc, table, &value)?)?)?;
-        }
-        Err(DecodeError::Fault(fault)) => {
-            told.push(member(alloc, "fault", Json::Text(fault.text(alloc)?))?)?;
-        }
-        Err(DecodeError::OutOfMemory) => return Err(CaseError::OutOfMemory),
+        Ok(value) => tree_and_json(alloc, table, &value),
+        Err(DecodeError::Fault(fault)) => fault_told::<T>(alloc, &fault),
+        Err(DecodeError::OutOfMemory) => Err(CaseError::OutOfMemory),
     }
+}
+
+fn tree_and_json<T: ApiType>(alloc: Global, table: &DescTable, value: &T) -> Result<Json, CaseError>
+    requires { IsTableOf T.definitions_of T.desc_of table.now }
+{
+    let mut told = List::new(alloc);
+    tell(alloc, &mut told, "name", Json::Text(T::type_name(alloc)?))?;
+    tell(
+        alloc,
+        &mut told,
+        "tree",
+        tree_noted(alloc, &value.to_tree(alloc)?)?,
+    )?;
+    tell(alloc, &mut told, "json", value_json(alloc, table, value)?)?;
     Ok(Json::Object(told))
 }
 
-fn member(alloc: Global, name: &str, value: Json) -> Result<Member, CaseError> {
-    Ok(Member {
-        name: Text::from_str(alloc, name)?,
-        value,
-    })
+fn fault_told<T: ApiType>(alloc: Global, fault: &Fault) -> Result<Json, CaseError> {
+    let mut told = List::new(alloc);
+    tell(alloc, &mut told, "name", Json::Text(T::type_name(alloc)?))?;
+    tell(alloc, &mut told, "fault", Json::Text(fault.text(alloc)?))?;
+    Ok(Json::Object(told))
+}
+
+fn tell(alloc: Global, told: &mut List<Member>, name: &str, value: Json) -> Result<(), AllocError> {
+    let name = Text::from_str(alloc, name)?;
+    told.push(Member { name, value })
 }
 
 /// Why a type has no table.

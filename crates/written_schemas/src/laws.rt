@@ -93,7 +93,8 @@ pub fn schemas_written()
 {}
 
 /// In a table that passes its checks the schema of a descriptor that passes them, and whose lengths have 32
-/// bits, is sound JSON; so it is under a title or a description, and so is the schema that stands in a header.
+/// bits, is sound JSON; so it is under a title or a description, and so is the schema that stands in a
+/// header.
 pub fn schemas_sound()
     ensures plain { (table : List Entry) (desc : Descriptor) → TablePasses table
         → DescPasses table desc → HasShortLengths desc → IsSound (schema_json table desc) }

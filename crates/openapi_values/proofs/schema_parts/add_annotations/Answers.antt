@@ -1,4 +1,4 @@
-use Rattle.std.proofs.Common.{codes, option_map}
+use Rattle.std.proofs.Common.{codes, option_map, refl}
 use Rattle.std.specs.Option.{option_or}
 use Rattle.schema_values.specs.Get.{first_named}
 use Rattle.schema_values.specs.declared.json_value.Json.{Text}
@@ -17,6 +17,6 @@ returns c =
     let deprecated = added write_only (codes "deprecated") (if_true schema.deprecated) _ _ c.in_ok-add-4.ensures c.true_json-4.ensures in
     let shown = added deprecated (codes "example") (first_named (codes "example") schema.extensions) _ _ c.in_ok-add-5.ensures (rw c.as_slice.ensures at c.in_ok-example.ensures) in
     let titled = added shown (codes "title") (option_map Text (option_or c.args.given.now schema.title)) _ _ c.in_ok-add-6.ensures c.in_ok-title.ensures in
-    let described = added titled (codes "description") (option_map Text schema.description) _ _ c.in_ok-add-7.ensures c.in_ok-description.ensures in
-    let defaulted = added described (codes "default") schema.default _ _ c.in_ok-add-8.ensures c.in_ok-default.ensures in
+    let described = added titled (codes "description") (option_map Text schema.description) _ _ c.in_ok-add_option.ensures refl in
+    let defaulted = added described (codes "default") schema.default _ _ c.in_ok-add-7.ensures c.in_ok-default.ensures in
     (joined defaulted (extension_entries schema.extensions) _ (rw c.as_slice-2.ensures at c.in_ok-add_extensions.ensures)).are

@@ -1,4 +1,5 @@
-use Rattle.std.proofs.Common.{◌≡◌, false, None, [], IfOk, map, option_map, unwrap_or, codes, sym, subst, ap, ◌∙◌}
+use Rattle.std.proofs.Common.{◌≡◌, false, None, [], ◌∷◌, IfOk, map, option_map, unwrap_or, codes, refl, sym, subst, ap, ◌∙◌}
+use Rattle.std.proofs.lemmas.Result.{on_ok_weaker}
 use Rattle.schema_values.specs.declared.json_value.Json.{List as ListOf}
 use Rattle.schema_values.specs.declared.schema.ObjectParts.{out-ObjectParts}
 use Rattle.schema_values.specs.declared.schema.SchemaObject.{out-SchemaObject}
@@ -33,14 +34,14 @@ add_behind-returns t c =
     let level = object_level c.args.schema.now in
     let given : without_values level.enum_values ≡ false = sym c.is_without_values.ensures ∙ c.if-is_without_values.false in
     let typed : Adds _ (type_entries level.instance_type level) _ = record { are = c.in_ok-add_type.ensures } in
-    rw given (joined typed (unwrap_or level.subschemas []) _ c.in_ok-add_subschemas.ensures).are
+    rw given (on_ok_weaker c.add_subschemas.result (λ new. (joined typed (unwrap_or level.subschemas []) _ new).are) c.add_subschemas.ensures)
 
 pub add_array_parts-returns : goal.add_array_parts-returns
 add_array_parts-returns t c =
     let array = c.args.array.now in
     let items = first (codes "items") (option_map items_written array.items) _ _ _ c.in_ok-add.ensures c.in_ok-items.ensures in
-    let least = added items (codes "minItems") (count_json array.min) _ _ c.in_ok-add-2.ensures c.count_json.ensures in
-    rw (array-is array) (added least (codes "maxItems") (count_json array.max) _ _ c.in_ok-add-3.ensures c.count_json-2.ensures).are
+    let counts = (codes "minItems", count_json array.min) ∷ (codes "maxItems", count_json array.max) ∷ [] in
+    rw (array-is array) (on_ok_weaker c.add_counts.result (λ new. (joined items counts _ new).are) c.add_counts.ensures)
 
 pub item_json-returns-in-One : goal.item_json-returns-in-One
 item_json-returns-in-One t c =
@@ -55,10 +56,10 @@ pub add_object_parts-returns : goal.add_object_parts-returns
 add_object_parts-returns t c =
     let parts = out-ObjectParts c.args.object.now in
     let properties = first (codes "properties") (unless_empty (map pair_member (map property_written parts.properties))) _ _ _ c.in_ok-add.ensures c.in_ok-properties.ensures in
-    let required = added properties (codes "required") (names_json parts.required) _ _ c.in_ok-add-2.ensures c.in_ok-required.ensures in
-    let additional = added required (codes "additionalProperties") (option_map additional_json (option_map schema_written parts.additional)) _ _ c.in_ok-add-3.ensures c.in_ok-additional.ensures in
-    let least = added additional (codes "minProperties") (count_json parts.min) _ _ c.in_ok-add-4.ensures c.count_json.ensures in
-    rw (object_parts-are c.args.object.now) (added least (codes "maxProperties") (count_json parts.max) _ _ c.in_ok-add-5.ensures c.count_json-2.ensures).are
+    let required = added properties (codes "required") (names_json parts.required) _ _ c.in_ok-add_list.ensures refl in
+    let additional = added required (codes "additionalProperties") (option_map additional_json (option_map schema_written parts.additional)) _ _ c.in_ok-add-2.ensures c.in_ok-additional.ensures in
+    let counts = (codes "minProperties", count_json parts.min) ∷ (codes "maxProperties", count_json parts.max) ∷ [] in
+    rw (object_parts-are c.args.object.now) (on_ok_weaker c.add_counts.result (λ new. (joined additional counts _ new).are) c.add_counts.ensures)
 
 pub property_member-returns : goal.property_member-returns
 property_member-returns t c =
@@ -78,4 +79,4 @@ add_schemas-returns t c =
     let all_of = first (codes "allOf") (schemas_json (option_map (map schema_written) subschemas.all_of)) _ _ _ c.in_ok-add.ensures c.in_ok-all_of.ensures in
     let any_of = added all_of (codes "anyOf") (schemas_json (option_map (map schema_written) subschemas.any_of)) _ _ c.in_ok-add-2.ensures c.in_ok-any_of.ensures in
     let one_of = added any_of (codes "oneOf") (schemas_json (option_map (map schema_written) subschemas.one_of)) _ _ c.in_ok-add-3.ensures c.in_ok-one_of.ensures in
-    rw (subschemas-are subschemas) (added one_of (codes "not") (option_map untitled (option_map schema_written subschemas.not)) _ _ c.in_ok-add-4.ensures c.in_ok-not.ensures).are
+    rw (subschemas-are subschemas) (on_ok_weaker c.add-4.result (λ new. (added one_of (codes "not") (option_map untitled (option_map schema_written subschemas.not)) _ _ new c.in_ok-not.ensures).are) c.add-4.ensures)

@@ -1,4 +1,4 @@
-use Rattle.std.proofs.Common.{[]}
+use Rattle.std.proofs.Common.{[], refl}
 use Rattle.api_description.proofs.Accepted.{accepted_tables}
 use Rattle.api_description.proofs.document.definition.OpenApiDefinition.document.Goals as goal
 
@@ -9,3 +9,7 @@ paths-requires g c =
 pub components-requires : goal.components-requires
 components-requires g c =
     rw c.endpoints-endpoints.ensures (accepted_tables (λ e. goal.RouteHandler-dyn g (e.handler.vtable, e.handler.value)) [] c.args.self.now.api.now.endpoints.items c.requires)
+
+pub returns : goal.returns
+returns g c =
+    rw (c.in_ok-paths.ensures, c.in_ok-components.ensures, c.in_ok-openapi.ensures, c.in_ok-info.ensures, c.endpoints-endpoints.ensures, c.new-tags.ensures) refl
