@@ -6,6 +6,7 @@ ghost use Rattle.semver.specs.Identifiers.{parts_of};
 ghost use Rattle.http_header.specs.Token.{IsToken};
 ghost use Rattle.schema_values.specs.Ascii.{all_ascii};
 ghost use Rattle.schema_values.specs.Get.{get_of};
+ghost use Rattle.schema_values.specs.Reading.{Reads};
 ghost use Rattle.contract_tool.specs.RequestLines.{HasBody, HasHead, HasNoOther, IsReadAs, frame_of};
 ghost use Rattle.contract_tool.specs.RequestLines.{only_text, text_of};
 
@@ -49,7 +50,20 @@ pub(crate) fn read_line(
         Err(ReadError::Unreadable) => return Ok(RequestLine::Bad),
         Err(ReadError::OutOfMemory) => return Err(AllocError),
     };
-    let Some(head) = head_of(&json) else {
+    asked_for(alloc, &json, version, most)
+}
+
+// What the lines that read as this JSON ask for.
+fn asked_for(
+    alloc: Global,
+    json: &Json,
+    version: &Version,
+    most: u64,
+) -> Result<RequestLine, AllocError>
+    ensures { (line : ListOf ℕ) → Reads line json.now
+        → IfOk result (λ read. IsReadAs most (parts_of version.now) line read) }
+{
+    let Some(head) = head_of(json) else {
         return Ok(RequestLine::Bad);
     };
     let method = match method_of(alloc, head.method.as_bytes()) {
@@ -57,11 +71,12 @@ pub(crate) fn read_line(
         Err(MethodError::Invalid) => return Ok(RequestLine::Bad),
         Err(MethodError::OutOfMemory) => return Err(AllocError),
     };
-    let Some(body) = body_of(&json, most) else {
+    let Some(body) = body_of(json, most) else {
         return Ok(RequestLine::NotBuilt);
     };
+    let body = body.copy(alloc)?;
     let request = request_of(alloc, &head, method, version)?;
-    Ok(RequestLine::Request(request, body.copy(alloc)?))
+    Ok(RequestLine::Request(request, body))
 }
 
 fn head_of(json: &Json) -> Option<Head<'_>>

@@ -1,7 +1,6 @@
 //! The sample API: points, each stored under its label.
-ghost use Rattle.std.specs.Prelude.{◌≡◌, ◌∷◌, ◌++◌, ◌^◌, [], IfOk, IsTrue, Some, None, option_map, OnOk};
+ghost use Rattle.std.specs.Prelude.{◌≡◌, ◌∷◌, ◌++◌, ◌^◌, [], IfOk, Some, None, option_map, OnOk};
 ghost use Rattle.std.specs.Prelude.{OnErr, codes};
-ghost use Rattle.schema_values.specs.Ascii.{all_ascii};
 ghost use Rattle.typed_values.specs.Definitions.{entry_of};
 ghost use Rattle.typed_values.specs.declared.desc.Desc.{Ref, Text as Words, Int};
 ghost use Rattle.typed_values.specs.declared.desc.IntKind.TheVariants.{I32};
@@ -105,12 +104,13 @@ fn create_point(alloc: Global, store: &mut Store, point: &Tree) -> Result<Reply,
 {
     match label_of(point) {
         Some(label) => {
-            let reply = Reply::Success(SuccessReply {
+            let stored = point.copy(alloc)?;
+            let shown = point.copy(alloc)?;
+            store.insert("points", label.as_str(), stored)?;
+            Ok(Reply::Success(SuccessReply {
                 status: StatusCode::CREATED,
-                content: Content::Json(point.copy(alloc)?),
-            });
-            store.insert("points", label.as_str(), point.copy(alloc)?)?;
-            Ok(reply)
+                content: Content::Json(shown),
+            }))
         }
         None => no_label(alloc),
     }
@@ -139,20 +139,36 @@ fn no_label(alloc: Global) -> Result<Reply, AllocError>
 fn point_shape(alloc: Global) -> Result<HandlerShape, AllocError>
     ensures { IfOk result (λ shape. shape ≡ point_shape) }
 {
+    let name = Text::from_ascii(alloc, "Point")?;
     let mut slots = List::new(alloc);
-    slots.push(Slot::TypedBody(point_ref(alloc)?, Text::from_ascii(alloc, "Point")?))?;
+    slots.push(Slot::TypedBody(point_ref(alloc)?, name))?;
     Ok(HandlerShape {
         table: point_table(alloc)?,
         slots,
-        response: ApiEndpointResponse {
-            content: ContentShape::Json(point_ref(alloc)?, Text::from_ascii(alloc, "Point")?),
-            success: Some(StatusCode::CREATED),
-            description: Text::from_ascii(alloc, "successful creation")?,
-        },
-        error: Some(ApiEndpointErrorResponse {
-            desc: Desc::Ref(Text::from_ascii(alloc, "Error")?),
-            name: Text::from_ascii(alloc, "Error")?,
-        }),
+        response: point_response(alloc)?,
+        error: Some(error_response(alloc)?),
+    })
+}
+
+fn point_response(alloc: Global) -> Result<ApiEndpointResponse, AllocError>
+    ensures { IfOk result (λ response. response ≡ point_shape.response) }
+{
+    let name = Text::from_ascii(alloc, "Point")?;
+    let description = Text::from_ascii(alloc, "successful creation")?;
+    Ok(ApiEndpointResponse {
+        content: ContentShape::Json(point_ref(alloc)?, name),
+        success: Some(StatusCode::CREATED),
+        description,
+    })
+}
+
+fn error_response(alloc: Global) -> Result<ApiEndpointErrorResponse, AllocError>
+    ensures { IfOk result (λ error. Some error ≡ point_shape.error) }
+{
+    let name = Text::from_ascii(alloc, "Error")?;
+    Ok(ApiEndpointErrorResponse {
+        desc: Desc::Ref(Text::from_ascii(alloc, "Error")?),
+        name,
     })
 }
 
@@ -186,9 +202,9 @@ fn point_definition(alloc: Global) -> Result<Definition, AllocError>
     ensures { IfOk result (λ definition. definition ≡ point_definition) }
 {
     let mut fields = List::new(alloc);
-    fields.push(required(alloc, "label", label_desc())?)?;
-    fields.push(required(alloc, "n", number_desc())?)?;
-    fields.push(required(alloc, "on", Desc::Bool)?)?;
+    fields.push(required(Text::from_ascii(alloc, "label")?, label_desc()))?;
+    fields.push(required(Text::from_ascii(alloc, "n")?, number_desc()))?;
+    fields.push(required(Text::from_ascii(alloc, "on")?, Desc::Bool))?;
     Ok(Definition {
         name: Text::from_ascii(alloc, "Point")?,
         description: None,
@@ -219,16 +235,15 @@ fn number_desc() -> Desc
     }
 }
 
-fn required(alloc: Global, name: &str, desc: Desc) -> Result<Field, AllocError>
-    requires { IsTrue (all_ascii name.now) }
-    ensures { IfOk result (λ field. field ≡ required name.now desc) }
+fn required(name: Text, desc: Desc) -> Field
+    ensures { result ≡ required name desc }
 {
-    Ok(Field {
-        name: Text::from_ascii(alloc, name)?,
+    Field {
+        name,
         desc,
         presence: Presence::Required,
         description: None,
-    })
+    }
 }
 
 fn point_ref(alloc: Global) -> Result<Desc, AllocError>

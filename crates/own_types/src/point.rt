@@ -1,5 +1,4 @@
-ghost use Rattle.std.specs.Prelude.{◌≡◌, codes, IfOk, IsTrue};
-ghost use Rattle.schema_values.specs.Ascii.{all_ascii};
+ghost use Rattle.std.specs.Prelude.{◌≡◌, codes, IfOk};
 ghost use Rattle.typed_values.specs.declared.tree.Tree.TheVariants as trees;
 ghost use Rattle.api_types.specs.Structs.{FieldsFitOne};
 ghost use Rattle.api_types.specs.Types.{FitsOne};
@@ -84,12 +83,13 @@ fn definition(alloc: Global) -> Result<Definition, AllocError>
     ensures { IfOk result (λ made. made ≡ point_definition) }
 {
     let mut fields = List::new(alloc);
-    let label = Label::descriptor(alloc)?;
-    fields.push(field(alloc, "label", label, Presence::Required)?)?;
-    let color = <Option<Color>>::descriptor(alloc)?;
-    fields.push(field(alloc, "color", color, Presence::Nullable)?)?;
-    let n = i32::descriptor(alloc)?;
-    fields.push(field(alloc, "n", n, Presence::Required)?)?;
+    let label = Text::from_ascii(alloc, "label")?;
+    fields.push(field(label, Label::descriptor(alloc)?, Presence::Required))?;
+    let color = Text::from_ascii(alloc, "color")?;
+    let color_desc = <Option<Color>>::descriptor(alloc)?;
+    fields.push(field(color, color_desc, Presence::Nullable))?;
+    let n = Text::from_ascii(alloc, "n")?;
+    fields.push(field(n, i32::descriptor(alloc)?, Presence::Required))?;
     Ok(Definition {
         name: Text::from_ascii(alloc, "Point")?,
         description: Some(Text::from_ascii(alloc, "a point on the map")?),
@@ -100,14 +100,13 @@ fn definition(alloc: Global) -> Result<Definition, AllocError>
     })
 }
 
-fn field(alloc: Global, name: &str, desc: Desc, presence: Presence) -> Result<Field, AllocError>
-    requires { IsTrue (all_ascii name.now) }
-    ensures { IfOk result (λ made. made ≡ field_with name.now desc presence) }
+fn field(name: Text, desc: Desc, presence: Presence) -> Field
+    ensures { result ≡ field_with name desc presence }
 {
-    Ok(Field {
-        name: Text::from_ascii(alloc, name)?,
+    Field {
+        name,
         desc,
         presence,
         description: None,
-    })
+    }
 }
