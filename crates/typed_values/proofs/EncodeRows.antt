@@ -129,11 +129,11 @@ module _ (table : List Definition) (whole : Desc) (t : Tree) (tag : List ℕ) (v
       ∙ tag_before tag (tagged_name v) (members_written is_none_tree (written_under table whole) (tagged_fields v) xs)
 
   -- the members of a variant's fields behind its tag
-  pub tagged_members : (xs : List Tree) → t ≡ Parts xs → (label name : List ℕ) (none first all : List Member) (fs : List Field) (ts : List Tree)
-      → label ≡ tag → name ≡ tagged_name v → none ≡ [] → first ≡ none ++ member label (Words name) ∷ [] → fs ≡ tagged_fields v → ts ≡ xs
+  pub tagged_members : (xs : List Tree) → t ≡ Parts xs → (label name : List ℕ) (first all : List Member) (fs : List Field) (ts : List Tree)
+      → label ≡ tag → name ≡ tagged_name v → first ≡ member label (Words name) ∷ [] → fs ≡ tagged_fields v → ts ≡ xs
       → all ≡ first ++ members_written is_none_tree (written_under table whole) fs ts → Object all ≡ with_tag tag (tagged_name v) (written_under table whole t (struct_of v))
-  tagged_members xs is label name none first all fs ts a b d f g h e =
-      ap Object (rw (← a, ← b, ← g, ← h) (e ∙ ap (λ (ms : List Member). ms ++ members_written is_none_tree (written_under table whole) fs ts) (f ∙ ap (λ (ms : List Member). ms ++ member label (Words name) ∷ []) d)))
+  tagged_members xs is label name first all fs ts a b f g h e =
+      ap Object (rw (← a, ← b, ← g, ← h) (e ∙ ap (λ (ms : List Member). ms ++ members_written is_none_tree (written_under table whole) fs ts) f))
       ∙ sym (behind_tag xs is)
 
   -- what is no struct has no tag

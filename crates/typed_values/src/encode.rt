@@ -252,8 +252,8 @@ impl Scope<'_> {
     {
         for (field, tree) in fields.iter().zip(trees) {
             if !is_left_out(&field.presence, tree) {
-                let value = self.encode_field(alloc, field, tree)?;
                 let name = field.name.copy(alloc)?;
+                let value = self.encode_field(alloc, field, tree)?;
                 members.push(Member { name, value })?;
             }
         }

@@ -9,9 +9,10 @@ ghost use Rattle.typed_values.specs.Parts.{IsPart};
 ghost use Rattle.typed_values.specs.Rows.{AreFieldsOf, ArePayloadsOf, AreVariantsOf};
 
 use crate::desc::{TaggedVariant, Variant};
+use crate::lists::only;
 use crate::scope::Scope;
 use crate::tree::Tree;
-use schema_values::{Json, List, Member, Text};
+use schema_values::{Json, Member, Text};
 use std::alloc::{AllocError, Global};
 
 impl Scope<'_> {
@@ -52,9 +53,7 @@ impl Scope<'_> {
             None => Ok(Json::Text(name)),
             Some(payload) => {
                 let value = self.encode_at(alloc, payload, tree)?;
-                let mut members = List::new(alloc);
-                members.push(Member { name, value })?;
-                Ok(Json::Object(members))
+                Ok(Json::Object(only(alloc, Member { name, value })?))
             }
         }
     }
@@ -96,11 +95,11 @@ impl Scope<'_> {
         let Tree::Fields(trees) = tree else {
             return Ok(Json::Null);
         };
-        let mut members = List::new(alloc);
-        members.push(Member {
+        let tag_alone = Member {
             name: tag.copy(alloc)?,
             value: Json::Text(variant.name.copy(alloc)?),
-        })?;
+        };
+        let members = only(alloc, tag_alone)?;
         let fields = variant.fields.as_slice();
         Ok(Json::Object(self.encode_fields(alloc, members, fields, trees.as_slice())?))
     }

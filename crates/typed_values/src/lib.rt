@@ -15,6 +15,7 @@ mod fault_text;
 mod fitting;
 mod flaws;
 mod index;
+mod lists;
 mod members;
 mod misfit;
 mod order;

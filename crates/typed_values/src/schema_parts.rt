@@ -1,9 +1,10 @@
-ghost use Rattle.std.specs.Prelude.{◌≡◌, ◌∷◌, [], IfOk};
+ghost use Rattle.std.specs.Prelude.{◌≡◌, IfOk};
 ghost use Rattle.schema_values.specs.declared.schema.Schema.{Object};
 ghost use Rattle.schema_values.specs.declared.schema.SchemaObject.{out-SchemaObject};
 ghost use Rattle.schema_values.specs.declared.schema.Subschemas.{out-Subschemas};
 ghost use Rattle.typed_values.specs.Schemas as meant;
 
+use crate::lists::only;
 use schema_values::{
     Boxed, InstanceType, InstanceTypes, Json, LengthBounds, List, NumberBounds, Schema,
     SchemaObject, Subschemas, Text,
@@ -14,15 +15,6 @@ pub(crate) fn object_of(alloc: Global, parts: SchemaObject) -> Result<Schema, Al
     ensures { IfOk result (λ schema. schema ≡ Object parts) }
 {
     Ok(Schema::Object(Boxed::new(alloc, parts)?))
-}
-
-/// A list of one item.
-pub(crate) fn only<T: Drop>(alloc: Global, item: T) -> Result<List<T>, AllocError>
-    ensures { IfOk result (λ list. list ≡ item ∷ []) }
-{
-    let mut list = List::new(alloc);
-    list.push(item)?;
-    Ok(list)
 }
 
 pub(crate) fn no_subschemas() -> Subschemas

@@ -8,8 +8,9 @@ ghost use Rattle.typed_values.specs.SchemaTable.{bare_names as names_alone};
 ghost use Rattle.typed_values.specs.Schemas as meant;
 
 use crate::desc::{Named, TaggedVariant, Variant};
+use crate::lists::only;
 use crate::schema_names::{choices_of, enumerated, one_of};
-use crate::schema_parts::{object_of, only, with_description};
+use crate::schema_parts::{object_of, with_description};
 use crate::schema_rows::struct_parts;
 use crate::schemas::{parts_of, properties_of, property, required_names};
 use crate::table::DescTable;

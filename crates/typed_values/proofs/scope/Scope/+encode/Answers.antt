@@ -199,8 +199,8 @@ encode_tagged_variant-encode_fields-requires t c =
 
 pub encode_tagged_variant-returns : goal.encode_tagged_variant-returns
 encode_tagged_variant-returns t c =
-    tagged_members c.args.self.now.table.now c.args.self.now.whole.now c.args.tree.now c.args.tag.now c.args.variant.now c.in-Fields.trees c.in-Fields.is c.in_ok-copy.field-0 c.in_ok-copy-2.field-0 _ _ _ _ _ c.in_ok-copy.ensures c.in_ok-copy-2.ensures
-    c.new-members.ensures c.in_ok-push.ensures.ok c.as_slice-fields.ensures c.as_slice.ensures c.in_ok-encode_fields.ensures
+    tagged_members c.args.self.now.table.now c.args.self.now.whole.now c.args.tree.now c.args.tag.now c.args.variant.now c.in-Fields.trees c.in-Fields.is c.in_ok-copy.field-0 c.in_ok-copy-2.field-0 _ _ _ _ c.in_ok-copy.ensures c.in_ok-copy-2.ensures
+    c.in_ok-members.ensures c.as_slice-fields.ensures c.as_slice.ensures c.in_ok-encode_fields.ensures
 
 pub encode_tagged_variant-returns-in_default : goal.encode_tagged_variant-returns-in_default
 encode_tagged_variant-returns-in_default t c = sym (untagged c.args.self.now.table.now c.args.self.now.whole.now c.args.tree.now c.args.tag.now c.args.variant.now c.in_default.not-Fields)
