@@ -98,5 +98,8 @@ fn described_choice(alloc: Global, named: &Named) -> Result<Schema, AllocError>
 {
     let texts = only(alloc, Json::Text(named.name.copy(alloc)?))?;
     let description = copy_text(alloc, &named.description)?;
-    object_of(alloc, with_description(alloc, description, enumerated(alloc, texts))?)
+    object_of(
+        alloc,
+        with_description(alloc, description, enumerated(alloc, texts))?,
+    )
 }
