@@ -15,7 +15,6 @@ use case_notation::{CaseError, form, given, put, text_of};
 use line_session::MemorySink;
 use request_admission::check_admits;
 use schema_values::{Json, List, Text};
-use semver::Version;
 use std::alloc::Global;
 
 /// What a call answers over endpoints that may all be registered.
@@ -76,33 +75,48 @@ fn written(alloc: Global, case: &Json, api: &ApiDescription) -> Result<Json, Cas
     requires { AreAccepted
         (boxed ⟦<dyn RouteHandler as RouteHandler>⟧) [] api.now.endpoints.items }
 {
-    let title = text_or(alloc, case, "title", "sample")?;
-    let version = version_of(alloc, case)?;
     let text = document_text(alloc, case, api)?;
     let mut sink = sink_of(alloc, case)?;
-    let told = match write(alloc, title.as_str(), version, api, &mut sink) {
-        Ok(()) => "Done",
-        Err(WriteError::WriteFault) => "WriteFault",
-        Err(WriteError::OutOfMemory) => return Err(CaseError::OutOfMemory),
-    };
-    let mut members = List::new(alloc);
-    push_word(alloc, &mut members, "ended", told)?;
-    let lines = lines_told(alloc, sink.taken(), text.as_str())?;
-    put(alloc, &mut members, "written", lines)?;
-    Ok(Json::Object(members))
+    let ended = write(alloc, case, api, &mut sink)?;
+    written_told(alloc, ended, sink.taken(), text.as_str())
 }
 
 fn write(
     alloc: Global,
-    title: &str,
-    version: Version,
+    case: &Json,
     api: &ApiDescription,
     sink: &mut MemorySink,
-) -> Result<(), WriteError>
+) -> Result<&'static str, CaseError>
     requires { AreAccepted
         (boxed ⟦<dyn RouteHandler as RouteHandler>⟧) [] api.now.endpoints.items }
 {
-    api.openapi(alloc, title, version)?.write(alloc, sink)
+    let title = text_or(alloc, case, "title", "sample")?;
+    let version = version_of(alloc, case)?;
+    match api
+        .openapi(alloc, title.as_str(), version)?
+        .write(alloc, sink)
+    {
+        Ok(()) => Ok("Done"),
+        Err(WriteError::WriteFault) => Ok("WriteFault"),
+        Err(WriteError::OutOfMemory) => Err(CaseError::OutOfMemory),
+    }
+}
+
+fn written_told(
+    alloc: Global,
+    ended: &str,
+    written: &[u8],
+    document: &str,
+) -> Result<Json, CaseError> {
+    let mut members = List::new(alloc);
+    push_word(alloc, &mut members, "ended", ended)?;
+    put(
+        alloc,
+        &mut members,
+        "written",
+        lines_told(alloc, written, document)?,
+    )?;
+    Ok(Json::Object(members))
 }
 
 fn admits(alloc: Global, case: &Json, api: &ApiDescription) -> Result<Json, CaseError>

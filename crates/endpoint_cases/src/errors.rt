@@ -1,38 +1,50 @@
 //! Errors, their status codes and the bodies of their responses.
+ghost use Rattle.std.specs.Prelude.{IfOk};
+ghost use Rattle.schema_values.specs.Sound.{IsSound};
+
 use crate::exchanges::outcome;
-use crate::members::push_word;
+use crate::members::text_at;
 use crate::responses::response_told;
 use crate::shapes::status_of;
 use api_description::http_status::{
-    ErrorStatusCode, HttpError, HttpErrorResponseBody, RequestId, RequestIdError,
+    ErrorStatusCode, HttpError, HttpErrorResponseBody, RequestId, RequestIdError, Response,
 };
 use api_types::{ApiType, json_value, table_of, value_json};
 use case_notation::{CaseError, given, maybe_text, number_of, put, text_of, tree_noted};
 use schema_values::{Json, List, ReadError, Text};
-use std::alloc::Global;
-use typed_values::DescTable;
+use std::alloc::{AllocError, Global};
 
-/// What a copy of an error of status 400 is printed as, and its response to a request.
+/// What an error of status 400 is printed as, and its response to a request.
 pub fn bad_request(alloc: Global, case: &Json) -> Result<Json, CaseError> {
     let id = text_of(given(case, "request_id")?)?;
-    let request_id = match RequestId::new(alloc, id.as_str()) {
-        Ok(request_id) => request_id.copy(alloc)?,
-        Err(RequestIdError::BadRequestId) => return outcome(alloc, "bad-request-id"),
-        Err(RequestIdError::OutOfMemory) => return Err(CaseError::OutOfMemory),
-    };
-    error_told(alloc, &request_id, &noted_error(alloc, case)?)
+    let error = noted_error(alloc, case)?;
+    match RequestId::new(alloc, id.as_str()) {
+        Ok(request_id) => error_told(alloc, &request_id, &error),
+        Err(RequestIdError::BadRequestId) => outcome(alloc, "bad-request-id"),
+        Err(RequestIdError::OutOfMemory) => Err(CaseError::OutOfMemory),
+    }
 }
 
 fn noted_error(alloc: Global, case: &Json) -> Result<HttpError, CaseError> {
     let code = maybe_text(alloc, case.get("error_code"))?;
-    let message = text_of(given(case, "message")?)?.copy(alloc)?;
+    let message = text_at(alloc, case, "message")?;
     Ok(HttpError::for_bad_request(alloc, code, message)?)
 }
 
 fn error_told(alloc: Global, request_id: &RequestId, error: &HttpError) -> Result<Json, CaseError> {
     let printed = format!(in alloc; "{error}")?;
-    let response = error.copy(alloc)?.into_response(alloc, request_id)?;
+    let response = response_of(alloc, request_id, error)?;
     response_told(alloc, printed.as_str(), &response)
+}
+
+// The response of a copy of an error to the request of a copy of an id.
+fn response_of(
+    alloc: Global,
+    request_id: &RequestId,
+    error: &HttpError,
+) -> Result<Response, AllocError> {
+    let request_id = request_id.copy(alloc)?;
+    error.copy(alloc)?.into_response(alloc, &request_id)
 }
 
 /// What the status of a number is printed as: a code of errors and its number alone, or that it is
@@ -51,43 +63,50 @@ pub fn status_code(alloc: Global, case: &Json) -> Result<Json, CaseError> {
 /// The body of an error that the JSON under `"text"` denotes: its tree, what it is written as by
 /// its type and by itself, and the name of its type.
 pub fn error_body(alloc: Global, case: &Json) -> Result<Json, CaseError> {
-    let text = text_of(given(case, "text")?)?;
-    let json = match Json::read(alloc, text.as_bytes()) {
-        Ok(json) => json,
-        Err(ReadError::Unreadable) => return Err(CaseError::Expected("JSON")),
-        Err(ReadError::OutOfMemory) => return Err(CaseError::OutOfMemory),
-    };
+    let json = read(alloc, text_of(given(case, "text")?)?)?;
     let Ok(table) = table_of::<HttpErrorResponseBody>(alloc) else {
         return Err(CaseError::Expected("a type with a table"));
     };
     match json_value(alloc, &table, &json) {
-        Ok(body) => body_told(alloc, &table, &body),
+        Ok(body) => body_told(alloc, &body, &value_json(alloc, &table, &body)?),
         Err(_) => Err(CaseError::Expected("the body of an error")),
+    }
+}
+
+fn read(alloc: Global, text: &Text) -> Result<Json, CaseError>
+    ensures { IfOk result IsSound }
+{
+    match Json::read(alloc, text.as_bytes()) {
+        Ok(json) => Ok(json),
+        Err(ReadError::Unreadable) => Err(CaseError::Expected("JSON")),
+        Err(ReadError::OutOfMemory) => Err(CaseError::OutOfMemory),
     }
 }
 
 fn body_told(
     alloc: Global,
-    table: &DescTable,
     body: &HttpErrorResponseBody,
+    written: &Json,
 ) -> Result<Json, CaseError> {
     let mut members = List::new(alloc);
-    let name = HttpErrorResponseBody::type_name(alloc)?;
-    push_word(alloc, &mut members, "type_name", name.as_str())?;
-    put(
-        alloc,
-        &mut members,
-        "tree",
-        tree_noted(alloc, &body.to_tree(alloc)?)?,
-    )?;
-    put(
-        alloc,
-        &mut members,
-        "written",
-        value_json(alloc, table, body)?,
-    )?;
+    put(alloc, &mut members, "type_name", type_name(alloc)?)?;
+    put(alloc, &mut members, "tree", tree_told(alloc, body)?)?;
+    put(alloc, &mut members, "written", written.copy(alloc)?)?;
     let json = body.copy(alloc)?.to_json(alloc)?;
-    push_word(alloc, &mut members, "pretty", json.pretty(alloc)?.as_str())?;
+    put(
+        alloc,
+        &mut members,
+        "pretty",
+        Json::Text(json.pretty(alloc)?),
+    )?;
     put(alloc, &mut members, "json", json)?;
     Ok(Json::Object(members))
+}
+
+fn type_name(alloc: Global) -> Result<Json, AllocError> {
+    Ok(Json::Text(HttpErrorResponseBody::type_name(alloc)?))
+}
+
+fn tree_told(alloc: Global, body: &HttpErrorResponseBody) -> Result<Json, AllocError> {
+    tree_noted(alloc, &body.to_tree(alloc)?)
 }

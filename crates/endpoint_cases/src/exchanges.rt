@@ -5,6 +5,7 @@ ghost use Rattle.api_description.specs.Registering.{AreAccepted};
 
 use crate::requests::{body_of, config, request_of};
 use crate::responses::response_told;
+use api_description::api_extract::RequestParts;
 use api_description::api_respond::RouteHandler;
 use api_description::tree_store::Store;
 use api_description::{ApiDescription, Exchange, ExchangeError};
@@ -20,10 +21,22 @@ pub fn exchanged(alloc: Global, case: &Json, api: &ApiDescription) -> Result<Jso
 {
     let noted = given(case, "request")?;
     let body = body_of(noted)?;
-    let config = config()?;
     let request = request_of(alloc, case, noted)?;
+    answer(alloc, api, &request, body)
+}
+
+fn answer(
+    alloc: Global,
+    api: &ApiDescription,
+    request: &RequestParts,
+    body: &[u8],
+) -> Result<Json, CaseError>
+    requires { AreAccepted
+        (boxed ⟦<dyn RouteHandler as RouteHandler>⟧) [] api.now.endpoints.items }
+{
+    let config = config()?;
     let mut store = Store::new(alloc);
-    match api.exchange(alloc, &mut store, &request, body, &config) {
+    match api.exchange(alloc, &mut store, request, body, &config) {
         Ok(exchange) => exchange_told(alloc, &exchange),
         Err(error) => error_told(alloc, error),
     }

@@ -2,11 +2,12 @@
 //! where it is left out; `"fails"`, whose every reply is an internal error, under the table and the
 //! errors of `HttpError`; `"context"`, which gives a text of what it is told besides its arguments;
 //! or `{"gives":TREE}`.
-ghost use Rattle.std.specs.Prelude.{◌≡◌, ⊤, IfOk, IsTrue, MatchOption};
+ghost use Rattle.std.specs.Prelude.{◌≡◌, ◌∷◌, [], ⊤, IfOk, IsTrue, MatchOption, Some, codes};
 ghost use Rattle.typed_values.specs.Checks.{TablePasses, DescPasses};
 ghost use Rattle.typed_values.specs.Fits.{Fits};
+ghost use Rattle.typed_values.specs.declared.desc.Desc.{Ref};
 ghost use Rattle.api_description.specs.Replies.{ContentFits, ContentPasses, ReplyFits, ShapePasses};
-ghost use Rattle.api_description.specs.Replies.{HasHttpErrors};
+ghost use Rattle.api_description.specs.Responses.{error_definition};
 
 use crate::shapes::{error_table, http_errors, response_of, shape_of, slots_of};
 use api_description::api_extract::{Arg, ArgList};
@@ -39,7 +40,10 @@ pub struct Replies {
     shape: HandlerShape,
     fails: bool,
     gives: Gives,
-    ghost errors: { IsTrue fails → HasHttpErrors shape },
+    ghost errors: { IsTrue fails → shape ≡ record shape {
+      table = error_definition ∷ [];
+      error = Some (record { desc = Ref (codes "Error"); name = codes "Error" });
+    } },
 }
 
 /// The handler that is noted.
@@ -87,7 +91,10 @@ fn gives_named(word: &str) -> Result<Gives, CaseError> {
 }
 
 fn failing_shape(alloc: Global, noted: &Json) -> Result<HandlerShape, CaseError>
-    ensures { IfOk result (λ shape. HasHttpErrors shape) }
+    ensures { IfOk result (λ shape. shape ≡ record shape {
+      table = error_definition ∷ [];
+      error = Some (record { desc = Ref (codes "Error"); name = codes "Error" });
+    }) }
 {
     Ok(HandlerShape {
         table: error_table(alloc)?,
@@ -139,7 +146,10 @@ impl RouteHandler for Replies {
 }
 
 fn failure(alloc: Global, shape: &HandlerShape) -> Result<Reply, AllocError>
-    requires { HasHttpErrors shape.now }
+    requires { shape.now ≡ record shape.now {
+      table = error_definition ∷ [];
+      error = Some (record { desc = Ref (codes "Error"); name = codes "Error" });
+    } }
     ensures { IfOk result (λ reply. ReplyFits shape.now reply) }
 {
     let message = Text::from_str(alloc, "for the log alone")?;
@@ -147,19 +157,16 @@ fn failure(alloc: Global, shape: &HandlerShape) -> Result<Reply, AllocError>
     Ok(Reply::Failure(ErrorReply::Http(error)))
 }
 
-// The parts of a copy of a context.
 fn context_tree(alloc: Global, context: &RequestContext) -> Result<Tree, AllocError> {
-    let RequestContext {
-        endpoint,
-        request_id,
-        request,
-        config,
-    } = context.copy(alloc)?;
-    let operation_id = endpoint.operation_id;
-    let mime_type = endpoint.body_content_type.mime_type();
-    let request_id = request_id.text();
-    let method = request.method().as_str();
-    let most_bytes = config.default_request_body_max_bytes;
+    context_told(alloc, &context.copy(alloc)?)
+}
+
+fn context_told(alloc: Global, context: &RequestContext) -> Result<Tree, AllocError> {
+    let operation_id = &context.endpoint.operation_id;
+    let mime_type = context.endpoint.body_content_type.mime_type();
+    let request_id = context.request_id.text();
+    let method = context.request.method().as_str();
+    let most_bytes = context.config.default_request_body_max_bytes;
     let told = format!(in alloc; "{operation_id} {mime_type} {request_id} {method} {most_bytes}")?;
     Ok(Tree::Text(Text::from_string(told)))
 }

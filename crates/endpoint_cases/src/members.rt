@@ -1,7 +1,12 @@
 //! Members of cases that may be left out, and members of answers.
-use case_notation::{CaseError, items_of, number_of, put, text_of};
+use case_notation::{CaseError, given, items_of, number_of, put, text_of};
 use schema_values::{Json, List, Member, Text};
 use std::alloc::{AllocError, Global};
+
+/// The text under a name.
+pub fn text_at(alloc: Global, noted: &Json, name: &'static str) -> Result<Text, CaseError> {
+    Ok(text_of(given(noted, name)?)?.copy(alloc)?)
+}
 
 /// The text under a name, or another where there is none.
 pub fn text_or(alloc: Global, noted: &Json, name: &str, other: &str) -> Result<Text, CaseError> {
@@ -49,4 +54,13 @@ pub fn push_word(
 ) -> Result<(), AllocError> {
     let text = Text::from_str(alloc, text)?;
     put(alloc, members, name, Json::Text(text))
+}
+
+/// An answer of which each member is a text.
+pub fn words_told(alloc: Global, words: &[(&str, &str)]) -> Result<Json, AllocError> {
+    let mut members = List::new(alloc);
+    for &(name, text) in words {
+        push_word(alloc, &mut members, name, text)?;
+    }
+    Ok(Json::Object(members))
 }

@@ -2,9 +2,9 @@
 //! `"template"` and `"request_id"` and whose body is the one text of `"frames"`. The version stands
 //! in the case, `1.0.0` where it is left out.
 use crate::endpoint::method_of;
-use crate::members::{push_word, text_or};
+use crate::members::{text_at, text_or, words_told};
 use api_description::api_extract::{RequestInfo, RequestParts, ServerConfig};
-use case_notation::{CaseError, given, items_of, text_of};
+use case_notation::{CaseError, given, items_of};
 use openapi_values::WireRequest;
 use schema_values::{Json, List, Text};
 use semver::Version;
@@ -23,33 +23,27 @@ fn copied(alloc: Global, request: RequestParts) -> Result<RequestParts, AllocErr
 
 fn noted_request(alloc: Global, case: &Json, noted: &Json) -> Result<RequestParts, CaseError> {
     Ok(RequestParts {
-        template: text_of(given(noted, "template")?)?.copy(alloc)?,
-        request_id: text_of(given(noted, "request_id")?)?.copy(alloc)?,
-        version: version_of(alloc, case)?,
+        template: text_at(alloc, noted, "template")?,
+        request_id: text_at(alloc, noted, "request_id")?,
         info: RequestInfo::new(method_of(alloc, noted)?),
+        version: version_of(alloc, case)?,
     })
 }
 
 /// The parts of a copy of the head of the request of a case.
 pub fn request_told(alloc: Global, case: &Json) -> Result<Json, CaseError> {
-    let request = request_of(alloc, case, given(case, "request")?)?;
+    parts_told(alloc, &request_of(alloc, case, given(case, "request")?)?)
+}
+
+fn parts_told(alloc: Global, request: &RequestParts) -> Result<Json, CaseError> {
     let version = format!(in alloc; "{}", request.version)?;
-    let mut members = List::new(alloc);
-    push_word(
-        alloc,
-        &mut members,
-        "method",
-        request.info.method().as_str(),
-    )?;
-    push_word(alloc, &mut members, "template", request.template.as_str())?;
-    push_word(alloc, &mut members, "version", version.as_str())?;
-    push_word(
-        alloc,
-        &mut members,
-        "request_id",
-        request.request_id.as_str(),
-    )?;
-    Ok(Json::Object(members))
+    let words = [
+        ("method", request.info.method().as_str()),
+        ("template", request.template.as_str()),
+        ("version", version.as_str()),
+        ("request_id", request.request_id.as_str()),
+    ];
+    Ok(words_told(alloc, &words)?)
 }
 
 /// The version of a case.

@@ -25,8 +25,8 @@ impl Answering for Echo {
     }
 }
 
-/// How a session ends, how many lines it answered, and what it wrote: the front, a line `front`, and
-/// the replies.
+/// How a session ends, how many lines it answered, and what it wrote: the front, a line `front`,
+/// and the replies.
 pub fn served(alloc: Global, case: &Json) -> Result<Json, CaseError> {
     let longest_line = number_or(case, "longest_line", 10)?;
     let most_input = number_or(case, "most_input", 100)?;

@@ -37,9 +37,9 @@ pub fn session(
 // call fails, and an empty store, where the case says no other.
 fn setting_of(alloc: Global, case: &Json) -> Result<Setting, CaseError> {
     Ok(Setting {
-        words: words_of(alloc, case)?,
         longest_line: number_or(case, "longest_line", 1 << 20)?,
         most_input: number_or(case, "most_input", 1 << 31)?,
+        words: words_of(alloc, case)?,
         source: source_of(alloc, case)?,
         sink: sink_of(alloc, case)?,
         store: Store::new(alloc),

@@ -10,7 +10,7 @@ ghost use Rattle.std.specs.Prelude.{◌≡◌, ◌∷◌, [], IfOk, codes};
 ghost use Rattle.typed_values.specs.declared.desc.Desc.{Ref};
 ghost use Rattle.api_description.specs.Responses.{error_definition};
 
-use crate::members::text_or;
+use crate::members::{text_at, text_or};
 use api_description::api_extract::Slot;
 use api_description::api_respond::{
     ApiEndpointErrorResponse, ApiEndpointResponse, ContentShape, HandlerShape,
@@ -91,14 +91,23 @@ fn define_type(alloc: Global, table: &mut DescTable, name: &str) -> Result<(), C
 
 /// The slots that are noted.
 pub fn slots_of(alloc: Global, noted: &Json) -> Result<List<Slot>, CaseError> {
-    let mut slots = List::new(alloc);
     match noted.get("slots") {
-        Some(noted) => {
-            for slot in items_of(noted)? {
-                slots.push(slot_of(alloc, slot)?)?;
-            }
-        }
-        None => slots.push(Slot::TypedBody(Desc::Bool, Text::from_str(alloc, "Body")?))?,
+        Some(slots) => noted_slots(alloc, items_of(slots)?),
+        None => Ok(flag_slots(alloc)?),
+    }
+}
+
+fn flag_slots(alloc: Global) -> Result<List<Slot>, AllocError> {
+    let name = Text::from_str(alloc, "Body")?;
+    let mut slots = List::new(alloc);
+    slots.push(Slot::TypedBody(Desc::Bool, name))?;
+    Ok(slots)
+}
+
+fn noted_slots(alloc: Global, noted: &[Json]) -> Result<List<Slot>, CaseError> {
+    let mut slots = List::new(alloc);
+    for slot in noted {
+        slots.push(slot_of(alloc, slot)?)?;
     }
     Ok(slots)
 }
@@ -180,7 +189,7 @@ fn errors_of(alloc: Global, noted: &Json) -> Result<Option<ApiEndpointErrorRespo
         None => Ok(Some(http_errors(alloc)?)),
         Some(Json::Null) => Ok(None),
         Some(noted) => Ok(Some(ApiEndpointErrorResponse {
-            name: text_of(given(noted, "name")?)?.copy(alloc)?,
+            name: text_at(alloc, noted, "name")?,
             desc: desc_of(alloc, given(noted, "desc")?)?,
         })),
     }
