@@ -55,12 +55,3 @@ pub fn push_word(
     let text = Text::from_str(alloc, text)?;
     put(alloc, members, name, Json::Text(text))
 }
-
-/// An answer of which each member is a text.
-pub fn words_told(alloc: Global, words: &[(&str, &str)]) -> Result<Json, AllocError> {
-    let mut members = List::new(alloc);
-    for &(name, text) in words {
-        push_word(alloc, &mut members, name, text)?;
-    }
-    Ok(Json::Object(members))
-}

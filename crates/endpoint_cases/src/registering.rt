@@ -1,7 +1,7 @@
 //! What is told of endpoints as they are registered, and which endpoints an API then has.
-use crate::members::words_told;
+use crate::members::push_word;
 use api_description::{ApiDescription, ApiEndpoint, RegisterError};
-use case_notation::{CaseError, word};
+use case_notation::{CaseError, put, word};
 use schema_values::{Json, List, Text};
 use std::alloc::{AllocError, Global};
 
@@ -59,17 +59,28 @@ fn all_shown(alloc: Global, endpoints: &[ApiEndpoint]) -> Result<Json, AllocErro
 }
 
 fn endpoint_shown(alloc: Global, endpoint: &ApiEndpoint) -> Result<Json, AllocError> {
+    let mime_type = endpoint.body_content_type().mime_type();
+    let mut members = List::new(alloc);
+    push_word(
+        alloc,
+        &mut members,
+        "operation_id",
+        endpoint.operation_id().as_str(),
+    )?;
+    push_word(alloc, &mut members, "method", endpoint.method().as_str())?;
+    push_word(alloc, &mut members, "path", endpoint.path().as_str())?;
+    push_word(alloc, &mut members, "body_content_type", mime_type)?;
+    put(
+        alloc,
+        &mut members,
+        "versions",
+        versions_shown(alloc, endpoint)?,
+    )?;
+    push_word(alloc, &mut members, "handler", endpoint.handler().label())?;
+    Ok(Json::Object(members))
+}
+
+fn versions_shown(alloc: Global, endpoint: &ApiEndpoint) -> Result<Json, AllocError> {
     let versions = format!(in alloc; "{:?}", endpoint.versions())?;
-    let words = [
-        ("operation_id", endpoint.operation_id().as_str()),
-        ("method", endpoint.method().as_str()),
-        ("path", endpoint.path().as_str()),
-        (
-            "body_content_type",
-            endpoint.body_content_type().mime_type(),
-        ),
-        ("versions", versions.as_str()),
-        ("handler", endpoint.handler().label()),
-    ];
-    words_told(alloc, &words)
+    Ok(Json::Text(Text::from_string(versions)))
 }

@@ -2,9 +2,9 @@
 //! `"template"` and `"request_id"` and whose body is the one text of `"frames"`. The version stands
 //! in the case, `1.0.0` where it is left out.
 use crate::endpoint::method_of;
-use crate::members::{text_at, text_or, words_told};
+use crate::members::{push_word, text_at, text_or};
 use api_description::api_extract::{RequestInfo, RequestParts, ServerConfig};
-use case_notation::{CaseError, given, items_of};
+use case_notation::{CaseError, given, items_of, put};
 use openapi_values::WireRequest;
 use schema_values::{Json, List, Text};
 use semver::Version;
@@ -36,14 +36,32 @@ pub fn request_told(alloc: Global, case: &Json) -> Result<Json, CaseError> {
 }
 
 fn parts_told(alloc: Global, request: &RequestParts) -> Result<Json, CaseError> {
+    let mut members = List::new(alloc);
+    push_word(
+        alloc,
+        &mut members,
+        "method",
+        request.info.method().as_str(),
+    )?;
+    push_word(alloc, &mut members, "template", request.template.as_str())?;
+    put(
+        alloc,
+        &mut members,
+        "version",
+        version_told(alloc, request)?,
+    )?;
+    push_word(
+        alloc,
+        &mut members,
+        "request_id",
+        request.request_id.as_str(),
+    )?;
+    Ok(Json::Object(members))
+}
+
+fn version_told(alloc: Global, request: &RequestParts) -> Result<Json, AllocError> {
     let version = format!(in alloc; "{}", request.version)?;
-    let words = [
-        ("method", request.info.method().as_str()),
-        ("template", request.template.as_str()),
-        ("version", version.as_str()),
-        ("request_id", request.request_id.as_str()),
-    ];
-    Ok(words_told(alloc, &words)?)
+    Ok(Json::Text(Text::from_string(version)))
 }
 
 /// The version of a case.
