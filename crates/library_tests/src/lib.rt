@@ -6,7 +6,7 @@ mod endpoints;
 #[cfg(test)]
 mod ends;
 #[cfg(test)]
-mod own_types;
+mod points;
 #[cfg(test)]
 mod schemas;
 #[cfg(test)]
