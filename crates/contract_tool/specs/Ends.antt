@@ -1,6 +1,6 @@
 -- How a run ends: what each status says, and which one is called for.
 use Rattle.std.specs.Prelude.{ℕ, ◌≡◌, ◌+◌, ◌⊎◌, List, [], Some, take}
-use Rattle.line_session.specs.Causes.{Rose}
+use Rattle.schema_values.specs.Causes.{Rose}
 use Rattle.line_session.specs.Lines.{HasLongLine, IsTooMuch, PassesNoLimit}
 use Rattle.line_session.specs.Status.{IsServed, MeetsLimits}
 use Rattle.line_session.specs.declared.outside.Sink.{Ghosts as SinkGhosts}

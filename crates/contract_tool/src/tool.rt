@@ -1,6 +1,6 @@
 //! The top call.
 ghost use Rattle.std.specs.Prelude.{◌≡◌, ◌↔◌, ◌⊎◌, Some, ◌-◌, ◌^◌, ◌<◌, ◌≤◌, [], List as ListOf, ℕ, IfOk};
-ghost use Rattle.line_session.specs.Causes.{Rose};
+ghost use Rattle.schema_values.specs.Causes.{Rose};
 ghost use Rattle.semver.specs.Identifiers.{parts_of};
 ghost use Rattle.api_description.specs.Endpoints.{boxed};
 ghost use Rattle.api_description.specs.Registering.{AreAccepted};

@@ -1,5 +1,4 @@
 pub mod Adapters
-pub mod Causes
 pub mod Memory
 pub mod Parts
 pub mod Lines

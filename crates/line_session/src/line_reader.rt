@@ -2,7 +2,7 @@
 ghost use Rattle.std.specs.Prelude.{◌≡◌, ◌≢◌, ◌+◌, ◌<◌, ◌≤◌, [], ◌∷◌, IfOk, OnErr, MatchOption};
 ghost use Rattle.std.specs.Prelude.{drop};
 ghost use Rattle.std.specs.Io.KnownBytes.{IsAtEnd};
-ghost use Rattle.line_session.specs.Causes.{Rose, HasCause};
+ghost use Rattle.schema_values.specs.Causes.{Rose, HasCause};
 
 use crate::outside::{Failed, Source};
 use std::alloc::{AllocError, Global};

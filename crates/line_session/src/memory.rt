@@ -2,7 +2,7 @@
 ghost use Rattle.std.specs.Prelude.{◌≡◌, ◌≤◌, ◌<◌, ◌↔◌, Some, [], length, is_err, IfOk, IsErrOf, IsTrue};
 ghost use Rattle.std.specs.Io.{ReadsAtMost, WritesAtMost};
 ghost use Rattle.std.specs.Io.KnownBytes.{ReadConsumes, WriteAppends};
-ghost use Rattle.line_session.specs.Causes.{HasCause, Rose};
+ghost use Rattle.schema_values.specs.Causes.{HasCause, Rose};
 ghost use Rattle.line_session.specs.Memory.{CopiesFront, after_call, fresh, is_failing, one_more};
 
 use crate::outside::{Failed, Sink, SinkError, Source};

@@ -3,7 +3,7 @@ ghost use Rattle.std.specs.Prelude.{◌<◌, ◌≤◌, ℕ, List, length, IfOk,
 ghost use Rattle.std.specs.declared.option.Option.{Option};
 ghost use Rattle.std.specs.Io.{ReadsAtMost, WritesAtMost};
 ghost use Rattle.std.specs.Io.KnownBytes.{ReadConsumes, WriteAppends};
-ghost use Rattle.line_session.specs.Causes.{Rose, HasCause};
+ghost use Rattle.schema_values.specs.Causes.{Rose, HasCause};
 
 /// The source could not be read.
 #[derive(Clone, Copy, Debug, Drop, PartialEq, Eq)]

@@ -1,7 +1,7 @@
 //! A session over any answering of lines: a front is written, and then the reply to each line.
 ghost use Rattle.std.specs.Prelude.{◌≡◌, ◌⊎◌, Some, ◌+◌, ◌-◌, ◌^◌, ◌<◌, ◌≤◌, List as ListOf, ℕ, take, IfOk};
 ghost use Rattle.std.specs.Prelude.{OnOk, OnErr, IsErrOf};
-ghost use Rattle.line_session.specs.Causes.{Rose};
+ghost use Rattle.schema_values.specs.Causes.{Rose};
 ghost use Rattle.line_session.specs.Lines.{HasLongLine, IsTooMuch, PassesNoLimit};
 ghost use Rattle.line_session.specs.Session.{Replied, PartReplied, IsAnswered};
 ghost use Rattle.line_session.specs.Status.{IsServed, MeetsLimits, status_of};

@@ -1,7 +1,7 @@
 //! Whole texts to a sink, which may take them in parts.
 ghost use Rattle.std.specs.Prelude.{◌≤◌, OnOk, OnErr, IsErrOf};
 ghost use Rattle.std.specs.Io.KnownBytes.{Appends};
-ghost use Rattle.line_session.specs.Causes.{Rose};
+ghost use Rattle.schema_values.specs.Causes.{Rose};
 ghost use Rattle.line_session.specs.Lines.{end_line};
 ghost use Rattle.line_session.specs.Parts.{AppendsPart};
 

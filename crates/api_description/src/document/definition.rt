@@ -2,7 +2,7 @@
 ghost use Rattle.std.specs.Prelude.{◌≡◌, ◌≤◌, [], IfOk, OnOk, OnErr, IsErrOf};
 ghost use Rattle.std.specs.Io.KnownBytes.{Appends};
 ghost use Rattle.std.specs.Str.{chars, encode_utf8_all};
-ghost use Rattle.line_session.specs.Causes.{Rose};
+ghost use Rattle.schema_values.specs.Causes.{Rose};
 ghost use Rattle.line_session.specs.Parts.{AppendsPart};
 ghost use Rattle.schema_values.specs.Sound.{IsSound};
 ghost use Rattle.semver.specs.Identifiers.{parts_of};
