@@ -14,7 +14,7 @@ use Rattle.api_description.specs.Exchanges.{Answers, EndpointAnswers, HasId, nam
 use Rattle.api_description.specs.Replies.{response_of}
 use Rattle.api_description.specs.Stores.{Tables}
 use Rattle.contract_tool.specs.declared.config.ToolConfig.{ToolConfig}
-use Rattle.contract_tool.specs.LineAnswers.{LineAnswers, most_body}
+use Rattle.contract_tool.specs.LineAnswers.{LineAnswers, LineIsLost, most_body}
 use Rattle.contract_tool.specs.ReplyLines.{Tells, line_of}
 use Rattle.contract_tool.specs.RequestLines.{AsksFor}
 use Rattle.contract_tool.proofs.ReplyLemmas.{response-some}
@@ -38,21 +38,21 @@ module _ {X : Type 0} {F : X → Type 0} (m : Meanings X F) (config : ToolConfig
       inr (inr (record { request = request; body = body; outcome = outcome; told = json; asks_for = asks; answers = answers; tells = tells; written = written }))
 
   some-answered : (exchange : Exchange) → Answers m config.server endpoints request body before (Ok exchange) after
-      → (reply : List ℕ) × LineAnswers m config version endpoints before line reply after
+      → LineIsLost m config version endpoints before line after
   some-answered exchange answers =
       let told = exchange-told exchange in
       (line_of told.0, line-answered (Ok exchange) told.0 (line_of told.0) answers told.1 refl)
 
   handled-lost : (e : ApiEndpoint X F) → HasId request → named_by request endpoints ≡ Some e
       → EndpointAnswers m config.server e request body before (Err OutOfMemory) after
-      → (after ≡ before) ⊎ ((reply : List ℕ) × LineAnswers m config version endpoints before line reply after)
+      → (after ≡ before) ⊎ LineIsLost m config version endpoints before line after
   handled-lost e id named (inl same) = inl same
   handled-lost e id named (inr (args, reply, handling)) =
       inr (some-answered (Handled args reply (response_of (shape_at m e) reply request.request_id)) (id, (e, named, (handling, refl))))
 
   -- whatever the exchange came to, the store was kept, or is as after a reply
   pub line-cut : (outcome : Result Exchange ExchangeError) → Answers m config.server endpoints request body before outcome after
-      → (after ≡ before) ⊎ ((reply : List ℕ) × LineAnswers m config version endpoints before line reply after)
+      → (after ≡ before) ⊎ LineIsLost m config version endpoints before line after
   line-cut (Ok exchange) answers = inr (some-answered exchange answers)
   line-cut (Err BadRequestId) answers = inl answers.1
   line-cut (Err NoSuchOperation) answers = inl answers.2

@@ -1,7 +1,7 @@
 -- How a run ends, by how its session ends.
 use Rattle.std.proofs.Common.{◌≡◌, ◌≢◌, ◌+◌, ℕ, List, [], Option, take, ◌⊎◌, Result, Err, sym, ap, ◌∙◌, inl, inr, subst, refl}
 use Rattle.line_session.specs.Lines.{HasLongLine, IsTooMuch, PassesNoLimit}
-use Rattle.line_session.specs.Session.{IsAnswered}
+use Rattle.line_session.specs.Session.{IsAnswered, NeverLost}
 use Rattle.line_session.specs.Status.{IsServed}
 use Rattle.line_session.specs.declared.outside.Sink.{Ghosts as SinkGhosts}
 use Rattle.line_session.specs.declared.outside.Source.{Ghosts as SourceGhosts}
@@ -27,11 +27,12 @@ use Rattle.semver.specs.Parse.{Parts}
 use Rattle.contract_tool.specs.declared.config.ToolStatus.{ToolStatus}
 use Rattle.contract_tool.specs.declared.config.ToolStatus.TheVariants.{Done, Usage, Refused, ReadFault, WriteFault, LineTooLong, TooMuchInput, OutOfMemory}
 use Rattle.contract_tool.specs.declared.config.ToolConfig.{ToolConfig}
-use Rattle.contract_tool.specs.LineAnswers.{LineAnswers}
+use Rattle.contract_tool.specs.LineAnswers.{LineAnswers, LineIsLost}
 use Rattle.contract_tool.specs.ReplyLines.{Tells}
 use Rattle.contract_tool.specs.Words.{AskForSession}
 use Rattle.contract_tool.specs.Ends.{CallsFor, FailedToRead, FailedToWrite, IsEnded, IsSessionUpTo, Outside}
 use Rattle.contract_tool.specs.Sessions.{IsOpened, status_of}
+use Rattle.line_session.proofs.CallerLemmas.{served-kept}
 
 abbrev pub end_of : ToolStatus → SessionEnd
 end_of Done = ended.Done
@@ -99,13 +100,14 @@ module _ {X : Type 0} {F : X → Type 0} (m : Meanings X F) where
         (follow x.request x.body before x.outcome after x.answers) id (told-is-answer x.outcome x.told x.tells) sent sends;
   }
 
-  -- what was served, of endpoints and a front that are equal
+  -- what was served, of endpoints and a front that are equal; a reply that was lost has bytes
   pub served-same : (config : ToolConfig) (version : Parts) (one two : List (ApiEndpoint X F)) (front front' : List ℕ) (most longest : ℕ) (x y t u : Option (List ℕ)) (old new : Tables) (end : SessionEnd)
-      → one ≡ two → front ≡ front' → IsServed (LineAnswers m config version one) front most longest x y t u old new end
-      → IsServed (LineAnswers m config version two) front' most longest x y t u old new end
+      → one ≡ two → front ≡ front' → IsServed (LineAnswers m config version one) (LineIsLost m config version one) front most longest x y t u old new end
+      → IsServed (LineAnswers m config version two) NeverLost front' most longest x y t u old new end
   served-same config version one two front front' most longest x y t u old new end p q served =
-      subst (λ (es : List (ApiEndpoint X F)). IsServed (LineAnswers m config version es) front' most longest x y t u old new end) p
-      (subst (λ (f : List ℕ). IsServed (LineAnswers m config version one) f most longest x y t u old new end) q served)
+      subst (λ (es : List (ApiEndpoint X F)). IsServed (LineAnswers m config version es) NeverLost front' most longest x y t u old new end) p
+      (subst (λ (f : List ℕ). IsServed (LineAnswers m config version one) NeverLost f most longest x y t u old new end) q
+      (served-kept (LineAnswers m config version one) (LineIsLost m config version one) (λ before line after lost. lost) front most longest x y t u old new end served))
 
   pub answered-same : (config : ToolConfig) (version : Parts) (one two : List (ApiEndpoint X F)) (front front' all before : List ℕ) (y u : Option (List ℕ)) (old new : Tables)
       → one ≡ two → front ≡ front' → IsAnswered (LineAnswers m config version one) front all before y u old new

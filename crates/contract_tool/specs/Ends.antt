@@ -2,6 +2,7 @@
 use Rattle.std.specs.Prelude.{ℕ, ◌≡◌, ◌+◌, ◌⊎◌, List, [], Some, take}
 use Rattle.schema_values.specs.Causes.{Rose}
 use Rattle.line_session.specs.Lines.{HasLongLine, IsTooMuch, PassesNoLimit}
+use Rattle.line_session.specs.Session.{NeverLost}
 use Rattle.line_session.specs.Status.{IsServed, MeetsLimits}
 use Rattle.line_session.specs.declared.outside.Sink.{Ghosts as SinkGhosts}
 use Rattle.line_session.specs.declared.outside.Source.{Ghosts as SourceGhosts}
@@ -47,7 +48,7 @@ module _ {X : Type 0} {F : X → Type 0} {S K : Type 0} (m : Meanings X F) (conf
   pub record IsSessionUpTo (how : SessionEnd) : Type 0 where
     pub version : Parts
     pub opened : IsOpened m config version endpoints words
-    pub served : IsServed (LineAnswers m config version endpoints) (front_of m config version endpoints)
+    pub served : IsServed (LineAnswers m config version endpoints) NeverLost (front_of m config version endpoints)
         config.most_input config.longest_line (source.left before.source) (source.left after.source)
         (sink.taken before.sink) (sink.taken after.sink) before.store after.store how
     pub limits : (all : List ℕ) → source.left before.source ≡ Some all

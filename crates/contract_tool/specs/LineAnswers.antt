@@ -36,3 +36,7 @@ LineAnswers m config version endpoints before line reply after =
     (IsBadLine line × (reply ≡ line_of (outcome_alone (codes "bad-line"))) × (after ≡ before))
     ⊎ ((IsUnbuilt (most_body config) line × (reply ≡ line_of (outcome_alone (codes "not-built"))) × (after ≡ before))
     ⊎ IsExchanged m config version endpoints before line reply after)
+
+-- the line was answered, and some reply tells that, though it was lost
+abbrev pub LineIsLost : {X : Type 0} {F : X → Type 0} → Meanings X F → ToolConfig → Parts → List (ApiEndpoint X F) → Tables → List ℕ → Tables → Type 0
+LineIsLost m config version endpoints before line after = (reply : List ℕ) × LineAnswers m config version endpoints before line reply after

@@ -1,10 +1,10 @@
 //! What answers the lines of a session: the endpoints of an API.
-ghost use Rattle.std.specs.Prelude.{◌≡◌, ◌⊎◌, ℕ, [], List as ListOf, IfOk, OnErr};
+ghost use Rattle.std.specs.Prelude.{◌≡◌, ◌⊎◌, [], IfOk, OnErr};
 ghost use Rattle.std.specs.Str.{encode_utf8_all};
 ghost use Rattle.semver.specs.Identifiers.{parts_of};
 ghost use Rattle.api_description.specs.Endpoints.{boxed};
 ghost use Rattle.api_description.specs.Registering.{AreAccepted};
-ghost use Rattle.contract_tool.specs.LineAnswers.{LineAnswers, most_body};
+ghost use Rattle.contract_tool.specs.LineAnswers.{LineAnswers, LineIsLost, most_body};
 ghost use Rattle.contract_tool.specs.RequestLines.{AsksFor};
 
 use crate::config::ToolConfig;
@@ -33,10 +33,12 @@ pub(crate) struct Desk<'a> {
 impl Answering for Desk<'_> {
     ghost use Rattle.std.specs.Prelude.{[]};
     ghost use Rattle.api_description.specs.Registering.{AreAccepted};
-    ghost use Rattle.contract_tool.specs.LineAnswers.{LineAnswers};
+    ghost use Rattle.contract_tool.specs.LineAnswers.{LineAnswers, LineIsLost};
     ghost use Rattle.semver.specs.Identifiers.{parts_of};
 
     type State = Store;
+
+    type Room = ();
 
     ghost can_answer = { λ desk. AreAccepted
         (λ e. RouteHandler-box e.handler) [] desk.api.now.endpoints.items };
@@ -45,9 +47,18 @@ impl Answering for Desk<'_> {
         (λ e. RouteHandler-box e.handler) desk.config.now
         (parts_of desk.version.now) desk.api.now.endpoints.items };
 
+    ghost lost = { λ desk. LineIsLost
+        (λ e. RouteHandler-box e.handler) desk.config.now
+        (parts_of desk.version.now) desk.api.now.endpoints.items };
+
+    fn room(&self, _alloc: Global) -> Result<(), AllocError> {
+        Ok(())
+    }
+
     fn answer(
         &self,
         alloc: Global,
+        _room: &mut (),
         state: &mut Store,
         line: &[u8],
     ) -> Result<List<u8>, AllocError> {
@@ -67,8 +78,8 @@ fn answer_line(
     ensures ok { IfOk result (λ reply. LineAnswers (boxed ⟦<dyn RouteHandler as RouteHandler>⟧)
         config.now (parts_of version.now) api.now.endpoints.items store.old line.now reply store.new) }
     ensures err { OnErr result ((store.new ≡ store.old)
-        ⊎ ((reply : ListOf ℕ) × LineAnswers (boxed ⟦<dyn RouteHandler as RouteHandler>⟧)
-        config.now (parts_of version.now) api.now.endpoints.items store.old line.now reply store.new)) }
+        ⊎ LineIsLost (boxed ⟦<dyn RouteHandler as RouteHandler>⟧)
+        config.now (parts_of version.now) api.now.endpoints.items store.old line.now store.new) }
 {
     let most = config.server.default_request_body_max_bytes;
     match read_line(alloc, line, version, most)? {
@@ -97,8 +108,8 @@ fn answer_request(
     ensures ok { IfOk result (λ reply. LineAnswers (boxed ⟦<dyn RouteHandler as RouteHandler>⟧)
         config.now (parts_of version.now) api.now.endpoints.items store.old line.now reply store.new) }
     ensures err { OnErr result ((store.new ≡ store.old)
-        ⊎ ((reply : ListOf ℕ) × LineAnswers (boxed ⟦<dyn RouteHandler as RouteHandler>⟧)
-        config.now (parts_of version.now) api.now.endpoints.items store.old line.now reply store.new)) }
+        ⊎ LineIsLost (boxed ⟦<dyn RouteHandler as RouteHandler>⟧)
+        config.now (parts_of version.now) api.now.endpoints.items store.old line.now store.new) }
 {
     let outcome = api.exchange(alloc, store, request, body.as_bytes(), &config.server);
     reply_line(alloc, &outcome)

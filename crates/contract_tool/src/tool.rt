@@ -64,6 +64,9 @@ pub fn run<S: Source, K: Sink>(
     // A count of faults never falls.
     ensures source_later { S.faults source.old ≤ S.faults source.new }
     ensures sink_later { K.faults sink.old ≤ K.faults sink.new }
+    // One that rose ended the run, by whose it is.
+    ensures read_risen { S.faults source.old < S.faults source.new → result ≡ ToolStatus.ReadFault }
+    ensures write_risen { K.faults sink.old < K.faults sink.new → result ≡ ToolStatus.WriteFault }
 {
     let version = match session_version(alloc, words) {
         Ok(version) => version,

@@ -6,7 +6,7 @@ use line_session::{Answering, MemorySink, MemorySource, SessionEnd, serve};
 use schema_values::{Json, List};
 use std::alloc::{AllocError, Global};
 
-/// Replies with the line itself, and counts the lines.
+/// Replies with the line itself, and counts the lines. The reply to a line `lost` is lost.
 struct Echo;
 
 impl Answering for Echo {
@@ -14,13 +14,30 @@ impl Answering for Echo {
 
     type State = u64;
 
+    type Room = ();
+
     ghost can_answer = { λ _. ⊤ };
 
     ghost answers = { λ _ _ line reply _. reply ≡ line };
 
-    fn answer(&self, alloc: Global, state: &mut u64, line: &[u8]) -> Result<List<u8>, AllocError> {
+    ghost lost = { λ _ _ _ _. ⊤ };
+
+    fn room(&self, _alloc: Global) -> Result<(), AllocError> {
+        Ok(())
+    }
+
+    fn answer(
+        &self,
+        alloc: Global,
+        _room: &mut (),
+        state: &mut u64,
+        line: &[u8],
+    ) -> Result<List<u8>, AllocError> {
         let reply = List::from_bytes(alloc, line)?;
         *state = state.saturating_add(1);
+        if line == b"lost".as_slice() {
+            return Err(AllocError);
+        }
         Ok(reply)
     }
 }

@@ -7,7 +7,7 @@ use std::alloc::{AllocError, Global};
 use std::io;
 use std::test::Fail;
 
-// Replies with the line itself, and counts the lines.
+// Replies with the line itself, by way of its room, and counts the lines.
 struct Echo;
 
 impl Answering for Echo {
@@ -15,12 +15,28 @@ impl Answering for Echo {
 
     type State = u64;
 
+    type Room = Vec<u8>;
+
     ghost can_answer = { λ _. ⊤ };
 
     ghost answers = { λ _ _ line reply _. reply ≡ line };
 
-    fn answer(&self, alloc: Global, state: &mut u64, line: &[u8]) -> Result<List<u8>, AllocError> {
-        let reply = List::from_bytes(alloc, line)?;
+    ghost lost = { λ _ _ _ _. ⊥ };
+
+    fn room(&self, alloc: Global) -> Result<Vec<u8>, AllocError> {
+        Ok(Vec::new(alloc))
+    }
+
+    fn answer(
+        &self,
+        alloc: Global,
+        room: &mut Vec<u8>,
+        state: &mut u64,
+        line: &[u8],
+    ) -> Result<List<u8>, AllocError> {
+        room.clear();
+        room.extend_from_slice(line)?;
+        let reply = List::from_bytes(alloc, room)?;
         *state = state.saturating_add(1);
         Ok(reply)
     }

@@ -1,6 +1,6 @@
 -- How a session goes on from line to line.
-use Rattle.std.proofs.Common.{◌≡◌, ◌≢◌, inl, inr, ℕ, ◌+◌, ◌<◌, List, [], ◌∷◌, ◌++◌, length, refl, sym, ap, ◌∙◌, subst, arith, append_assoc, append-nil, length-append}
-use Rattle.std.proofs.KnownBytes.{Consumes-trans, Consumes-nil, Appends-trans, Appends-nil}
+use Rattle.std.proofs.Common.{◌≡◌, ◌≢◌, ℕ, ◌+◌, ◌<◌, List, [], ◌∷◌, ◌++◌, length, refl, sym, ap, ◌∙◌, subst, arith, append_assoc, append-nil, length-append}
+use Rattle.std.proofs.KnownBytes.{Consumes-trans, Consumes-nil, Appends-trans}
 use Rattle.std.proofs.lemmas.List.Concat.{flat_map-append}
 use Rattle.std.specs.Io.KnownBytes.{Appends, IsAtEnd}
 use Rattle.std.specs.List.{AllByRecursion}
@@ -8,12 +8,7 @@ use Rattle.std.specs.declared.option.Option.{Option}
 use Rattle.line_session.specs.Lines.{Fits, end_line, ended, all_lines}
 use Rattle.line_session.specs.Reading.{Reading, Handles}
 use Rattle.line_session.specs.NextLine.{IsOpen}
-use Rattle.line_session.specs.Parts.{AppendsPart}
-use Rattle.line_session.specs.Session.{Session, CutSession, HasRead, HasWritten, HasWrittenPart, IsDone, IsStopped, IsCut, NoRest, MakesTooLong, MakesTooMuch, Replied, PartReplied}
-use Rattle.line_session.specs.Status.{IsServed, status_of}
-use Rattle.line_session.specs.declared.serving.SessionEnd.{SessionEnd}
-use Rattle.line_session.specs.declared.outside.SinkError.{SinkError}
-use Rattle.line_session.specs.declared.outside.SinkError.TheVariants.{Failed, OutOfMemory as NoMemory}
+use Rattle.line_session.specs.Session.{Session, HasRead, HasWritten, IsDone, IsStopped, NoRest, MakesTooLong, MakesTooMuch, Replied}
 
 pub ended-more : (lines : List (List ℕ)) (line : List ℕ) → ended (lines ++ line ∷ []) ≡ ended lines ++ end_line line
 ended-more lines line = flat_map-append end_line lines (line ∷ []) ∙ ap (λ l. ended lines ++ l) (append-nil (end_line line))
@@ -91,7 +86,7 @@ HasRead-unlooked most longest x y z lines a b bytes p q = record {
   total = p.read.total;
 }
 
-read-none : (most longest : ℕ) (x : Option (List ℕ)) → HasRead most longest x x [] [] []
+pub read-none : (most longest : ℕ) (x : Option (List ℕ)) → HasRead most longest x x [] [] []
 read-none most longest x = record {
   input = [];
   consumed = Consumes-nil x;
@@ -100,6 +95,10 @@ read-none most longest x = record {
   tail_fits = record { line_only = tt; short = omega arith };
   total = omega arith;
 }
+
+pub all_lines-last : (lines : List (List ℕ)) (tail : List ℕ) → 0 < length tail → all_lines lines tail ≡ lines ++ tail ∷ []
+all_lines-last lines [] p = absurd (omega arith)
+all_lines-last lines (b ∷ bs) p = refl
 
 module _ {X : Type 0} (Answers : X → List ℕ → List ℕ → X → Type 0) (front : List ℕ) where
   pub Session-more : (old mid new : X) (lines : List (List ℕ)) (out line reply : List ℕ)
@@ -116,26 +115,6 @@ module _ {X : Type 0} (Answers : X → List ℕ → List ℕ → X → Type 0) (
     ap (λ x. x ++ end_line reply) p.5 ∙ append_assoc (end_line p.1) p.2 (end_line reply),
   )
 
-  pub CutSession-whole : (old new : X) (lines : List (List ℕ)) (out : List ℕ) → Session Answers old lines out new → CutSession Answers old lines out new
-  CutSession-whole old new [] out p = p
-  CutSession-whole old new (l ∷ ls) out p = (p.0, p.1, p.2, p.3, inl (CutSession-whole p.0 new ls p.2 p.4, p.5))
-
-  pub CutSession-part : (old mid new : X) (lines : List (List ℕ)) (out line reply part more : List ℕ)
-      → Session Answers old lines out mid → Answers mid line reply new → part ++ more ≡ end_line reply → CutSession Answers old (lines ++ line ∷ []) (out ++ part) new
-  CutSession-part old mid new [] out line reply part more p q e =
-      let a : Answers old line reply new = subst (λ (m : X). Answers m line reply new) p.0 q in
-      (new, reply, more, a, inr (refl, refl, ap (λ (l : List ℕ). (l ++ part) ++ more) p.1 ∙ e))
-  CutSession-part old mid new (l ∷ ls) out line reply part more p q e = (
-    p.0,
-    p.1,
-    p.2 ++ part,
-    p.3,
-    inl (
-      CutSession-part p.0 mid new ls p.2 line reply part more p.4 q e,
-      ap (λ x. x ++ part) p.5 ∙ append_assoc (end_line p.1) p.2 part,
-    ),
-  )
-
   -- ---- writing
 
   pub HasWritten-none : (x y : Option (List ℕ)) (old : X) → Appends x y (front) → HasWritten Answers front x y old [] old
@@ -147,27 +126,6 @@ module _ {X : Type 0} (Answers : X → List ℕ → List ℕ → X → Type 0) (
     written = p.written ++ end_line q.0;
     appended = subst (Appends x z) (append_assoc (front) p.written (end_line q.0)) (Appends-trans x y z _ _ p.appended q.2);
     answers = Session-more old mid new lines p.written line q.0 p.answers q.1;
-  }
-
-  pub HasWrittenPart-whole : (x y : Option (List ℕ)) (old new : X) (lines : List (List ℕ)) → HasWritten Answers front x y old lines new → HasWrittenPart Answers front x y old lines new
-  HasWrittenPart-whole x y old new lines p = record {
-    written = front ++ p.written;
-    rest = p.written;
-    appended = p.appended;
-    cut = inr (refl, CutSession-whole old new lines p.written p.answers);
-  }
-
-  pub HasWrittenPart-front : (x y : Option (List ℕ)) (old : X) → AppendsPart x y (front) → HasWrittenPart Answers front x y old [] old
-  HasWrittenPart-front x y old p = record { written = p.part; rest = p.more; appended = p.appended; cut = inl (refl, refl, p.front) }
-
-  pub HasWrittenPart-reply : (x y z : Option (List ℕ)) (old mid new : X) (lines : List (List ℕ)) (line reply part more : List ℕ)
-      → HasWritten Answers front x y old lines mid → Answers mid line reply new → Appends y z part → part ++ more ≡ end_line reply
-      → HasWrittenPart Answers front x z old (lines ++ line ∷ []) new
-  HasWrittenPart-reply x y z old mid new lines line reply part more p a q e = record {
-    written = front ++ (p.written ++ part);
-    rest = p.written ++ part;
-    appended = subst (Appends x z) (append_assoc (front) p.written part) (Appends-trans x y z _ _ p.appended q);
-    cut = inr (refl, CutSession-part old mid new lines p.written line reply part more p.answers a e);
   }
 
   -- nothing was done with a line
@@ -187,39 +145,6 @@ module _ {X : Type 0} (Answers : X → List ℕ → List ℕ → X → Type 0) (
 
   -- ---- the exits
 
-  -- nothing was read or written
-  pub cut-none : (most longest : ℕ) (x t : Option (List ℕ)) (old : X) → IsCut Answers front most longest x x t t old old
-  cut-none most longest x t old = record {
-    lines = [];
-    tail = [];
-    rest = [];
-    read = read-none most longest x;
-    whole = inl refl;
-    wrote = record { written = []; rest = front; appended = Appends-nil t; cut = inl (refl, refl, refl) };
-  }
-
-  -- of the front a part was written
-  pub cut-front : (most longest : ℕ) (x t u : Option (List ℕ)) (old : X) → AppendsPart t u (front) → IsCut Answers front most longest x x t u old old
-  cut-front most longest x t u old p = record {
-    lines = [];
-    tail = [];
-    rest = [];
-    read = read-none most longest x;
-    whole = inl refl;
-    wrote = HasWrittenPart-front t u old p;
-  }
-
-  -- nothing was read
-  pub cut-before : (most longest : ℕ) (x t u : Option (List ℕ)) (old : X) → Appends t u (front) → IsCut Answers front most longest x x t u old old
-  cut-before most longest x t u old p = record {
-    lines = [];
-    tail = [];
-    rest = [];
-    read = read-none most longest x;
-    whole = inl refl;
-    wrote = HasWrittenPart-whole t u old old [] (HasWritten-none t u old p);
-  }
-
   pub Going-first : (most longest : ℕ) (x t u : Option (List ℕ)) (old : X) (reader : Reading)
       → Appends t u (front) → reader.pending ≡ [] → reader.budget ≡ most → Going most longest x x t u old old reader
   Going-first most longest x t u old reader p q r = record {
@@ -236,31 +161,6 @@ module _ {X : Type 0} (Answers : X → List ℕ → List ℕ → X → Type 0) (
     has = HasLines-more most longest x y z p.lines a b line p.has q.0 q.1;
     wrote = HasWritten-more t u v old mid new p.lines line p.wrote r;
   }
-
-  -- the reply to a whole line was cut short
-  pub cut-line : (most longest : ℕ) (x y z t u v : Option (List ℕ)) (old mid new : X) (a b : Reading) (line : List ℕ)
-      → Going most longest x y t u old mid a → Fits longest line × Handles a b y z (end_line line) → PartReplied Answers u v mid line new
-      → IsCut Answers front most longest x z t v old new
-  cut-line most longest x y z t u v old mid new a b line p q (inl r) = record {
-    lines = p.lines;
-    tail = [];
-    rest = end_line line ++ b.pending;
-    read = HasRead-unlooked most longest x y z p.lines a b (end_line line) p.has q.1;
-    whole = inl refl;
-    wrote = HasWrittenPart-whole t v old new p.lines (HasWritten-kept t u v old mid new p.lines p.wrote r);
-  }
-  cut-line most longest x y z t u v old mid new a b line p q (inr r) = record {
-    lines = p.lines ++ line ∷ [];
-    tail = [];
-    rest = b.pending;
-    read = (HasLines-more most longest x y z p.lines a b line p.has q.0 q.1).read;
-    whole = inl refl;
-    wrote = HasWrittenPart-reply t u v old mid new p.lines line r.0 r.1 r.2 p.wrote r.3 r.4 r.5;
-  }
-
-  all_lines-last : (lines : List (List ℕ)) (tail : List ℕ) → 0 < length tail → all_lines lines tail ≡ lines ++ tail ∷ []
-  all_lines-last lines [] p = absurd (omega arith)
-  all_lines-last lines (b ∷ bs) p = refl
 
   -- the last line, which has no newline, was answered
   pub done-last : (most longest : ℕ) (x y z t u v : Option (List ℕ)) (old mid new : X) (a b : Reading) (line : List ℕ)
@@ -285,40 +185,6 @@ module _ {X : Type 0} (Answers : X → List ℕ → List ℕ → X → Type 0) (
         (subst (HasRead most longest x z p.lines line) q.1 (HasRead-open most longest x y z p.lines a b line p.has q.0));
     finished = q.2;
     wrote = p.wrote;
-  }
-
-  -- its reply was cut short
-  pub cut-last : (most longest : ℕ) (x y z t u v : Option (List ℕ)) (old mid new : X) (a b : Reading) (line : List ℕ)
-      → Going most longest x y t u old mid a → IsOpen longest a b y z line × (b.pending ≡ []) × IsAtEnd z → 0 < length line → PartReplied Answers u v mid line new
-      → IsCut Answers front most longest x z t v old new
-  cut-last most longest x y z t u v old mid new a b line p q n (inl r) = record {
-    lines = p.lines;
-    tail = [];
-    rest = line ++ b.pending;
-    read = HasRead-unlooked most longest x y z p.lines a b line p.has q.0.handled;
-    whole = inl refl;
-    wrote = HasWrittenPart-whole t v old new p.lines (HasWritten-kept t u v old mid new p.lines p.wrote r);
-  }
-  cut-last most longest x y z t u v old mid new a b line p q n (inr r) = record {
-    lines = p.lines;
-    tail = line;
-    rest = [];
-    read = subst (HasRead most longest x z p.lines line) q.1 (HasRead-open most longest x y z p.lines a b line p.has q.0);
-    whole = inr (refl, q.2);
-    wrote = subst (λ (ls : List (List ℕ)). HasWrittenPart Answers front t v old ls new) (sym (all_lines-last p.lines line n))
-        (HasWrittenPart-reply t u v old mid new p.lines line r.0 r.1 r.2 p.wrote r.3 r.4 r.5);
-  }
-
-  -- memory ran out in a line
-  pub cut-open : (most longest : ℕ) (x y z t u : Option (List ℕ)) (old new : X) (a b : Reading)
-      → Going most longest x y t u old new a → (line : List ℕ) × IsOpen longest a b y z line → IsCut Answers front most longest x z t u old new
-  cut-open most longest x y z t u old new a b p q = record {
-    lines = p.lines;
-    tail = [];
-    rest = q.0 ++ b.pending;
-    read = HasRead-unlooked most longest x y z p.lines a b q.0 p.has q.1.handled;
-    whole = inl refl;
-    wrote = HasWrittenPart-whole t u old new p.lines p.wrote;
   }
 
   -- the source failed
@@ -359,9 +225,3 @@ module _ {X : Type 0} (Answers : X → List ℕ → List ℕ → X → Type 0) (
     wrote = p.wrote;
     cause = (q.1, q.2, q.4, omega (arith, length-append (ended p.lines) q.0, p.has.budget, q.3.handled.budget, q.5));
   }
-
-  -- whichever way a write failed
-  pub served-cut : (most longest : ℕ) (x y t u : Option (List ℕ)) (old new : X) (status : SessionEnd) (e : SinkError)
-      → status ≡ status_of e → IsCut Answers front most longest x y t u old new → IsServed Answers front most longest x y t u old new status
-  served-cut most longest x y t u old new status Failed p q = subst (IsServed Answers front most longest x y t u old new) (sym p) q
-  served-cut most longest x y t u old new status NoMemory p q = subst (IsServed Answers front most longest x y t u old new) (sym p) q

@@ -2,6 +2,8 @@ pub mod Pieces
 pub mod Handling
 pub mod Ends
 pub mod Going
+pub mod Cuts
 pub mod LineLemmas
 pub mod Limits
 pub mod Whole
+pub mod CallerLemmas

@@ -75,14 +75,14 @@ module _ {X : Type 0} (Answers : X → List ℕ → List ℕ → X → Type 0) (
       }
 
   -- what the end says of a source that tells its bytes
-  pub limits : (most longest : ℕ) (x y t u : Option (List ℕ)) (old new : X) (status : SessionEnd) (all : List ℕ)
-      → IsServed Answers front most longest x y t u old new status → x ≡ Some all → MeetsLimits most longest all status
-  limits most longest x y t u old new Done all p e = limits-done most longest x y t u old new all p e
-  limits most longest x y t u old new ReadFault all p e = tt
-  limits most longest x y t u old new WriteFault all p e = tt
-  limits most longest x y t u old new (LineTooLong k) all p e = (p.0, limits-long most longest x y t u old new all p.1 e)
-  limits most longest x y t u old new (TooMuchInput k) all p e = (p.0, limits-much most longest x y t u old new all p.1 e)
-  limits most longest x y t u old new OutOfMemory all p e = tt
+  pub limits : (Lost : X → List ℕ → X → Type 0) (most longest : ℕ) (x y t u : Option (List ℕ)) (old new : X) (status : SessionEnd) (all : List ℕ)
+      → IsServed Answers Lost front most longest x y t u old new status → x ≡ Some all → MeetsLimits most longest all status
+  limits Lost most longest x y t u old new Done all p e = limits-done most longest x y t u old new all p e
+  limits Lost most longest x y t u old new ReadFault all p e = tt
+  limits Lost most longest x y t u old new WriteFault all p e = tt
+  limits Lost most longest x y t u old new (LineTooLong k) all p e = (p.0, limits-long most longest x y t u old new all p.1 e)
+  limits Lost most longest x y t u old new (TooMuchInput k) all p e = (p.0, limits-much most longest x y t u old new all p.1 e)
+  limits Lost most longest x y t u old new OutOfMemory all p e = tt
 
 -- ---- the three cases leave no other end, but for faults and memory
 

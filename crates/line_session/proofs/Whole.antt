@@ -31,6 +31,6 @@ module _ {X : Type 0} (Answers : X → List ℕ → List ℕ → X → Type 0) (
         answers = subst (λ (ls : List (List ℕ)). Session Answers old ls p.wrote.written new) (sym lines) p.wrote.answers;
       }
 
-  pub served-at : (most longest : ℕ) (x y t u : Option (List ℕ)) (old new : X) (a b : SessionEnd)
-      → IsServed Answers front most longest x y t u old new a → a ≡ b → IsServed Answers front most longest x y t u old new b
-  served-at most longest x y t u old new a b p e = subst (IsServed Answers front most longest x y t u old new) e p
+  pub served-at : (Lost : X → List ℕ → X → Type 0) (most longest : ℕ) (x y t u : Option (List ℕ)) (old new : X) (a b : SessionEnd)
+      → IsServed Answers Lost front most longest x y t u old new a → a ≡ b → IsServed Answers Lost front most longest x y t u old new b
+  served-at Lost most longest x y t u old new a b p e = subst (IsServed Answers Lost front most longest x y t u old new) e p

@@ -1,5 +1,5 @@
 //! Lines from a source, which is read in pieces.
-ghost use Rattle.std.specs.Prelude.{◌≡◌, ◌≢◌, ◌+◌, ◌<◌, ◌≤◌, [], ◌∷◌, IfOk, OnErr, MatchOption};
+ghost use Rattle.std.specs.Prelude.{◌≡◌, ◌≢◌, ◌+◌, ◌<◌, ◌≤◌, [], ◌∷◌, IfOk, OnOk, OnErr, MatchOption};
 ghost use Rattle.std.specs.Prelude.{drop};
 ghost use Rattle.std.specs.Io.KnownBytes.{IsAtEnd};
 ghost use Rattle.schema_values.specs.Causes.{Rose, HasCause};
@@ -73,6 +73,7 @@ impl LineReader {
             (λ b. self.new.pending ≡ b ∷ drop 1 self.new.pending)) }
         ensures failed { OnErr result (self.new.pending ≡ []) }
         ensures cause { HasCause (S.faults source.old) (S.faults source.new) result }
+        ensures counts { OnOk result (S.faults source.new ≡ S.faults source.old) }
     {
         if self.at == self.filled {
             return self.refill(source);
@@ -89,6 +90,7 @@ impl LineReader {
             (λ b. self.new.pending ≡ b ∷ drop 1 self.new.pending)) }
         ensures failed { OnErr result (self.new.pending ≡ []) }
         ensures cause { HasCause (S.faults source.old) (S.faults source.new) result }
+        ensures counts { OnOk result (S.faults source.new ≡ S.faults source.old) }
     {
         self.at = 0;
         self.filled = 0;
@@ -116,6 +118,7 @@ impl LineReader {
         ensures next { IsNext longest self.old self.new (S.left source.old) (S.left source.new) result }
         ensures later { S.faults source.old ≤ S.faults source.new }
         ensures failed { result ≡ NextLine.ReadFault → Rose (S.faults source.old) (S.faults source.new) }
+        ensures counts { result ≢ NextLine.ReadFault → S.faults source.new ≡ S.faults source.old }
     {
         let mut line = Vec::new(alloc);
         'bytes: loop {

@@ -1,5 +1,5 @@
 //! Sources and sinks in memory: with a list of calls that fail, or with none.
-ghost use Rattle.std.specs.Prelude.{◌≡◌, ◌≤◌, ◌<◌, ◌↔◌, Some, [], length, is_err, IfOk, IsErrOf, IsTrue};
+ghost use Rattle.std.specs.Prelude.{◌≡◌, ◌≤◌, ◌<◌, ◌↔◌, Some, [], length, is_err, IfOk, IsErrOf, IsTrue, OnOk};
 ghost use Rattle.std.specs.Io.{ReadsAtMost, WritesAtMost};
 ghost use Rattle.std.specs.Io.KnownBytes.{ReadConsumes, WriteAppends};
 ghost use Rattle.schema_values.specs.Causes.{HasCause, Rose};
@@ -187,10 +187,11 @@ impl Source for MemorySource {
         ensures bound { ReadsAtMost result buf.new }
         ensures bytes { ReadConsumes (Some self.old.bytes) (Some self.new.bytes) result buf.new }
         ensures cause { HasCause self.old.faults self.new.faults result }
+        ensures counts { OnOk result (self.new.faults ≡ self.old.faults) }
 
         // It fails at these calls and at no other, and the count rises by each.
         ensures exactly { is_err result ≡ is_failing self.old.failing self.old.calls }
-        ensures counts { self.new ≡ after_call self.old self.new.bytes }
+        ensures after { self.new ≡ after_call self.old self.new.bytes }
     {
         if is_failing(self.failing.as_slice(), &mut self.calls) {
             self.faults = self.faults.saturating_add(1);
@@ -225,11 +226,12 @@ impl Sink for MemorySink {
         ensures bytes { WriteAppends (Some self.old.bytes) (Some self.new.bytes) result piece.now }
         ensures later { self.old.faults ≤ self.new.faults }
         ensures failed { IsErrOf result SinkError.Failed → Rose self.old.faults self.new.faults }
+        ensures counts { ¬ IsErrOf result SinkError.Failed → self.new.faults ≡ self.old.faults }
 
         // It fails at these calls and at no other, and the count rises by each.
         ensures exactly { IsErrOf result SinkError.Failed
             ↔ IsTrue (is_failing self.old.failing self.old.calls) }
-        ensures counts { self.new ≡ after_call self.old self.new.bytes }
+        ensures after { self.new ≡ after_call self.old self.new.bytes }
     {
         if is_failing(self.failing.as_slice(), &mut self.calls) {
             self.faults = self.faults.saturating_add(1);

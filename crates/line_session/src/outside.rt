@@ -1,5 +1,6 @@
-//! What a session reads from and writes to. Each end counts its own faults, which generic code cannot.
-ghost use Rattle.std.specs.Prelude.{◌<◌, ◌≤◌, ℕ, List, length, IfOk, IsErrOf};
+//! What a session reads from and writes to. Each end counts its own faults, which generic code cannot. A count
+//! rises by a call that tells of a fault and by no other, so what tries again after a fault is no end.
+ghost use Rattle.std.specs.Prelude.{◌≡◌, ◌<◌, ◌≤◌, ℕ, List, length, IfOk, IsErrOf, OnOk};
 ghost use Rattle.std.specs.declared.option.Option.{Option};
 ghost use Rattle.std.specs.Io.{ReadsAtMost, WritesAtMost};
 ghost use Rattle.std.specs.Io.KnownBytes.{ReadConsumes, WriteAppends};
@@ -31,7 +32,8 @@ pub trait Source {
     fn read(&mut self, buf: &mut [u8]) -> Result<usize, Failed>
         ensures bound { ReadsAtMost result buf.new }
         ensures bytes { ReadConsumes (left self.old) (left self.new) result buf.new }
-        ensures cause { HasCause (faults self.old) (faults self.new) result };
+        ensures cause { HasCause (faults self.old) (faults self.new) result }
+        ensures counts { OnOk result (faults self.new ≡ faults self.old) };
 }
 
 /// Where bytes are written.
@@ -49,5 +51,6 @@ pub trait Sink {
         ensures progress { 0 < length piece.now → IfOk result (λ n. 0 < n) }
         ensures bytes { WriteAppends (taken self.old) (taken self.new) result piece.now }
         ensures later { faults self.old ≤ faults self.new }
-        ensures failed { IsErrOf result SinkError.Failed → Rose (faults self.old) (faults self.new) };
+        ensures failed { IsErrOf result SinkError.Failed → Rose (faults self.old) (faults self.new) }
+        ensures counts { ¬ IsErrOf result SinkError.Failed → faults self.new ≡ faults self.old };
 }

@@ -1,10 +1,10 @@
 //! A session over any answering of lines: a front is written, and then the reply to each line.
 ghost use Rattle.std.specs.Prelude.{◌≡◌, ◌⊎◌, Some, ◌+◌, ◌-◌, ◌^◌, ◌<◌, ◌≤◌, List as ListOf, ℕ, take, IfOk};
-ghost use Rattle.std.specs.Prelude.{OnOk, OnErr, IsErrOf};
+ghost use Rattle.std.specs.Prelude.{OnOk, OnErr, IfErr, IsErrOf};
 ghost use Rattle.schema_values.specs.Causes.{Rose};
 ghost use Rattle.line_session.specs.Lines.{HasLongLine, IsTooMuch, PassesNoLimit};
 ghost use Rattle.line_session.specs.Session.{Replied, PartReplied, IsAnswered};
-ghost use Rattle.line_session.specs.Status.{IsServed, MeetsLimits, status_of};
+ghost use Rattle.line_session.specs.Status.{CountsFaults, IsServed, MeetsLimits, lost_at, status_of};
 
 use crate::line_reader::{LineReader, NextLine};
 use crate::outside::{Sink, SinkError, Source};
@@ -18,24 +18,35 @@ pub trait Answering {
     /// What is carried from line to line.
     type State;
 
+    /// Memory that is used again from line to line, and of which no contract speaks.
+    type Room: Drop;
+
     /// What has to hold before a line can be answered; it goes on holding.
     ghost can_answer: { Self → Type 0 };
 
     /// From a state the line may be answered by this reply, which leaves that state.
     ghost answers: { Self → Self.State → ListOf ℕ → ListOf ℕ → Self.State → Type 0 };
 
+    /// From a state the line may be answered by a reply that is lost before it stands in bytes, which leaves
+    /// that state.
+    ghost lost: { Self → Self.State → ListOf ℕ → Self.State → Type 0 };
+
+    /// The room for a session. Fails only for want of memory.
+    fn room(&self, alloc: Global) -> Result<Self::Room, AllocError>;
+
     /// The reply to a line, without a newline. Fails only for want of memory: then the line was not answered,
     /// or it was and the reply is lost.
     fn answer(
         &self,
         alloc: Global,
+        room: &mut Self::Room,
         state: &mut Self::State,
         line: &[u8],
     ) -> Result<List<u8>, AllocError>
         requires { can_answer self.now }
         ensures ok { IfOk result (λ reply. answers self.now state.old line.now reply state.new) }
         ensures err { OnErr result ((state.new ≡ state.old)
-            ⊎ ((reply : ListOf ℕ) × answers self.now state.old line.now reply state.new)) };
+            ⊎ lost self.now state.old line.now state.new) };
 }
 
 /// How a session ended.
@@ -59,6 +70,7 @@ pub enum SessionEnd {
 fn answer<A: Answering, K: Sink>(
     alloc: Global,
     answering: &A,
+    room: &mut A::Room,
     state: &mut A::State,
     line: &[u8],
     sink: &mut K,
@@ -66,12 +78,14 @@ fn answer<A: Answering, K: Sink>(
     requires { A.can_answer answering.now }
     ensures ok { OnOk result (Replied (A.answers answering.now) (K.taken sink.old)
         (K.taken sink.new) state.old line.now state.new) }
-    ensures part { OnErr result (PartReplied (A.answers answering.now) (K.taken sink.old)
-        (K.taken sink.new) state.old line.now state.new) }
+    ensures part { IfErr result (λ error. PartReplied (A.answers answering.now)
+        (lost_at (A.lost answering.now) error) (K.taken sink.old) (K.taken sink.new)
+        state.old line.now state.new) }
     ensures later { K.faults sink.old ≤ K.faults sink.new }
     ensures failed { IsErrOf result SinkError.Failed → Rose (K.faults sink.old) (K.faults sink.new) }
+    ensures counts { ¬ IsErrOf result SinkError.Failed → K.faults sink.new ≡ K.faults sink.old }
 {
-    match answering.answer(alloc, state, line) {
+    match answering.answer(alloc, room, state, line) {
         Ok(reply) => write_line(sink, reply),
         Err(_) => Err(SinkError::OutOfMemory),
     }
@@ -91,6 +105,7 @@ fn status_of(error: SinkError) -> SessionEnd
 fn serve_lines<A: Answering, S: Source, K: Sink>(
     alloc: Global,
     answering: &A,
+    room: &mut A::Room,
     state: &mut A::State,
     front: &[u8],
     most_input: u64,
@@ -101,13 +116,11 @@ fn serve_lines<A: Answering, S: Source, K: Sink>(
     requires ready { A.can_answer answering.now }
     requires most { most_input < 2 ^ 64 - 1 }
     requires longest { longest_line < 2 ^ 64 - 1 }
-    ensures served { IsServed (A.answers answering.now) front.now most_input longest_line (S.left source.old)
-        (S.left source.new)
+    ensures served { IsServed (A.answers answering.now) (A.lost answering.now) front.now most_input
+        longest_line (S.left source.old) (S.left source.new)
         (K.taken sink.old) (K.taken sink.new) state.old state.new result }
-    ensures source_later { S.faults source.old ≤ S.faults source.new }
-    ensures sink_later { K.faults sink.old ≤ K.faults sink.new }
-    ensures read_fault { result ≡ SessionEnd.ReadFault → Rose (S.faults source.old) (S.faults source.new) }
-    ensures write_fault { result ≡ SessionEnd.WriteFault → Rose (K.faults sink.old) (K.faults sink.new) }
+    ensures counts { CountsFaults (S.faults source.old) (S.faults source.new)
+        (K.faults sink.old) (K.faults sink.new) result }
 {
     if let Err(error) = write_all(sink, front) {
         return status_of(error);
@@ -118,7 +131,7 @@ fn serve_lines<A: Answering, S: Source, K: Sink>(
     'lines: loop {
         match reader.next_line(alloc, longest_line, source) {
             NextLine::Ended(line) => {
-                if let Err(error) = answer(alloc, answering, state, &line, sink) {
+                if let Err(error) = answer(alloc, answering, room, state, &line, sink) {
                     return status_of(error);
                 }
             }
@@ -126,7 +139,7 @@ fn serve_lines<A: Answering, S: Source, K: Sink>(
                 if line.is_empty() {
                     return SessionEnd::Done;
                 }
-                if let Err(error) = answer(alloc, answering, state, &line, sink) {
+                if let Err(error) = answer(alloc, answering, room, state, &line, sink) {
                     return status_of(error);
                 }
                 return SessionEnd::Done;
@@ -157,8 +170,8 @@ pub fn serve<A: Answering, S: Source, K: Sink>(
     requires ready { A.can_answer answering.now }
     requires most { most_input < 2 ^ 64 - 1 }
     requires longest { longest_line < 2 ^ 64 - 1 }
-    ensures served { IsServed (A.answers answering.now) front.now most_input longest_line (S.left source.old)
-        (S.left source.new)
+    ensures served { IsServed (A.answers answering.now) (A.lost answering.now) front.now most_input
+        longest_line (S.left source.old) (S.left source.new)
         (K.taken sink.old) (K.taken sink.new) state.old state.new result }
     // Of a source and a sink that tell their bytes.
     ensures session { result ≡ SessionEnd.Done → (all before : ListOf ℕ) →
@@ -185,10 +198,17 @@ pub fn serve<A: Answering, S: Source, K: Sink>(
     ensures sink_later { K.faults sink.old ≤ K.faults sink.new }
     ensures read_fault { result ≡ SessionEnd.ReadFault → Rose (S.faults source.old) (S.faults source.new) }
     ensures write_fault { result ≡ SessionEnd.WriteFault → Rose (K.faults sink.old) (K.faults sink.new) }
+    // A count of faults that rose ended the session, by whose it is.
+    ensures read_risen { S.faults source.old < S.faults source.new → result ≡ SessionEnd.ReadFault }
+    ensures write_risen { K.faults sink.old < K.faults sink.new → result ≡ SessionEnd.WriteFault }
 {
+    let Ok(mut room) = answering.room(alloc) else {
+        return SessionEnd::OutOfMemory;
+    };
     serve_lines(
         alloc,
         answering,
+        &mut room,
         state,
         front,
         most_input,

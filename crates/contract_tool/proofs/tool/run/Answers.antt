@@ -1,7 +1,7 @@
 use Rattle.std.proofs.Common.{◌∙◌, Err, ap, refl, subst, sym}
 use Rattle.semver.specs.Identifiers.{parts_of}
 use Rattle.contract_tool.specs.declared.config.ToolStatus.TheVariants.{Done}
-use Rattle.contract_tool.specs.Sessions.{IsOpened}
+use Rattle.contract_tool.specs.Sessions.{IsOpened, status_of}
 use Rattle.contract_tool.proofs.RunLemmas.{answered-same, called-for, ended-so, is-ended, opened, served-same}
 use Rattle.contract_tool.proofs.tool.run.Goals as goal
 
@@ -53,3 +53,9 @@ returns-clause-complete g c command accepted all left status calls source sink =
     (λ limit. c.serve.ensures.complete all left limit source sink)
     (λ long. c.serve.ensures.too_long all left long source sink)
     (λ much. c.serve.ensures.too_much all left much source sink)
+
+pub returns-clause-read_risen : goal.returns-clause-read_risen
+returns-clause-read_risen g c more = c.status_of.ensures ∙ ap status_of (c.serve.ensures.read_risen more)
+
+pub returns-clause-write_risen : goal.returns-clause-write_risen
+returns-clause-write_risen g c more = c.status_of.ensures ∙ ap status_of (c.serve.ensures.write_risen more)
