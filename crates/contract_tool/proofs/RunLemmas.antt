@@ -3,8 +3,8 @@ use Rattle.std.proofs.Common.{◌≡◌, ◌≢◌, ◌+◌, ℕ, List, [], Opti
 use Rattle.line_session.specs.Lines.{HasLongLine, IsTooMuch, PassesNoLimit}
 use Rattle.line_session.specs.Session.{IsAnswered, NeverLost}
 use Rattle.line_session.specs.Status.{IsServed}
-use Rattle.line_session.specs.declared.outside.Sink.{Ghosts as SinkGhosts}
-use Rattle.line_session.specs.declared.outside.Source.{Ghosts as SourceGhosts}
+use Rattle.line_session.specs.declared.ends.Sink.{Ghosts as SinkGhosts}
+use Rattle.line_session.specs.declared.ends.Source.{Ghosts as SourceGhosts}
 use Rattle.line_session.specs.declared.serving.SessionEnd.{SessionEnd}
 use Rattle.line_session.specs.declared.serving.SessionEnd.TheVariants as ended
 use Rattle.api_description.specs.declared.api_extract.request.RequestParts.{RequestParts}

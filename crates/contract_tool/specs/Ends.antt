@@ -4,8 +4,8 @@ use Rattle.schema_values.specs.Causes.{Rose}
 use Rattle.line_session.specs.Lines.{HasLongLine, IsTooMuch, PassesNoLimit}
 use Rattle.line_session.specs.Session.{NeverLost}
 use Rattle.line_session.specs.Status.{IsServed, MeetsLimits}
-use Rattle.line_session.specs.declared.outside.Sink.{Ghosts as SinkGhosts}
-use Rattle.line_session.specs.declared.outside.Source.{Ghosts as SourceGhosts}
+use Rattle.line_session.specs.declared.ends.Sink.{Ghosts as SinkGhosts}
+use Rattle.line_session.specs.declared.ends.Source.{Ghosts as SourceGhosts}
 use Rattle.line_session.specs.declared.serving.SessionEnd.{SessionEnd}
 use Rattle.line_session.specs.declared.serving.SessionEnd.TheVariants as end
 use Rattle.semver.specs.Parse.{Parts}

@@ -10,8 +10,8 @@ use Rattle.line_session.specs.Parts.{AppendsPart}
 use Rattle.line_session.specs.Session.{Session, CutSession, HasRead, HasWritten, HasWrittenPart, IsCut, PartReplied}
 use Rattle.line_session.specs.Status.{IsServed, lost_at, status_of}
 use Rattle.line_session.specs.declared.serving.SessionEnd.{SessionEnd}
-use Rattle.line_session.specs.declared.outside.SinkError.{SinkError}
-use Rattle.line_session.specs.declared.outside.SinkError.TheVariants.{Failed, OutOfMemory as NoMemory}
+use Rattle.line_session.specs.declared.ends.SinkError.{SinkError}
+use Rattle.line_session.specs.declared.ends.SinkError.TheVariants.{Failed, OutOfMemory as NoMemory}
 use Rattle.line_session.proofs.Going.{Going, HasLines-more, HasRead-open, HasRead-unlooked, HasWritten-kept, HasWritten-none, all_lines-last, read-none}
 
 module _ {X : Type 0} (Answers : X → List ℕ → List ℕ → X → Type 0) (Lost : X → List ℕ → X → Type 0) (front : List ℕ) where

@@ -1,6 +1,6 @@
 pub mod Pieces
 pub mod Handling
-pub mod Ends
+pub mod Counts
 pub mod Going
 pub mod Cuts
 pub mod LineLemmas

@@ -1,4 +1,4 @@
-pub mod Adapters
+pub mod StdEnds
 pub mod Memory
 pub mod Parts
 pub mod Lines

@@ -4,8 +4,8 @@ use Rattle.std.specs.declared.option.Option.{Option}
 use Rattle.schema_values.specs.Causes.{Rose}
 use Rattle.line_session.specs.Lines.{HasLongLine, IsTooMuch, PassesNoLimit}
 use Rattle.line_session.specs.Session.{IsDone, IsStopped, IsCut, NeverLost, NoRest, MakesTooLong, MakesTooMuch}
-use Rattle.line_session.specs.declared.outside.SinkError.{SinkError}
-use Rattle.line_session.specs.declared.outside.SinkError.TheVariants.{Failed, OutOfMemory as NoMemory}
+use Rattle.line_session.specs.declared.ends.SinkError.{SinkError}
+use Rattle.line_session.specs.declared.ends.SinkError.TheVariants.{Failed, OutOfMemory as NoMemory}
 use Rattle.line_session.specs.declared.serving.SessionEnd.{SessionEnd}
 use Rattle.line_session.specs.declared.serving.SessionEnd.TheVariants.{Done, ReadFault, WriteFault, LineTooLong, TooMuchInput, OutOfMemory}
 

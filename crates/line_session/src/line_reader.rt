@@ -4,7 +4,7 @@ ghost use Rattle.std.specs.Prelude.{drop};
 ghost use Rattle.std.specs.Io.KnownBytes.{IsAtEnd};
 ghost use Rattle.schema_values.specs.Causes.{Rose, HasCause};
 
-use crate::outside::{Failed, Source};
+use crate::ends::{Failed, Source};
 use std::alloc::{AllocError, Global};
 use std::marker::Model;
 

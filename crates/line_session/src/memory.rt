@@ -5,7 +5,7 @@ ghost use Rattle.std.specs.Io.KnownBytes.{ReadConsumes, WriteAppends};
 ghost use Rattle.schema_values.specs.Causes.{HasCause, Rose};
 ghost use Rattle.line_session.specs.Memory.{CopiesFront, after_call, fresh, is_failing, one_more};
 
-use crate::outside::{Failed, Sink, SinkError, Source};
+use crate::ends::{Failed, Sink, SinkError, Source};
 use schema_values::List;
 use std::alloc::Global;
 use std::marker::Model;

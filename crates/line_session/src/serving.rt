@@ -6,8 +6,8 @@ ghost use Rattle.line_session.specs.Lines.{HasLongLine, IsTooMuch, PassesNoLimit
 ghost use Rattle.line_session.specs.Session.{Replied, PartReplied, IsAnswered};
 ghost use Rattle.line_session.specs.Status.{CountsFaults, IsServed, MeetsLimits, lost_at, status_of};
 
+use crate::ends::{Sink, SinkError, Source};
 use crate::line_reader::{LineReader, NextLine};
-use crate::outside::{Sink, SinkError, Source};
 use crate::writing::{write_all, write_line};
 use schema_values::List;
 use std::alloc::{AllocError, Global};

@@ -5,7 +5,7 @@ ghost use Rattle.schema_values.specs.Causes.{Rose};
 ghost use Rattle.line_session.specs.Lines.{end_line};
 ghost use Rattle.line_session.specs.Parts.{AppendsPart};
 
-use crate::outside::{Sink, SinkError};
+use crate::ends::{Sink, SinkError};
 use schema_values::List;
 
 /// Writes all of `bytes`; at an `Err` a part from the front.

@@ -1,5 +1,5 @@
 //! The edge to std: any reader is a source and any writer a sink, which count the errors that they meet.
-use crate::outside::{Failed, Sink, SinkError, Source};
+use crate::ends::{Failed, Sink, SinkError, Source};
 use std::io::{Read, Write};
 
 /// A reader of std as a source. Each error that it meets is a fault.
@@ -19,7 +19,7 @@ pub struct StdSink<W: Write> {
 
 impl<R: Read> StdSource<R> {
     ghost use Rattle.std.specs.Prelude.{◌≡◌};
-    ghost use Rattle.line_session.specs.Adapters.{source_faults, source_reader};
+    ghost use Rattle.line_session.specs.StdEnds.{source_faults, source_reader};
 
     /// A source over this reader, which has not failed yet.
     pub fn new(inner: R) -> Self
@@ -32,7 +32,7 @@ impl<R: Read> StdSource<R> {
 
 impl<W: Write> StdSink<W> {
     ghost use Rattle.std.specs.Prelude.{◌≡◌};
-    ghost use Rattle.line_session.specs.Adapters.{sink_faults, sink_writer};
+    ghost use Rattle.line_session.specs.StdEnds.{sink_faults, sink_writer};
 
     /// A sink over this writer, which has not failed yet.
     pub fn new(inner: W) -> Self

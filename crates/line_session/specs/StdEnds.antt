@@ -1,7 +1,7 @@
 -- What the ends over std show: what they stand over, and how often it has failed.
 use Rattle.std.specs.Prelude.{ℕ}
-use Rattle.line_session.specs.declared.adapters.StdSource.{StdSource}
-use Rattle.line_session.specs.declared.adapters.StdSink.{StdSink}
+use Rattle.line_session.specs.declared.std_ends.StdSource.{StdSource}
+use Rattle.line_session.specs.declared.std_ends.StdSink.{StdSink}
 
 -- what the source reads from
 abbrev pub source_reader : {R : Type 0} → StdSource R → R

@@ -3,8 +3,8 @@ use Rattle.std.proofs.Common.{◌≡◌, Bool, true, false, true≢false, ℕ, �
 use Rattle.std.specs.Prelude.{IsErrOf}
 use Rattle.schema_values.specs.Causes.{Rose}
 use Rattle.line_session.specs.Status.{CountsFaults, status_of}
-use Rattle.line_session.specs.declared.outside.SinkError.{SinkError}
-use Rattle.line_session.specs.declared.outside.SinkError.TheVariants.{Failed, OutOfMemory as NoMemory}
+use Rattle.line_session.specs.declared.ends.SinkError.{SinkError}
+use Rattle.line_session.specs.declared.ends.SinkError.TheVariants.{Failed, OutOfMemory as NoMemory}
 use Rattle.line_session.specs.declared.serving.SessionEnd.{SessionEnd}
 use Rattle.line_session.specs.declared.serving.SessionEnd.TheVariants.{Done, ReadFault, WriteFault, LineTooLong, TooMuchInput, OutOfMemory}
 
