@@ -1,6 +1,6 @@
 -- How a run ends: what each status says, and which one is called for.
 use Rattle.std.specs.Prelude.{ℕ, ◌≡◌, ◌+◌, ◌⊎◌, List, [], Some, take}
-use Rattle.schema_values.specs.Causes.{Rose}
+use Rattle.schema_values.specs.Causes.{HasRisen}
 use Rattle.line_session.specs.Lines.{HasLongLine, IsTooMuch, PassesNoLimit}
 use Rattle.line_session.specs.Session.{NeverLost}
 use Rattle.line_session.specs.Status.{IsServed, MeetsLimits}
@@ -34,11 +34,11 @@ outside source sink store = record { source = source; sink = sink; store = store
 
 -- how often the source failed rose, or stands at the last value of a counter
 abbrev pub FailedToRead : {S K : Type 0} → SourceGhosts S → Outside S K → Outside S K → Type 0
-FailedToRead source before after = Rose (source.faults before.source) (source.faults after.source)
+FailedToRead source before after = HasRisen (source.faults before.source) (source.faults after.source)
 
 -- the same of the sink
 abbrev pub FailedToWrite : {S K : Type 0} → SinkGhosts K → Outside S K → Outside S K → Type 0
-FailedToWrite sink before after = Rose (sink.faults before.sink) (sink.faults after.sink)
+FailedToWrite sink before after = HasRisen (sink.faults before.sink) (sink.faults after.sink)
 
 module _ {X : Type 0} {F : X → Type 0} {S K : Type 0} (m : Meanings X F) (config : ToolConfig)
     (endpoints : List (ApiEndpoint X F)) (words : List (String Global))

@@ -1,6 +1,6 @@
 //! The top call.
 ghost use Rattle.std.specs.Prelude.{◌≡◌, ◌↔◌, ◌⊎◌, Some, ◌-◌, ◌^◌, ◌<◌, ◌≤◌, [], List as ListOf, ℕ, IfOk};
-ghost use Rattle.schema_values.specs.Causes.{Rose};
+ghost use Rattle.schema_values.specs.Causes.{HasRisen};
 ghost use Rattle.semver.specs.Identifiers.{parts_of};
 ghost use Rattle.api_description.specs.Endpoints.{boxed};
 ghost use Rattle.api_description.specs.Registering.{AreAccepted};
@@ -59,7 +59,8 @@ pub fn run<S: Source, K: Sink>(
         AreAccepted (boxed ⟦<dyn RouteHandler as RouteHandler>⟧) [] endpoints.items →
         (all : ListOf ℕ) → S.left source.old ≡ Some all →
         (status : StatusValue) → CallsFor config.now all status →
-        ¬ Rose (S.faults source.old) (S.faults source.new) → ¬ Rose (K.faults sink.old) (K.faults sink.new) →
+        ¬ HasRisen (S.faults source.old) (S.faults source.new) →
+        ¬ HasRisen (K.faults sink.old) (K.faults sink.new) →
         (result ≡ status) ⊎ (result ≡ ToolStatus.OutOfMemory) }
     // A count of faults never falls.
     ensures source_later { S.faults source.old ≤ S.faults source.new }

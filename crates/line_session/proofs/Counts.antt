@@ -1,7 +1,7 @@
 -- Which ends of a session are faults, and what the counts of faults have to do with them.
 use Rattle.std.proofs.Common.{◌≡◌, Bool, true, false, true≢false, ℕ, ◌<◌, ◌≤◌, Err, refl, sym, ap, ◌∙◌, arith}
 use Rattle.std.specs.Prelude.{IsErrOf}
-use Rattle.schema_values.specs.Causes.{Rose}
+use Rattle.schema_values.specs.Causes.{HasRisen}
 use Rattle.line_session.specs.Status.{CountsFaults, status_of}
 use Rattle.line_session.specs.declared.ends.SinkError.{SinkError}
 use Rattle.line_session.specs.declared.ends.SinkError.TheVariants.{Failed, OutOfMemory as NoMemory}
@@ -37,7 +37,7 @@ counted-none read read_now wrote wrote_now end r w none = record {
 }
 
 -- the source failed
-pub counted-read : (read read_now wrote wrote_now : ℕ) → read ≤ read_now → Rose read read_now → wrote_now ≡ wrote → CountsFaults read read_now wrote wrote_now ReadFault
+pub counted-read : (read read_now wrote wrote_now : ℕ) → read ≤ read_now → HasRisen read read_now → wrote_now ≡ wrote → CountsFaults read read_now wrote wrote_now ReadFault
 counted-read read read_now wrote wrote_now later rose w = record {
   source_later = later;
   sink_later = omega (arith, w);
@@ -49,7 +49,7 @@ counted-read read read_now wrote wrote_now later rose w = record {
 
 -- a write ended in this error
 pub counted-write : {T : Type 0} (read read_now wrote wrote_now : ℕ) (status : SessionEnd) (e : SinkError) → status ≡ status_of e → read_now ≡ read → wrote ≤ wrote_now
-    → (IsErrOf {T} (Err e) Failed → Rose wrote wrote_now) → ((IsErrOf {T} (Err e) Failed → ⊥) → wrote_now ≡ wrote) → CountsFaults read read_now wrote wrote_now status
+    → (IsErrOf {T} (Err e) Failed → HasRisen wrote wrote_now) → ((IsErrOf {T} (Err e) Failed → ⊥) → wrote_now ≡ wrote) → CountsFaults read read_now wrote wrote_now status
 counted-write read read_now wrote wrote_now status Failed is r later failed counts = record {
   source_later = omega (arith, r);
   sink_later = later;

@@ -1,7 +1,7 @@
 -- What each end of a session says.
 use Rattle.std.specs.Prelude.{ℕ, ◌≡◌, ◌+◌, ◌<◌, ◌≤◌, List, take, ⊤}
 use Rattle.std.specs.declared.option.Option.{Option}
-use Rattle.schema_values.specs.Causes.{Rose}
+use Rattle.schema_values.specs.Causes.{HasRisen}
 use Rattle.line_session.specs.Lines.{HasLongLine, IsTooMuch, PassesNoLimit}
 use Rattle.line_session.specs.Session.{IsDone, IsStopped, IsCut, NeverLost, NoRest, MakesTooLong, MakesTooMuch}
 use Rattle.line_session.specs.declared.ends.SinkError.{SinkError}
@@ -49,7 +49,7 @@ MeetsLimits most longest all OutOfMemory = ⊤
 pub record CountsFaults (read read_now wrote wrote_now : ℕ) (end : SessionEnd) : Type 0 where
   pub source_later : read ≤ read_now
   pub sink_later : wrote ≤ wrote_now
-  pub read_fault : end ≡ ReadFault → Rose read read_now
-  pub write_fault : end ≡ WriteFault → Rose wrote wrote_now
+  pub read_fault : end ≡ ReadFault → HasRisen read read_now
+  pub write_fault : end ≡ WriteFault → HasRisen wrote wrote_now
   pub read_risen : read < read_now → end ≡ ReadFault
   pub write_risen : wrote < wrote_now → end ≡ WriteFault

@@ -4,7 +4,7 @@ ghost use Rattle.std.specs.Prelude.{◌≡◌, ◌<◌, ◌≤◌, ℕ, List, le
 ghost use Rattle.std.specs.declared.option.Option.{Option};
 ghost use Rattle.std.specs.Io.{ReadsAtMost, WritesAtMost};
 ghost use Rattle.std.specs.Io.KnownBytes.{ReadConsumes, WriteAppends};
-ghost use Rattle.schema_values.specs.Causes.{Rose, HasCause};
+ghost use Rattle.schema_values.specs.Causes.{HasRisen, HasCause};
 
 /// The source could not be read.
 #[derive(Clone, Copy, Debug, Drop, PartialEq, Eq)]
@@ -51,6 +51,6 @@ pub trait Sink {
         ensures progress { 0 < length piece.now → IfOk result (λ n. 0 < n) }
         ensures bytes { WriteAppends (taken self.old) (taken self.new) result piece.now }
         ensures later { faults self.old ≤ faults self.new }
-        ensures failed { IsErrOf result SinkError.Failed → Rose (faults self.old) (faults self.new) }
+        ensures failed { IsErrOf result SinkError.Failed → HasRisen (faults self.old) (faults self.new) }
         ensures counts { ¬ IsErrOf result SinkError.Failed → faults self.new ≡ faults self.old };
 }

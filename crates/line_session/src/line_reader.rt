@@ -2,7 +2,7 @@
 ghost use Rattle.std.specs.Prelude.{◌≡◌, ◌≢◌, ◌+◌, ◌<◌, ◌≤◌, [], ◌∷◌, IfOk, OnOk, OnErr, MatchOption};
 ghost use Rattle.std.specs.Prelude.{drop};
 ghost use Rattle.std.specs.Io.KnownBytes.{IsAtEnd};
-ghost use Rattle.schema_values.specs.Causes.{Rose, HasCause};
+ghost use Rattle.schema_values.specs.Causes.{HasRisen, HasCause};
 
 use crate::ends::{Failed, Source};
 use std::alloc::{AllocError, Global};
@@ -117,7 +117,7 @@ impl LineReader {
     pub fn next_line<S: Source>(&mut self, alloc: Global, longest: u64, source: &mut S) -> NextLine
         ensures next { IsNext longest self.old self.new (S.left source.old) (S.left source.new) result }
         ensures later { S.faults source.old ≤ S.faults source.new }
-        ensures failed { result ≡ NextLine.ReadFault → Rose (S.faults source.old) (S.faults source.new) }
+        ensures failed { result ≡ NextLine.ReadFault → HasRisen (S.faults source.old) (S.faults source.new) }
         ensures counts { result ≢ NextLine.ReadFault → S.faults source.new ≡ S.faults source.old }
     {
         let mut line = Vec::new(alloc);

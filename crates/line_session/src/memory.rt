@@ -2,7 +2,7 @@
 ghost use Rattle.std.specs.Prelude.{◌≡◌, ◌≤◌, ◌<◌, ◌↔◌, Some, [], length, is_err, IfOk, IsErrOf, IsTrue, OnOk};
 ghost use Rattle.std.specs.Io.{ReadsAtMost, WritesAtMost};
 ghost use Rattle.std.specs.Io.KnownBytes.{ReadConsumes, WriteAppends};
-ghost use Rattle.schema_values.specs.Causes.{HasCause, Rose};
+ghost use Rattle.schema_values.specs.Causes.{HasCause, HasRisen};
 ghost use Rattle.line_session.specs.Memory.{CopiesFront, after_call, fresh, is_failing, one_more};
 
 use crate::ends::{Failed, Sink, SinkError, Source};
@@ -225,7 +225,7 @@ impl Sink for MemorySink {
         ensures progress { 0 < length piece.now → IfOk result (λ n. 0 < n) }
         ensures bytes { WriteAppends (Some self.old.bytes) (Some self.new.bytes) result piece.now }
         ensures later { self.old.faults ≤ self.new.faults }
-        ensures failed { IsErrOf result SinkError.Failed → Rose self.old.faults self.new.faults }
+        ensures failed { IsErrOf result SinkError.Failed → HasRisen self.old.faults self.new.faults }
         ensures counts { ¬ IsErrOf result SinkError.Failed → self.new.faults ≡ self.old.faults }
 
         // It fails at these calls and at no other, and the count rises by each.

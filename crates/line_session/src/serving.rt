@@ -1,7 +1,7 @@
 //! A session over any answering of lines: a front is written, and then the reply to each line.
 ghost use Rattle.std.specs.Prelude.{◌≡◌, ◌⊎◌, Some, ◌+◌, ◌-◌, ◌^◌, ◌<◌, ◌≤◌, List as ListOf, ℕ, take, IfOk};
 ghost use Rattle.std.specs.Prelude.{OnOk, OnErr, IfErr, IsErrOf};
-ghost use Rattle.schema_values.specs.Causes.{Rose};
+ghost use Rattle.schema_values.specs.Causes.{HasRisen};
 ghost use Rattle.line_session.specs.Lines.{HasLongLine, IsTooMuch, PassesNoLimit};
 ghost use Rattle.line_session.specs.Session.{Replied, PartReplied, IsAnswered};
 ghost use Rattle.line_session.specs.Status.{CountsFaults, IsServed, MeetsLimits, lost_at, status_of};
@@ -82,7 +82,7 @@ fn answer<A: Answering, K: Sink>(
         (lost_at (A.lost answering.now) error) (K.taken sink.old) (K.taken sink.new)
         state.old line.now state.new) }
     ensures later { K.faults sink.old ≤ K.faults sink.new }
-    ensures failed { IsErrOf result SinkError.Failed → Rose (K.faults sink.old) (K.faults sink.new) }
+    ensures failed { IsErrOf result SinkError.Failed → HasRisen (K.faults sink.old) (K.faults sink.new) }
     ensures counts { ¬ IsErrOf result SinkError.Failed → K.faults sink.new ≡ K.faults sink.old }
 {
     match answering.answer(alloc, room, state, line) {
@@ -184,20 +184,23 @@ pub fn serve<A: Answering, S: Source, K: Sink>(
     // Where nothing fails, the end is the one that the bytes call for, or memory runs out.
     ensures complete { (all : ListOf ℕ) → S.left source.old ≡ Some all
         → PassesNoLimit most_input longest_line all →
-        ¬ Rose (S.faults source.old) (S.faults source.new) → ¬ Rose (K.faults sink.old) (K.faults sink.new) →
+        ¬ HasRisen (S.faults source.old) (S.faults source.new) →
+        ¬ HasRisen (K.faults sink.old) (K.faults sink.new) →
         (result ≡ SessionEnd.Done) ⊎ (result ≡ SessionEnd.OutOfMemory) }
     ensures too_long { (all : ListOf ℕ) → S.left source.old ≡ Some all
         → HasLongLine longest_line (take most_input all) →
-        ¬ Rose (S.faults source.old) (S.faults source.new) → ¬ Rose (K.faults sink.old) (K.faults sink.new) →
+        ¬ HasRisen (S.faults source.old) (S.faults source.new) →
+        ¬ HasRisen (K.faults sink.old) (K.faults sink.new) →
         (result ≡ SessionEnd.LineTooLong (longest_line + 1)) ⊎ (result ≡ SessionEnd.OutOfMemory) }
     ensures too_much { (all : ListOf ℕ) → S.left source.old ≡ Some all
         → IsTooMuch most_input longest_line all →
-        ¬ Rose (S.faults source.old) (S.faults source.new) → ¬ Rose (K.faults sink.old) (K.faults sink.new) →
+        ¬ HasRisen (S.faults source.old) (S.faults source.new) →
+        ¬ HasRisen (K.faults sink.old) (K.faults sink.new) →
         (result ≡ SessionEnd.TooMuchInput (most_input + 1)) ⊎ (result ≡ SessionEnd.OutOfMemory) }
     ensures source_later { S.faults source.old ≤ S.faults source.new }
     ensures sink_later { K.faults sink.old ≤ K.faults sink.new }
-    ensures read_fault { result ≡ SessionEnd.ReadFault → Rose (S.faults source.old) (S.faults source.new) }
-    ensures write_fault { result ≡ SessionEnd.WriteFault → Rose (K.faults sink.old) (K.faults sink.new) }
+    ensures read_fault { result ≡ SessionEnd.ReadFault → HasRisen (S.faults source.old) (S.faults source.new) }
+    ensures write_fault { result ≡ SessionEnd.WriteFault → HasRisen (K.faults sink.old) (K.faults sink.new) }
     // A count of faults that rose ended the session, by whose it is.
     ensures read_risen { S.faults source.old < S.faults source.new → result ≡ SessionEnd.ReadFault }
     ensures write_risen { K.faults sink.old < K.faults sink.new → result ≡ SessionEnd.WriteFault }

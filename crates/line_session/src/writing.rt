@@ -1,7 +1,7 @@
 //! Whole texts to a sink, which may take them in parts.
 ghost use Rattle.std.specs.Prelude.{◌≡◌, ◌≤◌, OnOk, OnErr, IsErrOf};
 ghost use Rattle.std.specs.Io.KnownBytes.{Appends};
-ghost use Rattle.schema_values.specs.Causes.{Rose};
+ghost use Rattle.schema_values.specs.Causes.{HasRisen};
 ghost use Rattle.line_session.specs.Lines.{end_line};
 ghost use Rattle.line_session.specs.Parts.{AppendsPart};
 
@@ -13,7 +13,7 @@ pub fn write_all<K: Sink>(sink: &mut K, bytes: &[u8]) -> Result<(), SinkError>
     ensures ok { OnOk result (Appends (K.taken sink.old) (K.taken sink.new) bytes.now) }
     ensures part { OnErr result (AppendsPart (K.taken sink.old) (K.taken sink.new) bytes.now) }
     ensures later { K.faults sink.old ≤ K.faults sink.new }
-    ensures failed { IsErrOf result SinkError.Failed → Rose (K.faults sink.old) (K.faults sink.new) }
+    ensures failed { IsErrOf result SinkError.Failed → HasRisen (K.faults sink.old) (K.faults sink.new) }
     ensures counts { ¬ IsErrOf result SinkError.Failed → K.faults sink.new ≡ K.faults sink.old }
 {
     let mut at = 0;
@@ -28,7 +28,7 @@ pub fn write_line<K: Sink>(sink: &mut K, mut line: List<u8>) -> Result<(), SinkE
     ensures ok { OnOk result (Appends (K.taken sink.old) (K.taken sink.new) (end_line line)) }
     ensures part { OnErr result (AppendsPart (K.taken sink.old) (K.taken sink.new) (end_line line)) }
     ensures later { K.faults sink.old ≤ K.faults sink.new }
-    ensures failed { IsErrOf result SinkError.Failed → Rose (K.faults sink.old) (K.faults sink.new) }
+    ensures failed { IsErrOf result SinkError.Failed → HasRisen (K.faults sink.old) (K.faults sink.new) }
     ensures counts { ¬ IsErrOf result SinkError.Failed → K.faults sink.new ≡ K.faults sink.old }
 {
     if line.push(b'\n').is_err() {

@@ -2,7 +2,7 @@
 ghost use Rattle.std.specs.Prelude.{◌≡◌, ◌≤◌, [], IfOk, OnOk, OnErr, IsErrOf};
 ghost use Rattle.std.specs.Io.KnownBytes.{Appends};
 ghost use Rattle.std.specs.Str.{chars, encode_utf8_all};
-ghost use Rattle.schema_values.specs.Causes.{Rose};
+ghost use Rattle.schema_values.specs.Causes.{HasRisen};
 ghost use Rattle.line_session.specs.Parts.{AppendsPart};
 ghost use Rattle.schema_values.specs.Sound.{IsSound};
 ghost use Rattle.semver.specs.Identifiers.{parts_of};
@@ -148,7 +148,7 @@ impl OpenApiDefinition<'_> {
             (boxed ⟦<dyn RouteHandler as RouteHandler>⟧) self.now.api.now.endpoints.items
             self.now.title (parts_of self.now.version)))) }
         ensures later { K.faults sink.old ≤ K.faults sink.new }
-        ensures failed { IsErrOf result WriteError.WriteFault → Rose (K.faults sink.old) (K.faults sink.new) }
+        ensures failed { IsErrOf result WriteError.WriteFault → HasRisen (K.faults sink.old) (K.faults sink.new) }
     {
         let text = self.text(alloc)?;
         match write_all(sink, text.as_bytes()) {
