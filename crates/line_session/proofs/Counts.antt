@@ -49,7 +49,7 @@ counted-read read read_now wrote wrote_now later rose w = record {
 
 -- a write ended in this error
 pub counted-write : {T : Type 0} (read read_now wrote wrote_now : ℕ) (status : SessionEnd) (e : SinkError) → status ≡ status_of e → read_now ≡ read → wrote ≤ wrote_now
-    → (IsErrOf {T} (Err e) Failed → HasRisen wrote wrote_now) → ((IsErrOf {T} (Err e) Failed → ⊥) → wrote_now ≡ wrote) → CountsFaults read read_now wrote wrote_now status
+    → (IsErrOf {T = T} (Err e) Failed → HasRisen wrote wrote_now) → ((IsErrOf {T = T} (Err e) Failed → ⊥) → wrote_now ≡ wrote) → CountsFaults read read_now wrote wrote_now status
 counted-write read read_now wrote wrote_now status Failed is r later failed counts = record {
   source_later = omega (arith, r);
   sink_later = later;
