@@ -1,5 +1,5 @@
-//! What a session reads from and writes to. Each end counts its own faults, which generic code cannot. A count
-//! rises by a call that tells of a fault and by no other, so what tries again after a fault is no end.
+//! What a session reads from and writes to. Each end counts its own faults, which generic code cannot. A call
+//! that tells of none leaves the count, so what tries again after a fault that it counts is no end.
 ghost use Rattle.std.specs.Prelude.{◌≡◌, ◌<◌, ◌≤◌, ℕ, List, length, IfOk, IsErrOf, OnOk};
 ghost use Rattle.std.specs.declared.option.Option.{Option};
 ghost use Rattle.std.specs.Io.{ReadsAtMost, WritesAtMost};

@@ -199,8 +199,10 @@ pub fn serve<A: Answering, S: Source, K: Sink>(
         (result ≡ SessionEnd.TooMuchInput (most_input + 1)) ⊎ (result ≡ SessionEnd.OutOfMemory) }
     ensures source_later { S.faults source.old ≤ S.faults source.new }
     ensures sink_later { K.faults sink.old ≤ K.faults sink.new }
-    ensures read_fault { result ≡ SessionEnd.ReadFault → HasRisen (S.faults source.old) (S.faults source.new) }
-    ensures write_fault { result ≡ SessionEnd.WriteFault → HasRisen (K.faults sink.old) (K.faults sink.new) }
+    ensures read_fault { result ≡ SessionEnd.ReadFault →
+        HasRisen (S.faults source.old) (S.faults source.new) }
+    ensures write_fault { result ≡ SessionEnd.WriteFault →
+        HasRisen (K.faults sink.old) (K.faults sink.new) }
     // A count of faults that rose ended the session, by whose it is.
     ensures read_risen { S.faults source.old < S.faults source.new → result ≡ SessionEnd.ReadFault }
     ensures write_risen { K.faults sink.old < K.faults sink.new → result ≡ SessionEnd.WriteFault }

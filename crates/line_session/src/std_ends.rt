@@ -2,7 +2,8 @@
 use crate::ends::{Failed, Sink, SinkError, Source};
 use std::io::{Read, Write};
 
-/// A reader of std as a source. Each error that it meets is a fault.
+/// A reader of std as a source. Each error that it meets is a fault, also of a call that was interrupted, and
+/// nothing else is.
 #[derive(Drop)]
 pub struct StdSource<R: Read> {
     inner: R,
@@ -10,7 +11,7 @@ pub struct StdSource<R: Read> {
 }
 
 /// A writer of std as a sink. Each error that it meets is a fault, and so is a write that takes no byte of
-/// some.
+/// some; nothing else is.
 #[derive(Drop)]
 pub struct StdSink<W: Write> {
     inner: W,

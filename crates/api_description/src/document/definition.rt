@@ -148,7 +148,8 @@ impl OpenApiDefinition<'_> {
             (boxed ⟦<dyn RouteHandler as RouteHandler>⟧) self.now.api.now.endpoints.items
             self.now.title (parts_of self.now.version)))) }
         ensures later { K.faults sink.old ≤ K.faults sink.new }
-        ensures failed { IsErrOf result WriteError.WriteFault → HasRisen (K.faults sink.old) (K.faults sink.new) }
+        ensures failed { IsErrOf result WriteError.WriteFault →
+            HasRisen (K.faults sink.old) (K.faults sink.new) }
     {
         let text = self.text(alloc)?;
         match write_all(sink, text.as_bytes()) {
