@@ -15,7 +15,9 @@ use std::alloc::Global;
 /// A call over endpoints, and the text of their document where the call asks for it.
 #[derive(Clone, Copy)]
 pub struct Asked<'a> {
+    /// The name of the call.
     pub call: &'a str,
+    /// The text of the document, empty where the call asks for none.
     pub front: &'a str,
 }
 

@@ -16,10 +16,15 @@ use std::alloc::Global;
 /// What an endpoint is made of.
 #[derive(Drop)]
 pub struct NotedEndpoint {
+    /// Its name.
     pub operation_id: Text,
+    /// The method that it serves.
     pub method: Method,
+    /// The media type of its body.
     pub body_content_type: Text,
+    /// The template of its path.
     pub path: Text,
+    /// What answers its requests.
     pub handler: Box<Replies>,
 }
 
