@@ -7,7 +7,7 @@
 //! the shape is noted, handler.rt how the handler.
 use crate::handler::{Replies, handler_of};
 use crate::members::text_or;
-use case_notation::CaseError;
+use case_notation::{CaseError, check_names};
 use http::Method;
 use http::method::MethodError;
 use schema_values::{Json, Text};
@@ -28,8 +28,21 @@ pub struct NotedEndpoint {
     pub handler: Box<Replies>,
 }
 
+const MEMBERS: [&str; 9] = [
+    "operation_id",
+    "method",
+    "path",
+    "body_content_type",
+    "table",
+    "slots",
+    "response",
+    "error",
+    "handler",
+];
+
 /// The endpoint that is noted.
 pub fn noted_endpoint(alloc: Global, noted: &Json) -> Result<NotedEndpoint, CaseError> {
+    check_names(noted, &MEMBERS)?;
     Ok(NotedEndpoint {
         operation_id: text_or(alloc, noted, "operation_id", "o")?,
         method: method_of(alloc, noted)?,
