@@ -3,12 +3,11 @@
 //! errors of `HttpError`; `"context"`, which gives a text of what it is told besides its arguments;
 //! or `{"gives":TREE}`. A reply that does not fit the response is want of memory, which ends the
 //! program.
-ghost use Rattle.std.specs.Prelude.{◌≡◌, ◌∷◌, [], ⊤, IfOk, IsTrue, MatchOption, Some, codes};
+ghost use Rattle.std.specs.Prelude.{◌≡◌, ⊤, IfOk, IsTrue, MatchOption};
 ghost use Rattle.typed_values.specs.Checks.{TablePasses, DescPasses};
 ghost use Rattle.typed_values.specs.Fits.{Fits};
-ghost use Rattle.typed_values.specs.declared.desc.Desc.{Ref};
-ghost use Rattle.api_description.specs.Replies.{ContentFits, ContentPasses, HasHttpErrors, ReplyFits, ShapePasses};
-ghost use Rattle.api_description.specs.Responses.{error_definition};
+ghost use Rattle.api_description.specs.Replies.{ContentFits, ContentPasses, ReplyFits, ShapePasses};
+ghost use Rattle.api_description.specs.Replies.{HasHttpErrors};
 
 use crate::shapes::{error_table, http_errors, response_of, shape_of, slots_of};
 use api_description::api_extract::{Arg, ArgList};
