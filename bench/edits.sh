@@ -1,7 +1,7 @@
 #!/bin/sh
 # Tries the edits of bench/edits of these crates, or of all, in a copy of the repository, each alone: the proof of the
 # crate must fail with it. Prints where each was refused, and at the end those that were not. It begins with what
-# earlier checks on this machine proved, and takes some forty seconds of a processor for an edit.
+# earlier checks on this machine proved.
 # usage: bench/edits.sh [CRATE..]
 here=$(cd "$(dirname "$0")/.." && pwd) || exit 1
 [ $# -gt 0 ] || set -- $(ls "$here/bench/edits")

@@ -7,7 +7,7 @@ ghost use Rattle.api_description.specs.declared.register.ApiDescriptionRegisterE
 
 use crate::api_respond::RouteHandler;
 use crate::endpoint::ApiEndpoint;
-use crate::register::{ApiDescriptionRegisterError, RegisterCause, first_cause, register_error};
+use crate::register::{ApiDescriptionRegisterError, first_cause, register_error};
 use std::alloc::{AllocError, Global};
 
 /// What an API says of tags. It has no settings yet.

@@ -1,6 +1,5 @@
 ghost use Rattle.std.specs.Prelude.{◌++◌, codes};
 ghost use Rattle.typed_values.specs.declared.desc.Desc.TheVariants as descs;
-ghost use Rattle.typed_values.specs.declared.tree.Tree.TheVariants as trees;
 ghost use Rattle.api_types.specs.Options.{option_tree};
 
 use crate::api_type::ApiType;

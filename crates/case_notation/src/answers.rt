@@ -1,10 +1,9 @@
 //! Parts of answers.
-use crate::error::CaseError;
 use schema_values::{Json, List, Member, Text};
 use std::alloc::{AllocError, Global};
 
 /// A text.
-pub fn word(alloc: Global, word: &str) -> Result<Json, CaseError> {
+pub fn word(alloc: Global, word: &str) -> Result<Json, AllocError> {
     Ok(Json::Text(Text::from_str(alloc, word)?))
 }
 

@@ -1,5 +1,5 @@
 //! Why a line is not answered.
-use schema_values::Text;
+use schema_values::{ReadError, Text};
 use std::alloc::{AllocError, AllocFailed, Global};
 
 /// Why a line is not answered.
@@ -22,6 +22,15 @@ impl From<AllocError> for CaseError {
 impl<T: Drop> From<AllocFailed<T>> for CaseError {
     fn from(_: AllocFailed<T>) -> CaseError {
         CaseError::OutOfMemory
+    }
+}
+
+impl From<ReadError> for CaseError {
+    fn from(error: ReadError) -> CaseError {
+        match error {
+            ReadError::Unreadable => CaseError::Expected("JSON"),
+            ReadError::OutOfMemory => CaseError::OutOfMemory,
+        }
     }
 }
 

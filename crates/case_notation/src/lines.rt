@@ -5,28 +5,39 @@
 //! that is `like` an earlier one has that one's members too, but for those that it has itself. It is
 //! answered by its name, a colon and the answer as compact JSON.
 use crate::error::CaseError;
-use crate::parts::{given, members_of, text_of};
-use schema_values::{Json, List, Member, ReadError, Text};
+use crate::parts::{check_names, given, members_of, text_of};
+use schema_values::{Json, List, Member, Text};
 use std::alloc::{AllocError, Global};
+use std::io;
 
 /// A program of cases.
 pub trait AnswersCases {
-    /// The names that the members of a case may have besides `case` and `like`.
+    /// The names that the members of a case may have, `case` and `like` among them.
     fn members(&self) -> &'static [&'static str];
 
     /// What the call of a case answers.
     fn answer(&self, alloc: Global, case: &Json) -> Result<Json, CaseError>;
 }
 
+/// Answers each line of the input with one line.
+pub fn run<R: AllocGlobal + Input + Print, P: AnswersCases>(rt: &R, program: &P) -> io::Result<()> {
+    let mut cases = Cases::new(rt.alloc());
+    for line in rt.lines(rt.alloc()) {
+        let reply = cases.reply(rt.alloc(), program, line?.as_str())?;
+        println!(rt; "{reply}")?;
+    }
+    Ok(())
+}
+
 /// The cases that stand on the lines so far.
 #[derive(Drop)]
-pub struct Cases {
+struct Cases {
     cases: List<Json>,
 }
 
 impl Cases {
     /// No cases.
-    pub fn new(alloc: Global) -> Cases {
+    fn new(alloc: Global) -> Cases {
         Cases {
             cases: List::new(alloc),
         }
@@ -34,7 +45,7 @@ impl Cases {
 
     /// The line that answers the next line: the name of its case and the answer, or `?` and what is
     /// wrong with the line. An empty line, and one that begins with `#`, is repeated.
-    pub fn reply<P: AnswersCases>(
+    fn reply<P: AnswersCases>(
         &mut self,
         alloc: Global,
         program: &P,
@@ -55,19 +66,19 @@ impl Cases {
         program: &P,
         line: &str,
     ) -> Result<Text, CaseError> {
-        let case = read(alloc, line)?;
-        if !are_known(program.members(), members_of(&case)?) {
-            return Err(CaseError::Expected("members of known names"));
-        }
-        let case = self.completed(alloc, &case)?;
+        let case = self.read(alloc, program.members(), line)?;
+        let reply = answered(alloc, program, &case)?;
         self.cases.push(case)?;
-        match self.cases.as_slice().last() {
-            Some(case) => answered(alloc, program, case),
-            None => Err(CaseError::Expected("a case")),
-        }
+        Ok(reply)
     }
 
-    /// A case of a new name, with the members of the case that it is like.
+    /// The case on a line, with the members of the case that it is like.
+    fn read(&self, alloc: Global, names: &[&str], line: &str) -> Result<Json, CaseError> {
+        let case = Json::read(alloc, line.as_bytes())?;
+        check_names(&case, names)?;
+        self.completed(alloc, &case)
+    }
+
     fn completed(&self, alloc: Global, case: &Json) -> Result<Json, CaseError> {
         if self.named(text_of(given(case, "case")?)?).is_some() {
             return Err(CaseError::Expected("a new name"));
@@ -96,31 +107,11 @@ impl Cases {
     }
 
     fn named(&self, name: &Text) -> Option<&Json> {
-        for case in self.cases.as_slice() {
-            if is_named(case, name) {
-                return Some(case);
-            }
-        }
-        None
+        self.cases
+            .as_slice()
+            .iter()
+            .find(|case| is_named(case, name))
     }
-}
-
-fn are_known(names: &[&str], members: &[Member]) -> bool {
-    for member in members {
-        if !is_known(names, &member.name) {
-            return false;
-        }
-    }
-    true
-}
-
-fn is_known(names: &[&str], name: &Text) -> bool {
-    for known in names {
-        if name.equals_str(known) {
-            return true;
-        }
-    }
-    name.equals_str("case") || name.equals_str("like")
 }
 
 fn is_named(case: &Json, name: &Text) -> bool {
@@ -136,12 +127,4 @@ fn answered<P: AnswersCases>(alloc: Global, program: &P, case: &Json) -> Result<
     reply.push_str(": ")?;
     reply.push_text(&answer)?;
     Ok(reply)
-}
-
-fn read(alloc: Global, line: &str) -> Result<Json, CaseError> {
-    match Json::read(alloc, line.as_bytes()) {
-        Ok(case) => Ok(case),
-        Err(ReadError::Unreadable) => Err(CaseError::Expected("a case in JSON")),
-        Err(ReadError::OutOfMemory) => Err(CaseError::OutOfMemory),
-    }
 }

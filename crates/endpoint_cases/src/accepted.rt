@@ -7,7 +7,7 @@ ghost use Rattle.schema_values.specs.Sound.{IsSound};
 use crate::exchanges::exchanged;
 use crate::members::{push_word, text_or};
 use crate::registering::refusal;
-use crate::requests::{version_of, wire_request};
+use crate::requests::{request_at, version_of, wire_request};
 use crate::streams::{lines_told, sink_of};
 use api_description::api_respond::RouteHandler;
 use api_description::{ApiDescription, ApiEndpoint, TagConfig, WriteError};
@@ -17,11 +17,26 @@ use request_admission::check_admits;
 use schema_values::{Json, List, Text};
 use std::alloc::Global;
 
+/// A call over an API.
+#[derive(Clone, Copy)]
+pub enum ApiCall {
+    /// The answer to a request.
+    Exchange,
+    /// The document.
+    Document,
+    /// The text of the document.
+    Text,
+    /// How the document is written to a sink.
+    Write,
+    /// Whether the document admits a request.
+    Admits,
+}
+
 /// What a call answers over endpoints that may all be registered.
 pub fn over_accepted(
     alloc: Global,
     case: &Json,
-    call: &str,
+    call: ApiCall,
     endpoints: Vec<ApiEndpoint>,
 ) -> Result<Json, CaseError> {
     match ApiDescription::of_endpoints(alloc, TagConfig::default_config(alloc), endpoints) {
@@ -33,17 +48,21 @@ pub fn over_accepted(
     }
 }
 
-fn over_api(alloc: Global, case: &Json, call: &str, api: &ApiDescription) -> Result<Json, CaseError>
+fn over_api(
+    alloc: Global,
+    case: &Json,
+    call: ApiCall,
+    api: &ApiDescription,
+) -> Result<Json, CaseError>
     requires { AreAccepted
         (boxed ⟦<dyn RouteHandler as RouteHandler>⟧) [] api.now.endpoints.items }
 {
     match call {
-        "exchange" => exchanged(alloc, case, api),
-        "document" => document(alloc, case, api),
-        "text" => Ok(Json::Text(document_text(alloc, case, api)?)),
-        "write" => written(alloc, case, api),
-        "admits" => admits(alloc, case, api),
-        _ => Err(CaseError::Expected("the name of a call")),
+        ApiCall::Exchange => exchanged(alloc, case, api),
+        ApiCall::Document => document(alloc, case, api),
+        ApiCall::Text => Ok(Json::Text(document_text(alloc, case, api)?)),
+        ApiCall::Write => written(alloc, case, api),
+        ApiCall::Admits => admits(alloc, case, api),
     }
 }
 
@@ -76,9 +95,21 @@ fn written(alloc: Global, case: &Json, api: &ApiDescription) -> Result<Json, Cas
         (boxed ⟦<dyn RouteHandler as RouteHandler>⟧) [] api.now.endpoints.items }
 {
     let text = document_text(alloc, case, api)?;
+    written_beside(alloc, case, api, text.as_str())
+}
+
+fn written_beside(
+    alloc: Global,
+    case: &Json,
+    api: &ApiDescription,
+    document: &str,
+) -> Result<Json, CaseError>
+    requires { AreAccepted
+        (boxed ⟦<dyn RouteHandler as RouteHandler>⟧) [] api.now.endpoints.items }
+{
     let mut sink = sink_of(alloc, case)?;
     let ended = write(alloc, case, api, &mut sink)?;
-    written_told(alloc, ended, sink.taken(), text.as_str())
+    written_told(alloc, ended, sink.taken(), document)
 }
 
 fn write(
@@ -124,7 +155,7 @@ fn admits(alloc: Global, case: &Json, api: &ApiDescription) -> Result<Json, Case
         (boxed ⟦<dyn RouteHandler as RouteHandler>⟧) [] api.now.endpoints.items }
 {
     let document = document(alloc, case, api)?;
-    let noted = given(case, "request")?;
+    let noted = request_at(case)?;
     let path = text_of(given(noted, "template")?)?.as_str();
     let method = text_of(given(noted, "method")?)?.as_str();
     let request = wire_request(alloc, noted)?;

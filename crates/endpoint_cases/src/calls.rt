@@ -1,5 +1,6 @@
 //! The calls of cases.
-use crate::built::{Asked, over_endpoints};
+use crate::accepted::ApiCall;
+use crate::built::{Call, over_endpoints};
 use crate::errors::{bad_request, error_body, status_code};
 use crate::requests::request_told;
 use crate::serving::served;
@@ -11,8 +12,7 @@ use std::alloc::Global;
 
 /// What the call of a case answers.
 pub fn answered(alloc: Global, case: &Json) -> Result<Json, CaseError> {
-    let call = text_of(given(case, "call")?)?.as_str();
-    match call {
+    match text_of(given(case, "call")?)?.as_str() {
         "session" => session_answered(alloc, case),
         "serve" => served(alloc, case),
         "config" => shipped_config(alloc),
@@ -21,9 +21,13 @@ pub fn answered(alloc: Global, case: &Json) -> Result<Json, CaseError> {
         "bad_request" => bad_request(alloc, case),
         "error_body" => error_body(alloc, case),
         "status_code" => status_code(alloc, case),
-        "register" | "endpoints" | "exchange" | "document" | "text" | "write" | "admits" => {
-            over_endpoints(alloc, case, Asked { call, front: "" })
-        }
+        "register" => over_endpoints(alloc, case, Call::Register),
+        "endpoints" => over_endpoints(alloc, case, Call::Endpoints),
+        "exchange" => over_endpoints(alloc, case, Call::OverApi(ApiCall::Exchange)),
+        "document" => over_endpoints(alloc, case, Call::OverApi(ApiCall::Document)),
+        "text" => over_endpoints(alloc, case, Call::OverApi(ApiCall::Text)),
+        "write" => over_endpoints(alloc, case, Call::OverApi(ApiCall::Write)),
+        "admits" => over_endpoints(alloc, case, Call::OverApi(ApiCall::Admits)),
         _ => Err(CaseError::Expected("the name of a call")),
     }
 }
@@ -31,20 +35,12 @@ pub fn answered(alloc: Global, case: &Json) -> Result<Json, CaseError> {
 // A session, of which the document of its endpoints is known.
 fn session_answered(alloc: Global, case: &Json) -> Result<Json, CaseError> {
     let front = front_of(alloc, case)?;
-    let asked = Asked {
-        call: "session",
-        front: front.as_str(),
-    };
-    over_endpoints(alloc, case, asked)
+    over_endpoints(alloc, case, Call::Session(front.as_str()))
 }
 
 // The text of the document, or none where the endpoints have none.
 fn front_of(alloc: Global, case: &Json) -> Result<Text, CaseError> {
-    let asked = Asked {
-        call: "text",
-        front: "",
-    };
-    match over_endpoints(alloc, case, asked)? {
+    match over_endpoints(alloc, case, Call::OverApi(ApiCall::Text))? {
         Json::Text(front) => Ok(front),
         _ => Ok(Text::new(alloc)),
     }

@@ -7,7 +7,7 @@
 //! the shape is noted, handler.rt how the handler.
 use crate::handler::{Replies, handler_of};
 use crate::members::text_or;
-use case_notation::CaseError;
+use case_notation::{CaseError, check_names};
 use http::Method;
 use http::method::MethodError;
 use schema_values::{Json, Text};
@@ -16,15 +16,33 @@ use std::alloc::Global;
 /// What an endpoint is made of.
 #[derive(Drop)]
 pub struct NotedEndpoint {
+    /// Its name.
     pub operation_id: Text,
+    /// The method that it serves.
     pub method: Method,
+    /// The media type of its body.
     pub body_content_type: Text,
+    /// The template of its path.
     pub path: Text,
+    /// What answers its requests.
     pub handler: Box<Replies>,
 }
 
+const MEMBERS: [&str; 9] = [
+    "operation_id",
+    "method",
+    "path",
+    "body_content_type",
+    "table",
+    "slots",
+    "response",
+    "error",
+    "handler",
+];
+
 /// The endpoint that is noted.
 pub fn noted_endpoint(alloc: Global, noted: &Json) -> Result<NotedEndpoint, CaseError> {
+    check_names(noted, &MEMBERS)?;
     Ok(NotedEndpoint {
         operation_id: text_or(alloc, noted, "operation_id", "o")?,
         method: method_of(alloc, noted)?,

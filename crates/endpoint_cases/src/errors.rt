@@ -1,7 +1,4 @@
 //! Errors, their status codes and the bodies of their responses.
-ghost use Rattle.std.specs.Prelude.{IfOk};
-ghost use Rattle.schema_values.specs.Sound.{IsSound};
-
 use crate::exchanges::outcome;
 use crate::members::text_at;
 use crate::responses::response_told;
@@ -9,20 +6,24 @@ use crate::shapes::status_of;
 use api_description::http_status::{
     ErrorStatusCode, HttpError, HttpErrorResponseBody, RequestId, RequestIdError, Response,
 };
-use api_types::{ApiType, json_value, table_of, value_json};
-use case_notation::{CaseError, given, maybe_text, number_of, put, text_of, tree_noted};
-use schema_values::{Json, List, ReadError, Text};
+use api_types::{ApiType, TypeError, json_value, table_of, value_json};
+use case_notation::{CaseError, given, maybe_text, put, text_of, tree_noted};
+use schema_values::{Json, List, Text};
 use std::alloc::{AllocError, Global};
+use typed_values::DecodeError;
 
 /// What an error of status 400 is printed as, and its response to a request.
 pub fn bad_request(alloc: Global, case: &Json) -> Result<Json, CaseError> {
     let id = text_of(given(case, "request_id")?)?;
-    let error = noted_error(alloc, case)?;
     match RequestId::new(alloc, id.as_str()) {
-        Ok(request_id) => error_told(alloc, &request_id, &error),
-        Err(RequestIdError::BadRequestId) => outcome(alloc, "bad-request-id"),
+        Ok(request_id) => answer_told(alloc, &request_id, case),
+        Err(RequestIdError::BadRequestId) => Ok(outcome(alloc, "bad-request-id")?),
         Err(RequestIdError::OutOfMemory) => Err(CaseError::OutOfMemory),
     }
+}
+
+fn answer_told(alloc: Global, request_id: &RequestId, case: &Json) -> Result<Json, CaseError> {
+    error_told(alloc, request_id, &noted_error(alloc, case)?)
 }
 
 fn noted_error(alloc: Global, case: &Json) -> Result<HttpError, CaseError> {
@@ -50,9 +51,7 @@ fn response_of(
 /// What the status of a number is printed as: a code of errors and its number alone, or that it is
 /// none.
 pub fn status_code(alloc: Global, case: &Json) -> Result<Json, CaseError> {
-    let Some(status) = status_of(number_of(given(case, "number")?)?) else {
-        return Err(CaseError::Expected("a status code"));
-    };
+    let status = status_of(given(case, "number")?)?;
     let told = match ErrorStatusCode::from_status(status) {
         Ok(code) => format!(in alloc; "{code}; {code:?}")?,
         Err(error) => format!(in alloc; "{error}")?,
@@ -63,23 +62,16 @@ pub fn status_code(alloc: Global, case: &Json) -> Result<Json, CaseError> {
 /// The body of an error that the JSON under `"text"` denotes: its tree, what it is written as by
 /// its type and by itself, and the name of its type.
 pub fn error_body(alloc: Global, case: &Json) -> Result<Json, CaseError> {
-    let json = read(alloc, text_of(given(case, "text")?)?)?;
-    let Ok(table) = table_of::<HttpErrorResponseBody>(alloc) else {
-        return Err(CaseError::Expected("a type with a table"));
+    let table = match table_of::<HttpErrorResponseBody>(alloc) {
+        Ok(table) => table,
+        Err(TypeError::OutOfMemory) => return Err(CaseError::OutOfMemory),
+        Err(_) => return Err(CaseError::Expected("a type with a table")),
     };
+    let json = Json::read(alloc, text_of(given(case, "text")?)?.as_bytes())?;
     match json_value(alloc, &table, &json) {
         Ok(body) => body_told(alloc, &body, &value_json(alloc, &table, &body)?),
-        Err(_) => Err(CaseError::Expected("the body of an error")),
-    }
-}
-
-fn read(alloc: Global, text: &Text) -> Result<Json, CaseError>
-    ensures { IfOk result IsSound }
-{
-    match Json::read(alloc, text.as_bytes()) {
-        Ok(json) => Ok(json),
-        Err(ReadError::Unreadable) => Err(CaseError::Expected("JSON")),
-        Err(ReadError::OutOfMemory) => Err(CaseError::OutOfMemory),
+        Err(DecodeError::OutOfMemory) => Err(CaseError::OutOfMemory),
+        Err(DecodeError::Fault(_)) => Err(CaseError::Expected("the body of an error")),
     }
 }
 

@@ -3,23 +3,22 @@ ghost use Rattle.std.specs.Prelude.{[]};
 ghost use Rattle.api_description.specs.Endpoints.{boxed};
 ghost use Rattle.api_description.specs.Registering.{AreAccepted};
 
-use crate::requests::{body_of, config, request_of};
+use crate::requests::{body_of, config, request_at, request_of};
 use crate::responses::response_told;
 use api_description::api_extract::RequestParts;
 use api_description::api_respond::RouteHandler;
 use api_description::tree_store::Store;
 use api_description::{ApiDescription, Exchange, ExchangeError};
-use case_notation::{CaseError, form, given, word};
+use case_notation::{CaseError, form, word};
 use schema_values::Json;
-use std::alloc::Global;
+use std::alloc::{AllocError, Global};
 
 /// The answer to the request of a case, from an empty store: as a reply line of the tool tells it.
-/// The handler of a case tells a reply that does not fit the response as want of memory.
 pub fn exchanged(alloc: Global, case: &Json, api: &ApiDescription) -> Result<Json, CaseError>
     requires { AreAccepted
         (boxed ⟦<dyn RouteHandler as RouteHandler>⟧) [] api.now.endpoints.items }
 {
-    let noted = given(case, "request")?;
+    let noted = request_at(case)?;
     let body = body_of(noted)?;
     let request = request_of(alloc, case, noted)?;
     answer(alloc, api, &request, body)
@@ -51,15 +50,13 @@ fn exchange_told(alloc: Global, exchange: &Exchange) -> Result<Json, CaseError> 
 
 fn error_told(alloc: Global, error: ExchangeError) -> Result<Json, CaseError> {
     match error {
-        ExchangeError::BadRequestId => outcome(alloc, "bad-request-id"),
-        ExchangeError::NoSuchOperation => outcome(alloc, "no-such-operation"),
-        ExchangeError::OutOfMemory => Err(CaseError::Expected(
-            "a reply of the type of the response, or more memory",
-        )),
+        ExchangeError::BadRequestId => Ok(outcome(alloc, "bad-request-id")?),
+        ExchangeError::NoSuchOperation => Ok(outcome(alloc, "no-such-operation")?),
+        ExchangeError::OutOfMemory => Err(CaseError::OutOfMemory),
     }
 }
 
 /// An outcome without a response.
-pub fn outcome(alloc: Global, outcome: &str) -> Result<Json, CaseError> {
-    Ok(form(alloc, "outcome", word(alloc, outcome)?)?)
+pub fn outcome(alloc: Global, outcome: &str) -> Result<Json, AllocError> {
+    form(alloc, "outcome", word(alloc, outcome)?)
 }

@@ -1,13 +1,13 @@
 //! The handlers of cases. `"handler"` is `"returns"`, which gives back what it is given and stands
 //! where it is left out; `"fails"`, whose every reply is an internal error, under the table and the
 //! errors of `HttpError`; `"context"`, which gives a text of what it is told besides its arguments;
-//! or `{"gives":TREE}`.
-ghost use Rattle.std.specs.Prelude.{◌≡◌, ◌∷◌, [], ⊤, IfOk, IsTrue, MatchOption, Some, codes};
+//! or `{"gives":TREE}`. A reply that does not fit the response is want of memory, which ends the
+//! program.
+ghost use Rattle.std.specs.Prelude.{◌≡◌, ⊤, IfOk, IsTrue, MatchOption};
 ghost use Rattle.typed_values.specs.Checks.{TablePasses, DescPasses};
 ghost use Rattle.typed_values.specs.Fits.{Fits};
-ghost use Rattle.typed_values.specs.declared.desc.Desc.{Ref};
 ghost use Rattle.api_description.specs.Replies.{ContentFits, ContentPasses, ReplyFits, ShapePasses};
-ghost use Rattle.api_description.specs.Responses.{error_definition};
+ghost use Rattle.api_description.specs.Replies.{HasHttpErrors};
 
 use crate::shapes::{error_table, http_errors, response_of, shape_of, slots_of};
 use api_description::api_extract::{Arg, ArgList};
@@ -17,7 +17,7 @@ use api_description::api_respond::{
 };
 use api_description::http_status::HttpError;
 use api_description::tree_store::Store;
-use case_notation::{CaseError, given, tree_of};
+use case_notation::{CaseError, check_names, given, tree_of};
 use http::StatusCode;
 use schema_values::{Json, Text};
 use std::alloc::{AllocError, Global};
@@ -40,10 +40,7 @@ pub struct Replies {
     shape: HandlerShape,
     fails: bool,
     gives: Gives,
-    ghost errors: { IsTrue fails → shape ≡ record shape {
-      table = error_definition ∷ [];
-      error = Some (record { desc = Ref (codes "Error"); name = codes "Error" });
-    } },
+    ghost errors: { IsTrue fails → HasHttpErrors shape },
 }
 
 /// The handler that is noted.
@@ -78,8 +75,13 @@ fn gives_of(alloc: Global, handler: Option<&Json>) -> Result<Gives, CaseError> {
     match handler {
         None => Ok(Gives::Body),
         Some(Json::Text(word)) => gives_named(word.as_str()),
-        Some(handler) => Ok(Gives::Tree(tree_of(alloc, given(handler, "gives")?)?)),
+        Some(handler) => tree_given(alloc, handler),
     }
+}
+
+fn tree_given(alloc: Global, handler: &Json) -> Result<Gives, CaseError> {
+    check_names(handler, &["gives"])?;
+    Ok(Gives::Tree(tree_of(alloc, given(handler, "gives")?)?))
 }
 
 fn gives_named(word: &str) -> Result<Gives, CaseError> {
@@ -91,10 +93,7 @@ fn gives_named(word: &str) -> Result<Gives, CaseError> {
 }
 
 fn failing_shape(alloc: Global, noted: &Json) -> Result<HandlerShape, CaseError>
-    ensures { IfOk result (λ shape. shape ≡ record shape {
-      table = error_definition ∷ [];
-      error = Some (record { desc = Ref (codes "Error"); name = codes "Error" });
-    }) }
+    ensures { IfOk result (λ shape. HasHttpErrors shape) }
 {
     Ok(HandlerShape {
         table: error_table(alloc)?,
@@ -146,10 +145,7 @@ impl RouteHandler for Replies {
 }
 
 fn failure(alloc: Global, shape: &HandlerShape) -> Result<Reply, AllocError>
-    requires { shape.now ≡ record shape.now {
-      table = error_definition ∷ [];
-      error = Some (record { desc = Ref (codes "Error"); name = codes "Error" });
-    } }
+    requires { HasHttpErrors shape.now }
     ensures { IfOk result (λ reply. ReplyFits shape.now reply) }
 {
     let message = Text::from_str(alloc, "for the log alone")?;

@@ -19,13 +19,15 @@ mod shapes;
 mod stores;
 mod streams;
 
-use case_notation::{AnswersCases, CaseError, Cases};
+use case_notation::{AnswersCases, CaseError, run};
 use schema_values::Json;
 use std::alloc::Global;
 use std::io;
 
 /// The names that members of a case have.
-const MEMBERS: [&str; 19] = [
+const MEMBERS: [&str; 21] = [
+    "case",
+    "like",
     "call",
     "endpoints",
     "sample",
@@ -61,10 +63,5 @@ impl AnswersCases for EndpointCases {
 }
 
 fn main(rt: HostRuntime) -> io::Result<()> {
-    let mut cases = Cases::new(rt.alloc());
-    for line in rt.lines(rt.alloc()) {
-        let reply = cases.reply(rt.alloc(), &EndpointCases, line?.as_str())?;
-        println!(rt; "{reply}")?;
-    }
-    Ok(())
+    run(&rt, &EndpointCases)
 }

@@ -1,5 +1,5 @@
 //! Members of cases that may be left out, and members of answers.
-use case_notation::{CaseError, given, items_of, number_of, put, text_of};
+use case_notation::{CaseError, given, items_of, number_of, put, text_of, word};
 use schema_values::{Json, List, Member, Text};
 use std::alloc::{AllocError, Global};
 
@@ -52,6 +52,5 @@ pub fn push_word(
     name: &str,
     text: &str,
 ) -> Result<(), AllocError> {
-    let text = Text::from_str(alloc, text)?;
-    put(alloc, members, name, Json::Text(text))
+    put(alloc, members, name, word(alloc, text)?)
 }

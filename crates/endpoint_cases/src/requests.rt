@@ -4,7 +4,7 @@
 use crate::endpoint::method_of;
 use crate::members::{push_word, text_at, text_or};
 use api_description::api_extract::{RequestInfo, RequestParts, ServerConfig};
-use case_notation::{CaseError, given, items_of, put};
+use case_notation::{CaseError, check_names, given, items_of, put};
 use openapi_values::WireRequest;
 use schema_values::{Json, List, Text};
 use semver::Version;
@@ -30,9 +30,16 @@ fn noted_request(alloc: Global, case: &Json, noted: &Json) -> Result<RequestPart
     })
 }
 
+/// The request of a case.
+pub fn request_at(case: &Json) -> Result<&Json, CaseError> {
+    let noted = given(case, "request")?;
+    check_names(noted, &["method", "template", "request_id", "frames"])?;
+    Ok(noted)
+}
+
 /// The parts of a copy of the head of the request of a case.
 pub fn request_told(alloc: Global, case: &Json) -> Result<Json, CaseError> {
-    parts_told(alloc, &request_of(alloc, case, given(case, "request")?)?)
+    parts_told(alloc, &request_of(alloc, case, request_at(case)?)?)
 }
 
 fn parts_told(alloc: Global, request: &RequestParts) -> Result<Json, CaseError> {
@@ -69,6 +76,7 @@ pub fn version_of(alloc: Global, case: &Json) -> Result<Version, CaseError> {
     let text = text_or(alloc, case, "version", "1.0.0")?;
     match Version::parse(alloc, text.as_str()) {
         Ok(version) => Ok(version),
+        Err(error) if error == semver::Error::from(AllocError) => Err(CaseError::OutOfMemory),
         Err(_) => Err(CaseError::Expected("a version")),
     }
 }

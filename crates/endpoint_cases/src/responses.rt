@@ -1,9 +1,9 @@
 //! Responses as cases tell them: as a reply line of the tool does.
 use crate::members::push_word;
 use api_description::http_status::{HeaderList, Response};
-use case_notation::{CaseError, put, word};
+use case_notation::{CaseError, pair, put, word};
 use http_header::{HeaderName, HeaderValue};
-use schema_values::{Json, List, Text};
+use schema_values::{Json, List};
 use std::alloc::Global;
 use std::str;
 
@@ -39,15 +39,13 @@ fn headers_told(alloc: Global, headers: &HeaderList) -> Result<Json, CaseError> 
 }
 
 fn line_told(alloc: Global, name: &HeaderName, value: &HeaderValue) -> Result<Json, CaseError> {
-    let mut pair = List::new(alloc);
-    pair.push(word(alloc, name.as_str())?)?;
-    pair.push(text_told(alloc, value.as_bytes())?)?;
-    Ok(Json::List(pair))
+    let value = text_told(alloc, value.as_bytes())?;
+    Ok(pair(alloc, word(alloc, name.as_str())?, value)?)
 }
 
 fn text_told(alloc: Global, bytes: &[u8]) -> Result<Json, CaseError> {
     match str::from_utf8(bytes) {
-        Ok(text) => Ok(Json::Text(Text::from_str(alloc, text)?)),
+        Ok(text) => Ok(word(alloc, text)?),
         Err(_) => Err(CaseError::Expected("a response of texts")),
     }
 }

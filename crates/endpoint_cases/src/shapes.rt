@@ -17,7 +17,9 @@ use api_description::api_respond::{
 };
 use api_description::http_status::{HttpErrorResponseBody, error_definition};
 use api_types::ApiType;
-use case_notation::{CaseError, define, definition_of, desc_of, given, items_of, text_of};
+use case_notation::{
+    CaseError, check_names, define, definition_of, desc_of, given, items_of, number_of, text_of,
+};
 use http::StatusCode;
 use own_types::Point;
 use schema_values::{Json, List, Text};
@@ -113,6 +115,7 @@ fn noted_slots(alloc: Global, noted: &[Json]) -> Result<List<Slot>, CaseError> {
 }
 
 fn slot_of(alloc: Global, noted: &Json) -> Result<Slot, CaseError> {
+    check_names(noted, &["typed_body"])?;
     let NamedType { name, desc } = named_type(alloc, given(noted, "typed_body")?)?;
     Ok(Slot::TypedBody(desc, name))
 }
@@ -137,16 +140,19 @@ fn named_type(alloc: Global, noted: &Json) -> Result<NamedType, CaseError> {
 /// The response that is noted.
 pub fn response_of(alloc: Global, noted: &Json) -> Result<ApiEndpointResponse, CaseError> {
     match noted.get("response") {
-        Some(response) => noted_response(alloc, response),
+        Some(response) => {
+            check_names(response, &["content", "success", "description"])?;
+            noted_response(alloc, response)
+        }
         None => noted_response(alloc, &Json::Null),
     }
 }
 
 fn noted_response(alloc: Global, noted: &Json) -> Result<ApiEndpointResponse, CaseError> {
-    let code = success_code(noted)?;
+    let success = success_of(noted)?;
     Ok(ApiEndpointResponse {
+        success,
         description: text_or(alloc, noted, "description", "successful operation")?,
-        success: success_of(code),
         content: content_of(alloc, noted)?,
     })
 }
@@ -156,43 +162,43 @@ fn content_of(alloc: Global, noted: &Json) -> Result<ContentShape, CaseError> {
         let name = Text::from_str(alloc, "Flag")?;
         return Ok(ContentShape::Json(Desc::Bool, name));
     };
+    check_names(content, &["json"])?;
     let NamedType { name, desc } = named_type(alloc, given(content, "json")?)?;
     Ok(ContentShape::Json(desc, name))
 }
 
-fn success_code(noted: &Json) -> Result<Option<i128>, CaseError> {
+fn success_of(noted: &Json) -> Result<Option<StatusCode>, CaseError> {
     match noted.get("success") {
-        None => Ok(Some(200)),
+        None => Ok(Some(StatusCode::OK)),
         Some(Json::Null) => Ok(None),
-        Some(Json::Int(number)) if status_of(*number).is_some() => Ok(Some(*number)),
-        Some(_) => Err(CaseError::Expected("a status code or null")),
-    }
-}
-
-fn success_of(code: Option<i128>) -> Option<StatusCode> {
-    match code {
-        Some(number) => status_of(number),
-        None => None,
+        Some(number) => Ok(Some(status_of(number)?)),
     }
 }
 
 /// The status of a number.
-pub fn status_of(number: i128) -> Option<StatusCode> {
-    match StatusCode::from_u16(u16::try_from(number).ok()?) {
-        Ok(status) => Some(status),
-        Err(_) => None,
+pub fn status_of(noted: &Json) -> Result<StatusCode, CaseError> {
+    if let Ok(number) = u16::try_from(number_of(noted)?) {
+        if let Ok(status) = StatusCode::from_u16(number) {
+            return Ok(status);
+        }
     }
+    Err(CaseError::Expected("a status code"))
 }
 
 fn errors_of(alloc: Global, noted: &Json) -> Result<Option<ApiEndpointErrorResponse>, CaseError> {
     match noted.get("error") {
         None => Ok(Some(http_errors(alloc)?)),
         Some(Json::Null) => Ok(None),
-        Some(noted) => Ok(Some(ApiEndpointErrorResponse {
-            name: text_at(alloc, noted, "name")?,
-            desc: desc_of(alloc, given(noted, "desc")?)?,
-        })),
+        Some(noted) => Ok(Some(error_of(alloc, noted)?)),
     }
+}
+
+fn error_of(alloc: Global, noted: &Json) -> Result<ApiEndpointErrorResponse, CaseError> {
+    check_names(noted, &["desc", "name"])?;
+    Ok(ApiEndpointErrorResponse {
+        name: text_at(alloc, noted, "name")?,
+        desc: desc_of(alloc, given(noted, "desc")?)?,
+    })
 }
 
 /// The errors of `HttpError`.

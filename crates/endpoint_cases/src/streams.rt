@@ -4,7 +4,8 @@
 //! lines too, `"document"` in place of those of the document, and what stands behind the last
 //! newline as `{"cut":TEXT}`.
 use crate::members::numbers_of;
-use case_notation::{CaseError, form, given, items_of, text_of};
+use case_notation::{CaseError, check_names, form, given, items_of, text_of, word};
+use hex::FromHexError;
 use line_session::{MemorySink, MemorySource};
 use schema_values::{Json, List, Text};
 use std::alloc::{AllocError, Global};
@@ -38,14 +39,20 @@ fn push_line(alloc: Global, content: &mut Vec<u8>, line: &Json) -> Result<(), Ca
     match line {
         Json::Text(line) => content.extend_from_slice(line.as_bytes())?,
         line => {
-            let digits = text_of(given(line, "hex")?)?;
-            let Ok(bytes) = hex::decode(alloc, digits.as_str()) else {
-                return Err(CaseError::Expected("hexadecimal digits"));
-            };
+            check_names(line, &["hex"])?;
+            let bytes = decoded(alloc, text_of(given(line, "hex")?)?)?;
             content.extend_from_slice(bytes.as_slice())?;
         }
     }
     Ok(())
+}
+
+fn decoded(alloc: Global, digits: &Text) -> Result<Vec<u8>, CaseError> {
+    match hex::decode(alloc, digits.as_str()) {
+        Ok(bytes) => Ok(bytes),
+        Err(FromHexError::OutOfMemory) => Err(CaseError::OutOfMemory),
+        Err(_) => Err(CaseError::Expected("hexadecimal digits")),
+    }
 }
 
 /// What was written, before which the text of a document may stand.
@@ -56,7 +63,7 @@ pub fn lines_told(alloc: Global, written: &[u8], document: &str) -> Result<Json,
     let mut told = List::new(alloc);
     let text = match text.strip_prefix(document) {
         Some(rest) if !document.is_empty() => {
-            told.push(Json::Text(Text::from_str(alloc, "document")?))?;
+            told.push(word(alloc, "document")?)?;
             rest
         }
         _ => text,
@@ -69,7 +76,7 @@ pub fn lines_told(alloc: Global, written: &[u8], document: &str) -> Result<Json,
 
 fn line_told(alloc: Global, line: &str) -> Result<Json, AllocError> {
     match line.strip_suffix('\n') {
-        Some(line) => Ok(Json::Text(Text::from_str(alloc, line)?)),
-        None => form(alloc, "cut", Json::Text(Text::from_str(alloc, line)?)),
+        Some(line) => word(alloc, line),
+        None => form(alloc, "cut", word(alloc, line)?),
     }
 }

@@ -35,7 +35,7 @@ fn a_table_shows_its_definitions(rt: HostRuntime) -> Result<(), Fail> {
 }
 
 #[test]
-fn a_value_of_every_form_is_sound(rt: HostRuntime) {
+fn the_greatest_number_is_sound(rt: HostRuntime) {
     let greatest = 0xffff_ffff_ffff_ffff;
     match AnyValue::new(Json::Int(greatest)) {
         Ok(value) => {

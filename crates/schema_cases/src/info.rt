@@ -1,6 +1,6 @@
 //! Reads what a document says of its API.
 use crate::part_notation::{Noted, maybe_at, part_at, text_at, written};
-use case_notation::CaseError;
+use case_notation::{CaseError, check_names};
 use openapi_values::{Contact, ExternalDocs, Info, License, TagObject};
 use schema_values::Json;
 use std::alloc::Global;
@@ -19,6 +19,17 @@ pub fn info_written(alloc: Global, kind: &str, noted: &Json) -> Result<Json, Cas
 
 impl Noted for Info {
     fn read(alloc: Global, noted: &Json) -> Result<Info, CaseError> {
+        check_names(
+            noted,
+            &[
+                "title",
+                "description",
+                "termsOfService",
+                "contact",
+                "license",
+                "version",
+            ],
+        )?;
         Ok(Info {
             title: part_at(alloc, noted, "title")?,
             description: text_at(alloc, noted, "description")?,
@@ -32,6 +43,7 @@ impl Noted for Info {
 
 impl Noted for Contact {
     fn read(alloc: Global, noted: &Json) -> Result<Contact, CaseError> {
+        check_names(noted, &["name", "url", "email"])?;
         Ok(Contact {
             name: text_at(alloc, noted, "name")?,
             url: text_at(alloc, noted, "url")?,
@@ -42,6 +54,7 @@ impl Noted for Contact {
 
 impl Noted for License {
     fn read(alloc: Global, noted: &Json) -> Result<License, CaseError> {
+        check_names(noted, &["name", "url"])?;
         Ok(License {
             name: part_at(alloc, noted, "name")?,
             url: text_at(alloc, noted, "url")?,
@@ -51,6 +64,7 @@ impl Noted for License {
 
 impl Noted for TagObject {
     fn read(alloc: Global, noted: &Json) -> Result<TagObject, CaseError> {
+        check_names(noted, &["name", "description", "externalDocs"])?;
         Ok(TagObject {
             name: part_at(alloc, noted, "name")?,
             description: text_at(alloc, noted, "description")?,
@@ -61,6 +75,7 @@ impl Noted for TagObject {
 
 impl Noted for ExternalDocs {
     fn read(alloc: Global, noted: &Json) -> Result<ExternalDocs, CaseError> {
+        check_names(noted, &["description", "url"])?;
         Ok(ExternalDocs {
             url: part_at(alloc, noted, "url")?,
             description: text_at(alloc, noted, "description")?,

@@ -12,13 +12,15 @@ mod schema_notation;
 mod schemas;
 mod values;
 
-use case_notation::{AnswersCases, CaseError, Cases, given, text_of};
+use case_notation::{AnswersCases, CaseError, given, run, text_of};
 use schema_values::Json;
 use std::alloc::Global;
 use std::io;
 
 /// The names that members of a case have.
-const MEMBERS: [&str; 19] = [
+const MEMBERS: [&str; 21] = [
+    "case",
+    "like",
     "call",
     "text",
     "json",
@@ -92,10 +94,5 @@ fn answer_on_documents(alloc: Global, case: &Json) -> Result<Json, CaseError> {
 }
 
 fn main(rt: HostRuntime) -> io::Result<()> {
-    let mut cases = Cases::new(rt.alloc());
-    for line in rt.lines(rt.alloc()) {
-        let reply = cases.reply(rt.alloc(), &SchemaCases, line?.as_str())?;
-        println!(rt; "{reply}")?;
-    }
-    Ok(())
+    run(&rt, &SchemaCases)
 }

@@ -1,6 +1,6 @@
 //! Reads documents, their paths and their operations.
 use crate::part_notation::{Noted, is_true_at, list_at, map_at, maybe_at, part_at, text_at};
-use case_notation::{CaseError, given};
+use case_notation::{CaseError, check_names, given};
 use openapi_values::{
     Components, HeaderObject, MediaType, OpenApi, Operation, Parameter, PathItem, RequestBody,
     ResponseObject,
@@ -10,6 +10,7 @@ use std::alloc::Global;
 
 impl Noted for OpenApi {
     fn read(alloc: Global, noted: &Json) -> Result<OpenApi, CaseError> {
+        check_names(noted, &["openapi", "info", "paths", "components", "tags"])?;
         Ok(OpenApi {
             openapi: part_at(alloc, noted, "openapi")?,
             paths: map_at(alloc, noted, "paths")?,
@@ -22,6 +23,7 @@ impl Noted for OpenApi {
 
 impl Noted for Components {
     fn read(alloc: Global, noted: &Json) -> Result<Components, CaseError> {
+        check_names(noted, &["responses", "schemas"])?;
         Ok(Components {
             responses: map_at(alloc, noted, "responses")?,
             schemas: map_at(alloc, noted, "schemas")?,
@@ -31,6 +33,12 @@ impl Noted for Components {
 
 impl Noted for PathItem {
     fn read(alloc: Global, noted: &Json) -> Result<PathItem, CaseError> {
+        check_names(
+            noted,
+            &[
+                "get", "put", "post", "delete", "options", "head", "patch", "trace",
+            ],
+        )?;
         Ok(PathItem {
             get: operation_at(alloc, noted, "get")?,
             put: operation_at(alloc, noted, "put")?,
@@ -60,6 +68,21 @@ fn operation_at(
 
 impl Noted for Operation {
     fn read(alloc: Global, noted: &Json) -> Result<Operation, CaseError> {
+        check_names(
+            noted,
+            &[
+                "tags",
+                "summary",
+                "description",
+                "operationId",
+                "parameters",
+                "requestBody",
+                "responses",
+                "deprecated",
+                "x-dropshot-pagination",
+            ],
+        )?;
+        let deprecated = is_true_at(noted, "deprecated")?;
         let Told {
             operation_id,
             summary,
@@ -74,7 +97,7 @@ impl Noted for Operation {
             request_body: maybe_at(alloc, noted, "requestBody")?,
             responses: map_at(alloc, noted, "responses")?,
             pagination: pagination_of(alloc, noted)?,
-            deprecated: is_true_at(noted, "deprecated"),
+            deprecated,
         })
     }
 }
@@ -99,18 +122,24 @@ impl Noted for Told {
 
 fn pagination_of(alloc: Global, noted: &Json) -> Result<Option<List<Text>>, CaseError> {
     match noted.get("x-dropshot-pagination") {
-        Some(pagination) => Ok(Some(list_at(alloc, pagination, "required")?)),
+        Some(pagination) => Ok(Some(required_of(alloc, pagination)?)),
         None => Ok(None),
     }
 }
 
+fn required_of(alloc: Global, pagination: &Json) -> Result<List<Text>, CaseError> {
+    check_names(pagination, &["required"])?;
+    list_at(alloc, pagination, "required")
+}
+
 impl Noted for Parameter {
     fn read(alloc: Global, noted: &Json) -> Result<Parameter, CaseError> {
+        check_names(noted, &["in", "name", "description", "required", "schema"])?;
         Ok(Parameter {
+            required: is_true_at(noted, "required")?,
             location: part_at(alloc, noted, "in")?,
             name: part_at(alloc, noted, "name")?,
             description: text_at(alloc, noted, "description")?,
-            required: is_true_at(noted, "required"),
             schema: part_at(alloc, noted, "schema")?,
         })
     }
@@ -118,10 +147,11 @@ impl Noted for Parameter {
 
 impl Noted for HeaderObject {
     fn read(alloc: Global, noted: &Json) -> Result<HeaderObject, CaseError> {
+        check_names(noted, &["description", "style", "required", "schema"])?;
         Ok(HeaderObject {
+            required: is_true_at(noted, "required")?,
             description: text_at(alloc, noted, "description")?,
             style: part_at(alloc, noted, "style")?,
-            required: is_true_at(noted, "required"),
             schema: part_at(alloc, noted, "schema")?,
         })
     }
@@ -129,6 +159,7 @@ impl Noted for HeaderObject {
 
 impl Noted for MediaType {
     fn read(alloc: Global, noted: &Json) -> Result<MediaType, CaseError> {
+        check_names(noted, &["schema"])?;
         Ok(MediaType {
             schema: given(noted, "schema")?.copy(alloc)?,
         })
@@ -137,15 +168,17 @@ impl Noted for MediaType {
 
 impl Noted for RequestBody {
     fn read(alloc: Global, noted: &Json) -> Result<RequestBody, CaseError> {
+        check_names(noted, &["content", "required"])?;
         Ok(RequestBody {
+            required: is_true_at(noted, "required")?,
             content: map_at(alloc, noted, "content")?,
-            required: is_true_at(noted, "required"),
         })
     }
 }
 
 impl Noted for ResponseObject {
     fn read(alloc: Global, noted: &Json) -> Result<ResponseObject, CaseError> {
+        check_names(noted, &["description", "headers", "content", "$ref"])?;
         Ok(ResponseObject {
             description: text_at(alloc, noted, "description")?,
             headers: map_at(alloc, noted, "headers")?,

@@ -1,6 +1,6 @@
 //! Parts of documents as cases note them: as they are written, with the names of OpenAPI 3.0.3 and
 //! with the members in any order. A member may be left out where the written part may lack it.
-use case_notation::{CaseError, given, maybe_text, text_of};
+use case_notation::{CaseError, given, maybe_text, text_of, truth_of};
 use openapi_values::Part;
 use schema_values::{Json, List, Member, Text};
 use std::alloc::Global;
@@ -39,9 +39,12 @@ pub fn text_at(alloc: Global, noted: &Json, name: &str) -> Result<Option<Text>, 
     maybe_text(alloc, noted.get(name))
 }
 
-/// Whether true stands under a name.
-pub fn is_true_at(noted: &Json, name: &str) -> bool {
-    matches!(noted.get(name), Some(Json::Bool(true)))
+/// Whether true stands under a name, where a truth value may stand.
+pub fn is_true_at(noted: &Json, name: &str) -> Result<bool, CaseError> {
+    match noted.get(name) {
+        Some(truth) => truth_of(truth),
+        None => Ok(false),
+    }
 }
 
 /// The part of a name, where it stands.

@@ -3,7 +3,7 @@
 //!
 //! BYTES is a text, which stands for its UTF-8, or the list of the bytes. VALUE is a text, or the
 //! list of the components that are left of the path.
-use case_notation::{CaseError, items_of, number_of, text_of};
+use case_notation::{CaseError, entry_of, items_of, number_of, text_of};
 use openapi_values::{HeaderLine, WireRequest};
 use schema_values::{Json, List, Member, Text, VariableSet, VariableValue};
 use std::alloc::Global;
@@ -63,13 +63,11 @@ fn headers_of(alloc: Global, noted: &Json) -> Result<List<HeaderLine>, CaseError
 }
 
 fn line_of(alloc: Global, noted: &Json) -> Result<HeaderLine, CaseError> {
-    match items_of(noted)? {
-        [name, value] => Ok(HeaderLine {
-            name: text_of(name)?.copy(alloc)?,
-            value: bytes_of(alloc, value)?,
-        }),
-        _ => Err(CaseError::Expected("a name and a value")),
-    }
+    let (name, value) = entry_of(noted)?;
+    Ok(HeaderLine {
+        name: name.copy(alloc)?,
+        value: bytes_of(alloc, value)?,
+    })
 }
 
 fn variables_of(alloc: Global, noted: &Json) -> Result<VariableSet, CaseError> {

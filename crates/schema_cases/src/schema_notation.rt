@@ -5,12 +5,12 @@
 //! `[{"b": true}, {"a": true}]`. Subschemas of no kind are noted as `{"subschemas": {}}`. A member
 //! of another name than a schema's parts is an extension.
 use crate::request_notation::texts_of;
-use case_notation::{CaseError, given, items_of, number_of, text_of};
+use case_notation::{CaseError, given, items_of, number_of, text_of, truth_of, word};
 use schema_values::{
     ArrayParts, Boxed, Definitions, InstanceType, InstanceTypes, Items, Json, LengthBounds, List,
     Member, NumberBounds, ObjectParts, Property, Schema, SchemaObject, Subschemas, Text,
 };
-use std::alloc::Global;
+use std::alloc::{AllocError, Global};
 
 /// The schema of a case.
 pub fn noted_schema(alloc: Global, case: &Json) -> Result<Schema, CaseError> {
@@ -96,13 +96,15 @@ fn add_part(
         "subschemas" => {
             kinds(object);
         }
-        "allOf" => set_all_of(object, schemas_of(alloc, value)?),
-        "anyOf" => set_any_of(object, schemas_of(alloc, value)?),
-        "oneOf" => set_one_of(object, schemas_of(alloc, value)?),
-        "not" => set_not(object, schema_of(alloc, value)?),
-        "items" => set_items(object, each_of(alloc, value)?),
+        "allOf" => kinds(object).all_of = Some(schemas_of(alloc, value)?),
+        "anyOf" => kinds(object).any_of = Some(schemas_of(alloc, value)?),
+        "oneOf" => kinds(object).one_of = Some(schemas_of(alloc, value)?),
+        "not" => kinds(object).not = Some(schema_of(alloc, value)?),
+        "items" => array(object).items = Some(each_of(alloc, value)?),
         "properties" => add_properties(alloc, value, &mut members(alloc, object).properties)?,
-        "additionalProperties" => set_additional(alloc, object, schema_of(alloc, value)?),
+        "additionalProperties" => {
+            members(alloc, object).additional = Some(schema_of(alloc, value)?);
+        }
         _ => add_limit(alloc, name, value, object)?,
     }
     Ok(())
@@ -166,30 +168,6 @@ fn add_named(
         })?;
     }
     Ok(())
-}
-
-fn set_all_of(object: &mut SchemaObject, schemas: List<Schema>) {
-    kinds(object).all_of = Some(schemas);
-}
-
-fn set_any_of(object: &mut SchemaObject, schemas: List<Schema>) {
-    kinds(object).any_of = Some(schemas);
-}
-
-fn set_one_of(object: &mut SchemaObject, schemas: List<Schema>) {
-    kinds(object).one_of = Some(schemas);
-}
-
-fn set_not(object: &mut SchemaObject, schema: Schema) {
-    kinds(object).not = Some(schema);
-}
-
-fn set_items(object: &mut SchemaObject, items: Items) {
-    array(object).items = Some(items);
-}
-
-fn set_additional(alloc: Global, object: &mut SchemaObject, schema: Schema) {
-    members(alloc, object).additional = Some(schema);
 }
 
 fn kinds(object: &mut SchemaObject) -> &mut Subschemas {
@@ -301,13 +279,6 @@ fn extension_of(alloc: Global, name: &str, value: &Json) -> Result<Member, CaseE
     })
 }
 
-fn truth_of(noted: &Json) -> Result<bool, CaseError> {
-    match noted {
-        Json::Bool(truth) => Ok(*truth),
-        _ => Err(CaseError::Expected("a truth value")),
-    }
-}
-
 fn count_of(noted: &Json) -> Result<u32, CaseError> {
     match u32::try_from(number_of(noted)?) {
         Ok(count) => Ok(count),
@@ -334,15 +305,44 @@ fn types_of(alloc: Global, noted: &Json) -> Result<InstanceTypes, CaseError> {
     Ok(InstanceTypes::Several(types))
 }
 
+const TYPES: [(&str, InstanceType); 7] = [
+    ("null", InstanceType::Null),
+    ("boolean", InstanceType::Boolean),
+    ("object", InstanceType::Object),
+    ("array", InstanceType::Array),
+    ("number", InstanceType::Number),
+    ("string", InstanceType::String),
+    ("integer", InstanceType::Integer),
+];
+
 fn type_of(noted: &Json) -> Result<InstanceType, CaseError> {
-    match text_of(noted)?.as_str() {
-        "null" => Ok(InstanceType::Null),
-        "boolean" => Ok(InstanceType::Boolean),
-        "object" => Ok(InstanceType::Object),
-        "array" => Ok(InstanceType::Array),
-        "number" => Ok(InstanceType::Number),
-        "string" => Ok(InstanceType::String),
-        "integer" => Ok(InstanceType::Integer),
-        _ => Err(CaseError::Expected("a type")),
+    let word = text_of(noted)?;
+    match TYPES.iter().find(|(name, _)| word.equals_str(name)) {
+        Some((_, kind)) => Ok(*kind),
+        None => Err(CaseError::Expected("a type")),
+    }
+}
+
+/// Types as they are noted, or null where there is none.
+pub fn types_told(alloc: Global, types: &Option<InstanceTypes>) -> Result<Json, AllocError> {
+    match types {
+        None => Ok(Json::Null),
+        Some(InstanceTypes::Single(kind)) => type_told(alloc, *kind),
+        Some(InstanceTypes::Several(kinds)) => all_told(alloc, kinds.as_slice()),
+    }
+}
+
+fn all_told(alloc: Global, kinds: &[InstanceType]) -> Result<Json, AllocError> {
+    let mut words = List::new(alloc);
+    for kind in kinds {
+        words.push(type_told(alloc, *kind)?)?;
+    }
+    Ok(Json::List(words))
+}
+
+fn type_told(alloc: Global, kind: InstanceType) -> Result<Json, AllocError> {
+    match TYPES.iter().find(|(_, other)| *other == kind) {
+        Some((name, _)) => word(alloc, name),
+        None => Ok(Json::Null),
     }
 }

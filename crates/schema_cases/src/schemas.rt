@@ -1,11 +1,11 @@
 //! Calls on schemas. A schema is told as it is written.
 use crate::answers::error_told;
-use crate::schema_notation::{definitions_of, noted_schema};
-use case_notation::{CaseError, given, put, text_of, word};
+use crate::schema_notation::{definitions_of, noted_schema, types_told};
+use case_notation::{CaseError, given, put, text_of, truth_of, word};
 use openapi_values::J2oasError;
 use schema_util::{ResolveError, ScalarError, Schema2StructError, StructMember};
-use schema_values::{Json, List, Member, Schema, Text};
-use std::alloc::Global;
+use schema_values::{InstanceTypes, Json, List, Member, Schema, Text};
+use std::alloc::{AllocError, Global};
 
 /// What a copy of the schema is written as, with the title under `title` where one stands, or why
 /// it is not written.
@@ -30,7 +30,8 @@ fn written(alloc: Global, title: Option<&str>, schema: &Schema) -> Result<Json, 
     }
 }
 
-/// The schema that references lead to, or why they lead to none.
+/// The schema that references lead to, or why they lead to none. Where it has a reference itself,
+/// `{"written": SCHEMA, "type": TYPES}`, since the type beside a reference is not written.
 pub fn resolve(alloc: Global, case: &Json) -> Result<Json, CaseError> {
     let definitions = definitions_of(alloc, case)?;
     let schema = noted_schema(alloc, case)?;
@@ -42,9 +43,30 @@ fn found_told(
     outcome: Result<&Schema, ResolveError<'_>>,
 ) -> Result<Json, CaseError> {
     match outcome {
-        Ok(found) => written(alloc, None, found),
+        Ok(found) => found_written(alloc, found),
         Err(error) => error_told(alloc, format!(in alloc; "{error}")?),
     }
+}
+
+fn found_written(alloc: Global, found: &Schema) -> Result<Json, CaseError> {
+    let json = written(alloc, None, found)?;
+    match found {
+        Schema::Object(object) if object.get().reference.is_some() => {
+            Ok(with_types(alloc, json, &object.get().instance_type)?)
+        }
+        _ => Ok(json),
+    }
+}
+
+fn with_types(
+    alloc: Global,
+    written: Json,
+    types: &Option<InstanceTypes>,
+) -> Result<Json, AllocError> {
+    let mut parts = List::new(alloc);
+    put(alloc, &mut parts, "written", written)?;
+    put(alloc, &mut parts, "type", types_told(alloc, types)?)?;
+    Ok(Json::Object(parts))
 }
 
 /// Whether the schema is empty.
@@ -125,7 +147,7 @@ pub fn string_enum(alloc: Global, case: &Json) -> Result<Json, CaseError> {
 
 fn told(alloc: Global, outcome: Result<(), ScalarError<'_>>) -> Result<Json, CaseError> {
     match outcome {
-        Ok(()) => word(alloc, "fits"),
+        Ok(()) => Ok(word(alloc, "fits")?),
         Err(error) => error_told(alloc, format!(in alloc; "{error}")?),
     }
 }
@@ -133,14 +155,12 @@ fn told(alloc: Global, outcome: Result<(), ScalarError<'_>>) -> Result<Json, Cas
 /// The members of the schema's struct, or why it is that of no struct. They may be required where
 /// `required` is true.
 pub fn members(alloc: Global, case: &Json) -> Result<Json, CaseError> {
-    let Json::Bool(required) = given(case, "required")? else {
-        return Err(CaseError::Expected("a truth value"));
-    };
+    let required = truth_of(given(case, "required")?)?;
     let definitions = definitions_of(alloc, case)?;
     let schema = noted_schema(alloc, case)?;
     struct_told(
         alloc,
-        schema_util::schema2struct(alloc, &schema, &definitions, *required),
+        schema_util::schema2struct(alloc, &schema, &definitions, required),
     )
 }
 

@@ -100,6 +100,7 @@ fn handed_over(alloc: Global, case: &Json) -> Result<Value, CaseError> {
 pub fn of_value(alloc: Global, case: &Json) -> Result<Json, CaseError> {
     match Value::from_str(alloc, text_of(given(case, "text")?)?.as_str()) {
         Ok(value) => taken_over(alloc, &value),
+        Err(error) if error.is_memory() => Err(CaseError::OutOfMemory),
         Err(_) => Err(CaseError::Expected("a value of serde_json")),
     }
 }

@@ -9,7 +9,9 @@ use schema_values::{Json, List};
 use std::alloc::Global;
 
 /// The names that members of a case have.
-const MEMBERS: [&str; 13] = [
+const MEMBERS: [&str; 15] = [
+    "case",
+    "like",
     "call",
     "definitions",
     "desc",

@@ -73,6 +73,6 @@ pub fn read(alloc: Global, bytes: &[u8]) -> Result<Option<Json>, CaseError> {
     match Json::read(alloc, bytes) {
         Ok(json) => Ok(Some(json)),
         Err(ReadError::Unreadable) => Ok(None),
-        Err(ReadError::OutOfMemory) => Err(CaseError::OutOfMemory),
+        Err(error) => Err(CaseError::from(error)),
     }
 }

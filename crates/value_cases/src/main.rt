@@ -11,14 +11,9 @@ mod types;
 mod values;
 
 use crate::answers::ValueCases;
-use case_notation::Cases;
+use case_notation::run;
 use std::io;
 
 fn main(rt: HostRuntime) -> io::Result<()> {
-    let mut cases = Cases::new(rt.alloc());
-    for line in rt.lines(rt.alloc()) {
-        let reply = cases.reply(rt.alloc(), &ValueCases, line?.as_str())?;
-        println!(rt; "{reply}")?;
-    }
-    Ok(())
+    run(&rt, &ValueCases)
 }

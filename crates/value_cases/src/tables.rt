@@ -8,7 +8,8 @@ use typed_values::{AddError, Added, Definition, DescTable, check_table};
 
 /// What is told of the table of a case.
 pub fn table_told(alloc: Global, case: &Json) -> Result<Json, CaseError> {
-    told(alloc, check_table(&table_of(alloc, case)?))
+    let table = table_of(alloc, case)?;
+    Ok(told(alloc, check_table(&table))?)
 }
 
 /// What is told of each of the definitions of a case, added one after another.
@@ -43,8 +44,8 @@ fn added(alloc: Global, table: &mut DescTable, definition: Definition) -> Result
         desc,
     } = definition;
     match table.add_described(name.as_str(), description, desc) {
-        Ok(Added::New) => word(alloc, "new"),
-        Ok(Added::Same) => word(alloc, "same"),
+        Ok(Added::New) => Ok(word(alloc, "new")?),
+        Ok(Added::Same) => Ok(word(alloc, "same")?),
         Err(error) => not_added(alloc, error),
     }
 }
@@ -75,7 +76,7 @@ fn batches_told(alloc: Global, table: &mut DescTable, batches: &[Json]) -> Resul
 fn batch_told(alloc: Global, table: &mut DescTable, batch: &Json) -> Result<Json, CaseError> {
     let definitions = definitions_of(alloc, batch)?;
     match add_all(alloc, table, definitions.as_slice()) {
-        Ok(()) => word(alloc, "added"),
+        Ok(()) => Ok(word(alloc, "added")?),
         Err(error) => not_added(alloc, error),
     }
 }

@@ -2,7 +2,7 @@
 ghost use Rattle.api_types.specs.Types.{IsTableOf};
 
 use api_types::{AnyValue, ApiType, Flaw, TypeError, json_value, table_of, value_json};
-use case_notation::{CaseError, form, given, put, text_of, tree_noted, word};
+use case_notation::{CaseError, form, given, put, text_of, tree_noted};
 use own_types::{Color, Label, Point};
 use schema_values::{Json, List, Member, Text};
 use std::alloc::{AllocError, Global};
@@ -88,22 +88,12 @@ fn fault_told<T: ApiType>(alloc: Global, fault: &Fault) -> Result<Json, CaseErro
 fn no_table(alloc: Global, error: TypeError) -> Result<Json, CaseError> {
     match error {
         TypeError::Clash(name) => Ok(form(alloc, "clash", Json::Text(name))?),
-        TypeError::Table(flaw) => Ok(form(alloc, "table", word(alloc, flaw_told(&flaw))?)?),
-        TypeError::Descriptor(flaw) => Ok(form(alloc, "desc", word(alloc, flaw_told(&flaw))?)?),
+        TypeError::Table(flaw) => Ok(form(alloc, "table", flaw_told(alloc, &flaw)?)?),
+        TypeError::Descriptor(flaw) => Ok(form(alloc, "desc", flaw_told(alloc, &flaw)?)?),
         TypeError::OutOfMemory => Err(CaseError::OutOfMemory),
     }
 }
 
-fn flaw_told(flaw: &Flaw) -> &'static str {
-    match flaw {
-        Flaw::DoubledName => "doubled name",
-        Flaw::BadName => "bad name",
-        Flaw::Dangling => "dangling",
-        Flaw::Unguarded(_) => "unguarded",
-        Flaw::EmptyEnumeration => "empty enumeration",
-        Flaw::NullOfNull => "null of null",
-        Flaw::TagClash => "tag clash",
-        Flaw::BadRange => "bad range",
-        Flaw::BadPresence => "bad presence",
-    }
+fn flaw_told(alloc: Global, flaw: &Flaw) -> Result<Json, AllocError> {
+    Ok(Json::Text(Text::from_string(format!(in alloc; "{flaw:?}")?)))
 }

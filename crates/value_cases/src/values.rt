@@ -19,7 +19,7 @@ fn desc_told_in(alloc: Global, table: &DescTable, case: &Json) -> Result<Json, C
     requires { TablePasses table.now }
 {
     let desc = noted_desc(alloc, case)?;
-    told(alloc, check_desc(table, &desc))
+    Ok(told(alloc, check_desc(table, &desc))?)
 }
 
 /// The tree that the value of a case denotes, as its copy is noted, or the fault that is told.
@@ -98,6 +98,6 @@ fn written(alloc: Global, scope: &Scope, tree: &Tree) -> Result<Json, CaseError>
         let json = encode_json(alloc, &scope.table, &scope.desc, tree)?;
         Ok(form(alloc, "json", json)?)
     } else {
-        word(alloc, "no fit")
+        Ok(word(alloc, "no fit")?)
     }
 }
