@@ -1,5 +1,5 @@
 //! A JSON text read in one pass over its tokens.
-ghost use Rattle.std.specs.Prelude.{◌≡◌, ◌<◌, ◌≤◌, ◌==◌, true, false, Some, None, Err, IfOk, IfSome, OnOk, length, map, option_and_then, slice_index};
+ghost use Rattle.std.specs.Prelude.{◌≡◌, ◌≢◌, ◌<◌, ◌≤◌, ◌==◌, true, false, Some, None, Err, IfOk, IfSome, OnOk, length, map, option_and_then, slice_index};
 ghost use Rattle.std.specs.Cmp.Lexicographic.{slice_cmp};
 ghost use Rattle.std.specs.List.{insert};
 ghost use Rattle.std.specs.List.Sorted.{IsStrictlySortedBy};
@@ -150,12 +150,22 @@ fn read_members(
     'members: while let Some(key) = reader.next_key()? {
         let name = name_of_key(alloc, key)?;
         let value = read_value(alloc, reader, depth)?;
-        let Some(index) = place_of(found.as_slice(), &name) else {
-            return Err(OnePassError::NotInOnePass);
-        };
-        found.insert(index, Member { name, value })?;
+        put_in_place(&mut found, Member { name, value })?;
     }
     Ok(found)
+}
+
+// Puts a member of a new name among members in order, if its place is near their end.
+fn put_in_place(members: &mut List<Member>, member: Member) -> Result<(), OnePassError>
+    requires { IsStrictlySortedBy (slice_cmp nat_cmp) (map name_of members.old) }
+    ensures ok { OnOk result (members.new ≡ placed member members.old) }
+    ensures err { result ≢ Err OnePassError.Invalid }
+{
+    let Some(index) = place_of(members.as_slice(), &member.name) else {
+        return Err(OnePassError::NotInOnePass);
+    };
+    members.insert(index, member)?;
+    Ok(())
 }
 
 fn name_of_key(alloc: Global, key: &str) -> Result<Text, AllocError>

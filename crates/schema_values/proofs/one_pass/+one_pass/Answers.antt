@@ -1,5 +1,4 @@
 use Rattle.std.proofs.Common.{◌≡◌, ◌-◌, ◌<◌, [], ◌∷◌, ◌++◌, length, Some, None, option_map, option_and_then, refl, sym, ap, ap₂, ◌∙◌, subst, arith}
-use Rattle.std.specs.List.{insert}
 use Rattle.std.specs.List.Sorted.{IsStrictlySortedBy}
 use Rattle.std.specs.Int.{w128}
 use Rattle.std.proofs.lemmas.Int.{to_z-of_z}
@@ -176,8 +175,7 @@ read_members-members-preserved t c =
     let m : Member = record { name = c.in_ok-name.name; value = c.in_ok-value.value } in
     let less = read_key-shorter l.reader (Some k) s named in
     let lesser = done.shorter in
-    let index = c.in-Some-place_of.index in
-    let inserted : c.insert.new.self ≡ placed m l.found = c.in_ok-insert.ensures.ok ∙ sym (subst (λ xs. placed m xs ≡ insert xs index m) c.as_slice.ensures (c.in-Some-place_of.ensures.placed m refl)) in (
+    let inserted : c.put_in_place.new.members ≡ placed m l.found = c.in_ok-put_in_place.ensures.ok in (
       n - 1,
       ms ++ (k, j) ∷ [],
       omega (arith, l.invariant.2),
