@@ -37,3 +37,4 @@ pub mod Quoted
 pub mod Placing
 pub mod OnePassSteps
 pub mod MemberLemmas
+pub mod CallerLemmas
