@@ -1,7 +1,7 @@
 -- Arguments that a request denotes fit their slots.
 use Rattle.std.proofs.Common.{ℕ, List, [], ◌∷◌}
 use Rattle.std.proofs.lemmas.List.Elements.{All-head, All-tail}
-use Rattle.schema_values.proofs.SoundReadings.{reading_sound}
+use Rattle.schema_values.proofs.CallerLemmas.{reading_sound}
 use Rattle.typed_values.specs.declared.table.Definition.{Definition}
 use Rattle.typed_values.specs.Checks.{TablePasses}
 use Rattle.typed_values.proofs.DenotedFits.{denoted_fits}

@@ -17,7 +17,7 @@ use Rattle.typed_values.specs.Parts.{the_whole, in_field, IsPart, of_whole}
 use Rattle.typed_values.specs.Reached.{Mentions, IsReached, directly, through}
 use Rattle.typed_values.proofs.FitRows.{fits_struct}
 use Rattle.typed_values.proofs.FitSteps.{skipped_row}
-use Rattle.schema_values.proofs.Contained.{contains_first, contains_later}
+use Rattle.schema_values.proofs.CallerLemmas.{contains_first, contains_later}
 use Rattle.typed_values.proofs.Within.{parts_at}
 use Rattle.api_types.specs.Options.{option_tree}
 use Rattle.api_types.specs.Structs.{Part}

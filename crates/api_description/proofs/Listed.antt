@@ -20,7 +20,7 @@ use Rattle.api_description.specs.Registering.{AreAccepted}
 use Rattle.api_description.specs.Templates.{trimmed}
 use Rattle.api_description.specs.Versions.{holds}
 use Rattle.api_description.proofs.Among.{among_texts}
-use Rattle.schema_values.proofs.Characters.{IsText, chars-encoded, bytes_back}
+use Rattle.schema_values.proofs.CallerLemmas.{IsText, chars-encoded, bytes_back}
 use Rattle.api_description.proofs.Characters.{trimmed-encoded}
 
 -- characters are those of a template where their bytes are its bytes

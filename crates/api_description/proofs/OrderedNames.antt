@@ -9,7 +9,7 @@ use Rattle.std.specs.Ordering.{match_ordering, ordering_reverse}
 use Rattle.std.specs.declared.cmp.Ordering.{Ordering}
 use Rattle.std.specs.declared.cmp.Ordering.TheVariants.{Less, Equal, Greater}
 use Rattle.std.proofs.lemmas.Cmp.{nat_list_cmp_total}
-use Rattle.schema_values.proofs.DistinctLemmas.{AreDistinct-sorted, Below, below_all}
+use Rattle.schema_values.proofs.CallerLemmas.{AreDistinct-sorted, Below, below_all}
 use Rattle.openapi_values.specs.SoundParts.{IsSoundMap, names_of_map}
 use Rattle.api_description.specs.Documents.{by_name, text_order, with_entry, with_texts}
 

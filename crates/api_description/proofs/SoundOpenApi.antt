@@ -7,8 +7,7 @@ use Rattle.std.specs.Str.{encode_utf8_all}
 use Rattle.std.proofs.lemmas.List.Elements.{All-cons, All-head, All-nil, All-tail}
 use Rattle.std.proofs.lemmas.Slice.Eq.{bytes_eq-Decides}
 use Rattle.schema_values.specs.Sound.{IsSound, AreDistinct}
-use Rattle.schema_values.proofs.Contained.{contains_first, contains_later}
-use Rattle.schema_values.proofs.DistinctLemmas.{AreDistinct-sorted}
+use Rattle.schema_values.proofs.CallerLemmas.{contains_first, contains_later, AreDistinct-sorted}
 use Rattle.openapi_values.specs.declared.operation.PathItem.{PathItem}
 use Rattle.openapi_values.specs.SoundParts.{IsSoundBody, IsSoundItem, IsSoundMap, IsSoundMedia, IsSoundOperation, IsSoundResponse, names_of_map}
 use Rattle.openapi_values.proofs.SoundDocuments.{document_sound}

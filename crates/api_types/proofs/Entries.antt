@@ -6,7 +6,7 @@ use Rattle.std.specs.List.{AllByRecursion}
 use Rattle.std.specs.List.Sorted.{IsStrictlySortedBy}
 use Rattle.std.specs.BTreeMap.{insert_entry}
 use Rattle.std.specs.Map.{keys_of}
-use Rattle.schema_values.proofs.Entries.{IsBelow, inserted_last}
+use Rattle.schema_values.proofs.CallerLemmas.{IsBelow, inserted_last}
 use Rattle.typed_values.specs.declared.tree.Pair.{Pair}
 use Rattle.typed_values.specs.declared.tree.Tree.{Tree}
 use Rattle.typed_values.specs.Denotes.{pair}

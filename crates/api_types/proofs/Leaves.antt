@@ -5,7 +5,7 @@ use Rattle.std.specs.Int.Signed.{le_z_yes}
 use Rattle.schema_values.specs.declared.json_value.Json.{Json}
 use Rattle.schema_values.specs.Sound.{IsSound}
 use Rattle.schema_values.specs.SoundTest.{is_sound}
-use Rattle.schema_values.proofs.SoundTests.{sound-decides}
+use Rattle.schema_values.proofs.CallerLemmas.{sound-decides}
 use Rattle.typed_values.specs.declared.desc.Desc.{Desc}
 use Rattle.typed_values.specs.declared.desc.Desc.TheVariants as descs
 use Rattle.typed_values.specs.declared.desc.Desc.TheOpen.{Desc-F}

@@ -14,7 +14,7 @@ use Rattle.typed_values.specs.Parts.{the_whole, IsPart, of_table}
 use Rattle.typed_values.specs.Reached.{Mentions, IsReached, directly, through}
 use Rattle.typed_values.proofs.FitRows.{fits_ref}
 use Rattle.typed_values.proofs.Found.{same_or_not, definition_is}
-use Rattle.schema_values.proofs.Contained.{contains_first}
+use Rattle.schema_values.proofs.CallerLemmas.{contains_first}
 use Rattle.typed_values.proofs.Needed.{entry_inside}
 use Rattle.typed_values.proofs.Within.{parts_at}
 use Rattle.api_types.specs.Types.{HoldsAll, IsTableOf, FitsEach, FitsOne, ReachesExactly}

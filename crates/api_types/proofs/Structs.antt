@@ -18,7 +18,7 @@ use Rattle.typed_values.specs.Levels.{TreeOf}
 use Rattle.typed_values.specs.Parts.{the_whole, in_field, IsPart, of_whole}
 use Rattle.typed_values.specs.Reached.{Mentions, IsReached, directly, through}
 use Rattle.typed_values.proofs.FitRows.{fits_struct}
-use Rattle.schema_values.proofs.Contained.{contains_first, contains_later, contains_cases}
+use Rattle.schema_values.proofs.CallerLemmas.{contains_first, contains_later, contains_cases}
 use Rattle.typed_values.proofs.Within.{parts_at}
 use Rattle.api_types.specs.Structs.{Part, definitions_in, fields_in, AreParts, FieldsFitEach, FieldsFitOne}
 use Rattle.api_types.specs.Types.{HoldsAll, IsTableOf, FitsEach, FitsOne, ReachesExactly}

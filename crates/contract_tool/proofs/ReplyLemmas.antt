@@ -7,7 +7,7 @@ use Rattle.std.proofs.lemmas.Str.{IsUtf8-from_is_utf8, is_utf8-from_IsUtf8, char
 use Rattle.hex.specs.Hex.{encode_lower, lower_digits}
 use Rattle.hex.proofs.HexLemmas.{IsAscii-encode_with}
 use Rattle.http_header.specs.FieldValue.{FieldValue}
-use Rattle.schema_values.proofs.TextLemmas.{IsAscii-from_test}
+use Rattle.schema_values.proofs.CallerLemmas.{IsAscii-from_test}
 use Rattle.schema_values.specs.declared.json_value.Json.{Json, Int as Number, Text as Words, List as Items, Object}
 use Rattle.schema_values.specs.declared.json_value.Member.{Member}
 use Rattle.schema_values.specs.Member.{member}

@@ -6,7 +6,7 @@ use Rattle.std.proofs.lemmas.Slice.Eq.{bytes_eq-Decides}
 use Rattle.std.proofs.lemmas.Str.{chars-IsAscii, encodes-chars, encodes-IsAscii}
 use Rattle.std.proofs.Math.Utf8.{encodes}
 use Rattle.schema_values.specs.Ascii.{all_ascii}
-use Rattle.schema_values.proofs.TextLemmas.{IsAscii-from_test}
+use Rattle.schema_values.proofs.CallerLemmas.{IsAscii-from_test}
 use Rattle.openapi_values.specs.CutNumbers.{cut}
 use Rattle.openapi_values.specs.TextAdmits.{digits_after, digits_number}
 

@@ -2,7 +2,7 @@
 use Rattle.std.proofs.Common.{◌≡◌, ◌↔◌, ℕ, Bool, List, IsTrue}
 use Rattle.schema_values.specs.declared.json_value.Json.{Json, Text}
 use Rattle.schema_values.specs.Same.{same_json}
-use Rattle.schema_values.proofs.SameLemmas.{same_told}
+use Rattle.schema_values.proofs.CallerLemmas.{same_told}
 
 pub same_text : (text : List ℕ) (json : Json) (b : Bool) → (IsTrue b ↔ (Text text ≡ json)) → b ≡ same_json (Text text) json
 same_text text json b told = same_told (Text text) json b told

@@ -14,7 +14,7 @@ use Rattle.schema_values.specs.declared.schema.SchemaObject.{SchemaObject-F}
 use Rattle.schema_values.specs.Get.{first_named}
 use Rattle.schema_values.specs.Sound.{IsSound, IsWhole}
 use Rattle.schema_values.specs.SoundMembers.{HasSoundValue, HasSoundMembers}
-use Rattle.schema_values.proofs.SoundLemmas.{IsSound-List, IsSound-Object}
+use Rattle.schema_values.proofs.CallerLemmas.{IsSound-List, IsSound-Object}
 use Rattle.openapi_values.specs.IfTrue.{if_true}
 use Rattle.openapi_values.specs.Objects.{Entry, members_of, object_of, reference_json}
 use Rattle.openapi_values.specs.SchemaJson.{Level, annotations, bound_entries, bound_json, const_values, count_json, entries_behind, enum_entries, extension_entries, kind_entries, nothing_entries, null_values, object_step, own_entries, truth_json, type_entries, type_name, values_json, values_of, without_values}

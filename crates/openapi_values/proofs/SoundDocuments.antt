@@ -5,7 +5,7 @@ use Rattle.std.specs.Option.{option_map_or}
 use Rattle.std.specs.Prelude.{⊤}
 use Rattle.schema_values.specs.declared.json_value.Json.{Json, Text, List as ListOf}
 use Rattle.schema_values.specs.Sound.{IsSound}
-use Rattle.schema_values.proofs.SoundLemmas.{IsSound-List, IsSound-Object}
+use Rattle.schema_values.proofs.CallerLemmas.{IsSound-List, IsSound-Object}
 use Rattle.openapi_values.specs.declared.document.Components.{Components}
 use Rattle.openapi_values.specs.declared.document.OpenApi.{OpenApi}
 use Rattle.openapi_values.specs.declared.info.Contact.{Contact}

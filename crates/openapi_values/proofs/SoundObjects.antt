@@ -9,7 +9,7 @@ use Rattle.schema_values.specs.Member.{name_of}
 use Rattle.schema_values.specs.Sound.{IsSound, AreDistinct}
 use Rattle.schema_values.specs.SoundMembers.{HasSoundValue, HasSoundMembers}
 use Rattle.schema_values.specs.SoundTest.{are_distinct}
-use Rattle.schema_values.proofs.SoundLemmas.{IsSound-List, IsSound-Object}
+use Rattle.schema_values.proofs.CallerLemmas.{IsSound-List, IsSound-Object}
 use Rattle.openapi_values.specs.IfTrue.{if_true}
 use Rattle.openapi_values.specs.Objects.{Entry, list_unless_empty, map_members, members_of, object_of, present, reference_json, unless_empty}
 use Rattle.openapi_values.specs.SoundParts.{IsSoundMap, names_of_map}

@@ -13,7 +13,7 @@ use Rattle.schema_values.specs.declared.schema.Subschemas.{Subschemas}
 use Rattle.schema_values.specs.Member.{name_of}
 use Rattle.schema_values.specs.Sound.{IsSound, AreDistinct}
 use Rattle.schema_values.specs.SoundMembers.{HasSoundValue}
-use Rattle.schema_values.proofs.SoundLemmas.{IsSound-List}
+use Rattle.schema_values.proofs.CallerLemmas.{IsSound-List}
 use Rattle.openapi_values.specs.Objects.{members_of, pair_member, unless_empty}
 use Rattle.openapi_values.specs.SchemaJson.{Written, additional_json, array_written, count_json, items_written, names_json, object_level, object_parts_written, object_written, property_written, schema_json, schema_written, schemas_json, subschemas_written, untitled}
 use Rattle.openapi_values.specs.SoundContents.{HasSoundContents}

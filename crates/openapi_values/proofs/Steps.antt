@@ -8,7 +8,7 @@ use Rattle.schema_values.specs.declared.json_value.Json.{Json, out-Json}
 use Rattle.schema_values.specs.declared.json_value.Json.TheOpen.{Json-F}
 use Rattle.schema_values.specs.declared.json_value.Member.{Member}
 use Rattle.schema_values.specs.Beside.{Beside, beside_with, member_with, level_with}
-use Rattle.schema_values.proofs.Besides.{made-out}
+use Rattle.schema_values.proofs.CallerLemmas.{made-out}
 use Rattle.openapi_values.specs.declared.keywords.Keyword.{Keyword}
 use Rattle.openapi_values.specs.declared.keywords.Keyword.TheVariants.{Reference, Nullable, Annotation, OfType, Format, Enum, Minimum, Maximum, ExclusiveMinimum, ExclusiveMaximum, MinLength, MaxLength, Items, MinItems, MaxItems, Properties, Required, AdditionalProperties, MinProperties, MaxProperties, AllOf, AnyOf, OneOf, Not, Other}
 use Rattle.openapi_values.specs.Keywords.{keyword_of}

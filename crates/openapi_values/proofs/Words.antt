@@ -3,7 +3,7 @@ use Rattle.std.proofs.Common.{◌≡◌, ℕ, List, Bool, true, false, sym, refl
 use Rattle.std.proofs.lemmas.Str.{chars-IsAscii}
 use Rattle.std.specs.Str.{chars}
 use Rattle.schema_values.specs.Ascii.{all_ascii}
-use Rattle.schema_values.proofs.TextLemmas.{IsAscii-from_test}
+use Rattle.schema_values.proofs.CallerLemmas.{IsAscii-from_test}
 
 -- two tests that say the same
 pub same_test : (a b : Bool) (P : Type 0) → (a ≡ true → P) → (P → a ≡ true) → (b ≡ true → P) → (P → b ≡ true) → a ≡ b

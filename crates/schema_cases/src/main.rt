@@ -52,7 +52,9 @@ impl AnswersCases for SchemaCases {
     fn answer(&self, alloc: Global, case: &Json) -> Result<Json, CaseError> {
         match text_of(given(case, "call")?)?.as_str() {
             "read" => values::read(alloc, case),
+            "read_in_turn" => values::read_in_turn(alloc, case),
             "compact" => values::compact(alloc, case),
+            "written" => values::written(alloc, case),
             "pretty" => values::pretty(alloc, case),
             "read_compact" => values::read_compact(alloc, case),
             "read_pretty" => values::read_pretty(alloc, case),

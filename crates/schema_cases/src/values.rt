@@ -1,8 +1,11 @@
 //! Calls on values.
 use crate::answers::error_told;
 use crate::request_notation::bytes_of;
-use case_notation::{CaseError, form, given, made_of, pair, text_of};
-use schema_values::{Json, ReadError, Text, ValueError};
+use case_notation::{CaseError, form, given, items_of, made_of, pair, text_of};
+use schema_values::{
+    Json, List, ReadError, Scratch, Text, ValueError, write_member, write_number_member,
+    write_text_member,
+};
 use serde_json::Value;
 use std::alloc::Global;
 
@@ -20,8 +23,23 @@ pub fn read(alloc: Global, case: &Json) -> Result<Json, CaseError> {
     read_told(alloc, bytes.as_slice())
 }
 
+/// What each text of a list is read as, in one room that is kept.
+pub fn read_in_turn(alloc: Global, case: &Json) -> Result<Json, CaseError> {
+    let mut scratch = Scratch::new(alloc);
+    let mut told = List::new(alloc);
+    for text in items_of(given(case, "json")?)? {
+        let bytes = text_of(text)?.as_bytes();
+        told.push(reading_told(alloc, Json::read_with(alloc, &mut scratch, bytes))?)?;
+    }
+    Ok(Json::List(told))
+}
+
 fn read_told(alloc: Global, bytes: &[u8]) -> Result<Json, CaseError> {
-    match Json::read(alloc, bytes) {
+    reading_told(alloc, Json::read(alloc, bytes))
+}
+
+fn reading_told(alloc: Global, reading: Result<Json, ReadError>) -> Result<Json, CaseError> {
+    match reading {
         Ok(json) => Ok(form(alloc, "json", json)?),
         Err(ReadError::OutOfMemory) => Err(CaseError::OutOfMemory),
         Err(error) => error_told(alloc, format!(in alloc; "{error}")?),
@@ -31,6 +49,19 @@ fn read_told(alloc: Global, bytes: &[u8]) -> Result<Json, CaseError> {
 /// The value's compact text.
 pub fn compact(alloc: Global, case: &Json) -> Result<Json, CaseError> {
     Ok(Json::Text(noted_value(alloc, case)?.compact(alloc)?))
+}
+
+/// The compact text of an object with the text and the value of the case, and with how many characters
+/// the text has, written member by member.
+pub fn written(alloc: Global, case: &Json) -> Result<Json, CaseError> {
+    let text = text_of(given(case, "text")?)?;
+    let mut out = Text::with_capacity(alloc, 64)?;
+    out.push('{')?;
+    write_text_member(0, "text", text.as_str(), &mut out)?;
+    write_number_member(alloc, 1, "count", count_of(text)?, &mut out)?;
+    write_member(alloc, 2, "json", given(case, "json")?, &mut out)?;
+    out.push('}')?;
+    Ok(Json::Text(out))
 }
 
 /// The value's text in lines.
@@ -52,9 +83,12 @@ pub fn read_pretty(alloc: Global, case: &Json) -> Result<Json, CaseError> {
 
 /// How many characters a text has.
 pub fn chars_count(case: &Json) -> Result<Json, CaseError> {
-    let count = text_of(given(case, "text")?)?.chars_count();
-    match i128::try_from(count) {
-        Ok(count) => Ok(Json::Int(count)),
+    Ok(Json::Int(count_of(text_of(given(case, "text")?)?)?))
+}
+
+fn count_of(text: &Text) -> Result<i128, CaseError> {
+    match i128::try_from(text.chars_count()) {
+        Ok(count) => Ok(count),
         Err(_) => Err(CaseError::Expected("a count")),
     }
 }

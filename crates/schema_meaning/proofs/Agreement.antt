@@ -31,8 +31,7 @@ use Rattle.schema_meaning.specs.Meaning.{object_admits, admits_within}
 use Rattle.schema_meaning.specs.Reached.{combined_schemas, if_any, smaller_schemas, stands_alone, beside_in, below_in, beside, below, LeadsTo, subschema, referred, IsReached, same_value, smaller_value}
 use Rattle.schema_meaning.specs.Written.{DefinesReached}
 use Rattle.schema_meaning.proofs.Among.{among_right}
-use Rattle.schema_values.proofs.Contained.{contains_first}
-use Rattle.schema_values.proofs.JsonParts.{OfParts, by_parts}
+use Rattle.schema_values.proofs.CallerLemmas.{contains_first, OfParts, by_parts}
 use Rattle.schema_meaning.proofs.Chains.{Rests}
 use Rattle.schema_meaning.proofs.Members.{MeanOf}
 use Rattle.schema_meaning.proofs.NotRefused.{unrefused}

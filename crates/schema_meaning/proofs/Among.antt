@@ -2,7 +2,7 @@
 use Rattle.std.proofs.Common.{◌≡◌, ℕ, ◌+◌, ◌≤◌, List, [], ◌∷◌, ◌++◌, map, sum, refl, ap, ap₂, arith, inl, inr}
 use Rattle.std.specs.Prelude.{Contains}
 use Rattle.std.proofs.lemmas.List.Sums.{sum_by-cons}
-use Rattle.schema_values.proofs.Contained.{contains_first, contains_later, contains_cases}
+use Rattle.schema_values.proofs.CallerLemmas.{contains_first, contains_later, contains_cases}
 
 module _ {A : Type 0} where
   pub among_none : {P : Type 0} (x : A) → Contains [] x → P

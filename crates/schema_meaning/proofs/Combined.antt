@@ -20,7 +20,7 @@ use Rattle.openapi_values.proofs.SchemaLevels.{subschemas-are}
 use Rattle.schema_meaning.specs.Asked.{subschemas_hold}
 use Rattle.schema_meaning.specs.Reached.{combined_schemas, if_any}
 use Rattle.schema_meaning.proofs.Among.{among_left, among_right}
-use Rattle.schema_values.proofs.Contained.{contains_first, contains_later}
+use Rattle.schema_values.proofs.CallerLemmas.{contains_first, contains_later}
 use Rattle.schema_meaning.proofs.Behind.{subschema_entries}
 use Rattle.schema_meaning.proofs.Entries.{each_entry}
 use Rattle.schema_meaning.proofs.WrittenLevels.{json_of}

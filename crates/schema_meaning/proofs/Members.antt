@@ -27,7 +27,7 @@ use Rattle.schema_meaning.specs.Asked.{property_named, member_holds, object_hold
 use Rattle.schema_meaning.specs.Forms.{SchemaLevel}
 use Rattle.schema_meaning.specs.Reached.{object_schemas, if_any}
 use Rattle.schema_meaning.proofs.Among.{among_left, among_right}
-use Rattle.schema_values.proofs.Contained.{contains_first, contains_later}
+use Rattle.schema_values.proofs.CallerLemmas.{contains_first, contains_later}
 use Rattle.openapi_values.proofs.Steps.{all_same}
 use Rattle.schema_meaning.proofs.Behind.{always}
 use Rattle.schema_meaning.proofs.Combined.{rows}

@@ -17,8 +17,7 @@ use Rattle.schema_values.specs.declared.schema.ObjectParts.{ObjectParts}
 use Rattle.schema_values.specs.declared.schema.Schema.{Schema, out-Schema}
 use Rattle.schema_values.specs.declared.schema.SchemaObject.{SchemaObject, out-SchemaObject}
 use Rattle.schema_values.specs.declared.schema.Subschemas.{Subschemas}
-use Rattle.schema_values.proofs.Characters.{chars-encoded}
-use Rattle.schema_values.proofs.TextLemmas.{IsAscii-from_test}
+use Rattle.schema_values.proofs.CallerLemmas.{chars-encoded, IsAscii-from_test}
 use Rattle.openapi_values.specs.Keywords.{after}
 use Rattle.openapi_values.specs.Lookup.{name_in as name_of}
 use Rattle.openapi_values.specs.Options.{is_some_and}

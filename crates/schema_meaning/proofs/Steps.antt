@@ -17,7 +17,7 @@ use Rattle.schema_values.specs.declared.schema.SchemaObject.{out-SchemaObject}
 use Rattle.schema_values.specs.Beside.{Beside, beside_with, member_with, level_with}
 use Rattle.schema_values.specs.Parts.{Parts}
 use Rattle.schema_values.specs.Same.{same_json}
-use Rattle.schema_values.proofs.Besides.{made-out}
+use Rattle.schema_values.proofs.CallerLemmas.{made-out}
 use Rattle.openapi_values.specs.Levels.{Level, is_null, has_member}
 use Rattle.openapi_values.specs.Options.{is_some_and, is_none_or}
 use Rattle.openapi_values.proofs.Steps.{has_changed, all_same}

@@ -34,7 +34,7 @@ use Rattle.schema_meaning.specs.Asked.{is_of, format_holds, number_holds, array_
 use Rattle.schema_meaning.specs.Accepted.{AreRead}
 use Rattle.schema_meaning.specs.Forms.{ItemsLevel, items_by_form}
 use Rattle.schema_meaning.specs.Reached.{array_schemas, object_schemas, item_schemas, smaller_schemas}
-use Rattle.schema_values.proofs.Contained.{contains_first}
+use Rattle.schema_values.proofs.CallerLemmas.{contains_first}
 use Rattle.schema_meaning.proofs.Arrays.{MeansOf, array_part}
 use Rattle.schema_meaning.proofs.Behind.{subschema_entries, no_subschema}
 use Rattle.schema_meaning.proofs.Combined.{rows}

@@ -33,3 +33,8 @@ pub mod SortedLemmas
 pub mod Stable
 pub mod JsonParts
 pub mod Contained
+pub mod Quoted
+pub mod Placing
+pub mod OnePassSteps
+pub mod MemberLemmas
+pub mod CallerLemmas

@@ -10,6 +10,44 @@ use crate::schema::{InstanceType, InstanceTypes, LengthBounds, NumberBounds, Sch
 use crate::text::Text;
 use std::alloc::{AllocError, Global};
 
+// The parts of a schema object that have no schema within them, but for those that are truth values.
+#[derive(Drop)]
+pub(crate) struct Leaves {
+    pub reference: Option<Text>,
+    pub annotations: Annotations,
+    pub values: ValueParts,
+}
+
+pub(crate) fn copy_leaves(alloc: Global, object: &SchemaObject) -> Result<Leaves, AllocError>
+    ensures reference { IfOk result (λ copy. copy.reference ≡ (out-SchemaObject object.now).reference) }
+    ensures title { IfOk result (λ copy. copy.annotations.title
+        ≡ (out-SchemaObject object.now).title) }
+    ensures description { IfOk result (λ copy. copy.annotations.description
+        ≡ (out-SchemaObject object.now).description) }
+    ensures default { IfOk result (λ copy. copy.annotations.default
+        ≡ (out-SchemaObject object.now).default) }
+    ensures extensions { IfOk result (λ copy. copy.annotations.extensions
+        ≡ (out-SchemaObject object.now).extensions) }
+    ensures instance_type { IfOk result (λ copy. copy.values.instance_type
+        ≡ (out-SchemaObject object.now).instance_type) }
+    ensures format { IfOk result (λ copy. copy.values.format
+        ≡ (out-SchemaObject object.now).format) }
+    ensures enum_values { IfOk result (λ copy. copy.values.enum_values
+        ≡ (out-SchemaObject object.now).enum_values) }
+    ensures const_value { IfOk result (λ copy. copy.values.const_value
+        ≡ (out-SchemaObject object.now).const_value) }
+    ensures number { IfOk result (λ copy. copy.values.number
+        ≡ (out-SchemaObject object.now).number) }
+    ensures string { IfOk result (λ copy. copy.values.string
+        ≡ (out-SchemaObject object.now).string) }
+{
+    Ok(Leaves {
+        reference: copy_text(alloc, &object.reference)?,
+        annotations: copy_annotations(alloc, object)?,
+        values: copy_value_parts(alloc, object)?,
+    })
+}
+
 // The parts of a schema object that are annotations, but for those that are truth values.
 #[derive(Drop)]
 pub(crate) struct Annotations {
@@ -19,10 +57,7 @@ pub(crate) struct Annotations {
     pub extensions: List<Member>,
 }
 
-pub(crate) fn copy_annotations(
-    alloc: Global,
-    object: &SchemaObject,
-) -> Result<Annotations, AllocError>
+fn copy_annotations(alloc: Global, object: &SchemaObject) -> Result<Annotations, AllocError>
     ensures title { IfOk result (λ copy. copy.title ≡ (out-SchemaObject object.now).title) }
     ensures description { IfOk result (λ copy. copy.description
         ≡ (out-SchemaObject object.now).description) }
@@ -33,8 +68,8 @@ pub(crate) fn copy_annotations(
     Ok(Annotations {
         title: copy_text(alloc, &object.title)?,
         description: copy_text(alloc, &object.description)?,
-        default: copy_value(alloc, &object.default)?,
         extensions: copy_members(alloc, object.extensions.as_slice())?,
+        default: copy_value(alloc, &object.default)?,
     })
 }
 
@@ -49,10 +84,7 @@ pub(crate) struct ValueParts {
     pub string: Option<LengthBounds>,
 }
 
-pub(crate) fn copy_value_parts(
-    alloc: Global,
-    object: &SchemaObject,
-) -> Result<ValueParts, AllocError>
+fn copy_value_parts(alloc: Global, object: &SchemaObject) -> Result<ValueParts, AllocError>
     ensures instance_type { IfOk result (λ copy. copy.instance_type
         ≡ (out-SchemaObject object.now).instance_type) }
     ensures format { IfOk result (λ copy. copy.format ≡ (out-SchemaObject object.now).format) }
@@ -63,15 +95,13 @@ pub(crate) fn copy_value_parts(
     ensures number { IfOk result (λ copy. copy.number ≡ (out-SchemaObject object.now).number) }
     ensures string { IfOk result (λ copy. copy.string ≡ (out-SchemaObject object.now).string) }
 {
-    let number = copy_numbers(alloc, &object.number)?;
-    let string = copy_lengths(alloc, &object.string)?;
     Ok(ValueParts {
         instance_type: copy_types(alloc, &object.instance_type)?,
         format: copy_text(alloc, &object.format)?,
         enum_values: copy_values(alloc, &object.enum_values)?,
         const_value: copy_value(alloc, &object.const_value)?,
-        number,
-        string,
+        number: numbers_of(&object.number),
+        string: lengths_of(&object.string),
     })
 }
 
@@ -94,12 +124,18 @@ impl NumberBounds {
     pub fn copy(&self, _alloc: Global) -> Result<NumberBounds, AllocError>
         ensures { IfOk result (λ copy. copy ≡ self.now) }
     {
-        Ok(NumberBounds {
+        Ok(self.same())
+    }
+
+    fn same(&self) -> NumberBounds
+        ensures { result ≡ self.now }
+    {
+        NumberBounds {
             minimum: self.minimum,
             exclusive_minimum: self.exclusive_minimum,
             maximum: self.maximum,
             exclusive_maximum: self.exclusive_maximum,
-        })
+        }
     }
 }
 
@@ -108,10 +144,16 @@ impl LengthBounds {
     pub fn copy(&self, _alloc: Global) -> Result<LengthBounds, AllocError>
         ensures { IfOk result (λ copy. copy ≡ self.now) }
     {
-        Ok(LengthBounds {
+        Ok(self.same())
+    }
+
+    fn same(&self) -> LengthBounds
+        ensures { result ≡ self.now }
+    {
+        LengthBounds {
             min: self.min,
             max: self.max,
-        })
+        }
     }
 }
 
@@ -175,26 +217,20 @@ fn copy_types(
     }
 }
 
-fn copy_numbers(
-    alloc: Global,
-    bounds: &Option<NumberBounds>,
-) -> Result<Option<NumberBounds>, AllocError>
-    ensures { IfOk result (λ copy. copy ≡ bounds.now) }
+fn numbers_of(bounds: &Option<NumberBounds>) -> Option<NumberBounds>
+    ensures { result ≡ bounds.now }
 {
     match bounds {
-        None => Ok(None),
-        Some(bounds) => Ok(Some(bounds.copy(alloc)?)),
+        None => None,
+        Some(bounds) => Some(bounds.same()),
     }
 }
 
-fn copy_lengths(
-    alloc: Global,
-    bounds: &Option<LengthBounds>,
-) -> Result<Option<LengthBounds>, AllocError>
-    ensures { IfOk result (λ copy. copy ≡ bounds.now) }
+fn lengths_of(bounds: &Option<LengthBounds>) -> Option<LengthBounds>
+    ensures { result ≡ bounds.now }
 {
     match bounds {
-        None => Ok(None),
-        Some(bounds) => Ok(Some(bounds.copy(alloc)?)),
+        None => None,
+        Some(bounds) => Some(bounds.same()),
     }
 }

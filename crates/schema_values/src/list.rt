@@ -1,4 +1,5 @@
-ghost use Rattle.std.specs.Prelude.{◌≡◌, ◌↔◌, [], ◌∷◌, ◌++◌, length, slice_get, IfOk, IsTrue, OnOk, OnErr};
+ghost use Rattle.std.specs.List.{insert};
+ghost use Rattle.std.specs.Prelude.{◌≡◌, ◌≤◌, ◌↔◌, [], ◌∷◌, ◌++◌, length, slice_get, IfOk, IsTrue, OnOk, OnErr};
 ghost use Rattle.std.specs.Option.{option_copied};
 
 use std::alloc::{AllocError, Global};
@@ -94,6 +95,17 @@ impl<T: Drop> List<T> {
         ensures err { OnErr result (self.new ≡ self.old) }
     {
         self.items.push(item)?;
+        Ok(())
+    }
+
+    /// Puts an item before the one at an index, or at the end. Fails only for want of memory, and drops the
+    /// item then.
+    pub fn insert(&mut self, index: usize, item: T) -> Result<(), AllocError>
+        requires { index ≤ length self.old }
+        ensures ok { OnOk result (self.new ≡ insert self.old index item) }
+        ensures err { OnErr result (self.new ≡ self.old) }
+    {
+        self.items.insert(index, item)?;
         Ok(())
     }
 }

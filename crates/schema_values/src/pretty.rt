@@ -8,7 +8,8 @@ ghost use Rattle.schema_values.specs.SortedMembers.{sorted_members};
 ghost use Rattle.schema_values.specs.Sound.{IsSound};
 
 use crate::json_value::{Json, Member};
-use crate::print::{write_comma, write_quoted, write_truth};
+use crate::print::{write_comma, write_truth};
+use crate::quoting::write_quoted;
 use crate::text::Text;
 use std::alloc::{AllocError, Global};
 

@@ -1,13 +1,14 @@
-ghost use Rattle.std.specs.Prelude.{◌≡◌, ◌<◌, ◌≤◌, ◌++◌, IfOk, OnOk, map, codes, if◌then◌else◌};
+ghost use Rattle.std.specs.Prelude.{◌≡◌, ◌≤◌, ◌++◌, IfOk, OnOk, map, codes, if◌then◌else◌};
 ghost use Rattle.std.specs.Str.{encode_utf8_all};
 ghost use Rattle.schema_values.specs.Depth.{depth};
-ghost use Rattle.schema_values.specs.Print.{escape, hex_digit, quoted, joined, comma_before, compact_of};
+ghost use Rattle.schema_values.specs.Print.{joined, comma_before, compact_of};
 ghost use Rattle.schema_values.specs.PrintMember.{compact_member};
 ghost use Rattle.schema_values.specs.Reading.{Reads};
 ghost use Rattle.schema_values.specs.SortedMembers.{sorted_members};
 ghost use Rattle.schema_values.specs.Sound.{IsSound};
 
 use crate::json_value::{Json, Member};
+use crate::quoting::write_quoted;
 use crate::text::Text;
 use std::alloc::{AllocError, Global};
 
@@ -24,7 +25,7 @@ impl Json {
     }
 
     #[cycle(compact)]
-    fn write_compact(&self, alloc: Global, out: &mut Text) -> Result<(), AllocError>
+    pub(crate) fn write_compact(&self, alloc: Global, out: &mut Text) -> Result<(), AllocError>
         ensures { OnOk result (out.new ≡ out.old ++ compact_of self.now) }
     {
         match self {
@@ -83,46 +84,5 @@ pub(crate) fn write_truth(truth: bool, out: &mut Text) -> Result<(), AllocError>
         out.push_ascii("true")
     } else {
         out.push_ascii("false")
-    }
-}
-
-pub(crate) fn write_quoted(text: &Text, out: &mut Text) -> Result<(), AllocError>
-    ensures { OnOk result (out.new ≡ out.old ++ quoted text.now) }
-{
-    out.push('"')?;
-    for character in text.as_str().chars() {
-        write_escaped(character, out)?;
-    }
-    out.push('"')
-}
-
-#[tactic(auto, unfolding(crate::specs::Print::escape))]
-fn write_escaped(character: char, out: &mut Text) -> Result<(), AllocError>
-    ensures { OnOk result (out.new ≡ out.old ++ escape character) }
-{
-    match character {
-        '"' => out.push_ascii("\\\""),
-        '\\' => out.push_ascii("\\\\"),
-        '\u{8}' => out.push_ascii("\\b"),
-        '\t' => out.push_ascii("\\t"),
-        '\n' => out.push_ascii("\\n"),
-        '\u{c}' => out.push_ascii("\\f"),
-        '\r' => out.push_ascii("\\r"),
-        '\0'..='\u{1f}' => {
-            out.push_ascii("\\u00")?;
-            out.push(hex_digit_of(u32::from(character) / 16))?;
-            out.push(hex_digit_of(u32::from(character) % 16))
-        }
-        _ => out.push(character),
-    }
-}
-
-fn hex_digit_of(digit: u32) -> char
-    requires { digit < 16 }
-    ensures { result ≡ hex_digit digit }
-{
-    match char::from_digit(digit, 16) {
-        Some(character) => character,
-        None => unreachable!(),
     }
 }

@@ -7,9 +7,12 @@ ghost use Rattle.schema_values.specs.Sound.{IsSound};
 ghost use Rattle.schema_values.specs.declared.json_value.Json.{Json as JsonValue};
 
 use crate::json_value::Json;
+use crate::one_pass::{OnePassError, read_text};
 use crate::value::ValueError;
+use json::Scratch;
 use serde_json::Value;
 use std::alloc::Global;
+use std::str;
 use thiserror::Error;
 
 /// Why bytes were not read as a JSON value.
@@ -39,15 +42,55 @@ impl Json {
         ensures unreadable { IfErr result (λ e. e ≡ ReadError.Unreadable → (json : JsonValue)
             → Reads bytes.now json → ⊥) }
     {
-        let value = match Value::from_slice(alloc, bytes) {
-            Ok(value) => value,
-            Err(error) => return Err(read_error(&error)),
-        };
-        match Json::of_value(alloc, &value) {
-            Ok(json) => Ok(json),
-            Err(ValueError::HoldsFloat) => Err(ReadError::Unreadable),
-            Err(ValueError::OutOfMemory) => Err(ReadError::OutOfMemory),
-        }
+        let mut scratch = Scratch::new(alloc);
+        Json::read_with(alloc, &mut scratch, bytes)
+    }
+
+    /// The same as `read`, in room that a caller keeps from one text to the next.
+    pub fn read_with(alloc: Global, scratch: &mut Scratch, bytes: &[u8]) -> Result<Json, ReadError>
+        ensures ok { IfOk result (λ json. Reads bytes.now json) }
+        ensures sound { IfOk result (λ json. IsSound json) }
+        ensures ascending { IfOk result (λ json. IsAscending json) }
+        ensures nested { IfOk result (λ json. depth json ≤ 127) }
+        ensures complete { (json : JsonValue) → Reads bytes.now json
+            → IsOkUnless result ReadError.OutOfMemory }
+        ensures unreadable { IfErr result (λ e. e ≡ ReadError.Unreadable → (json : JsonValue)
+            → Reads bytes.now json → ⊥) }
+    {
+        read_bytes(alloc, scratch, bytes)
+    }
+}
+
+fn read_bytes(alloc: Global, scratch: &mut Scratch, bytes: &[u8]) -> Result<Json, ReadError>
+    ensures ok { IfOk result (λ json. Reads bytes.now json) }
+    ensures unreadable { IfErr result (λ e. e ≡ ReadError.Unreadable → (json : JsonValue)
+        → Reads bytes.now json → ⊥) }
+{
+    let Ok(text) = str::from_utf8(bytes) else {
+        return Err(ReadError::Unreadable);
+    };
+    match read_text(alloc, scratch, text) {
+        Ok(json) => Ok(json),
+        Err(OnePassError::Invalid) => Err(ReadError::Unreadable),
+        Err(OnePassError::OutOfMemory) => Err(ReadError::OutOfMemory),
+        Err(OnePassError::NotInOnePass) => read_through_value(alloc, bytes),
+    }
+}
+
+// The value by way of one of `serde_json`, which takes any text.
+fn read_through_value(alloc: Global, bytes: &[u8]) -> Result<Json, ReadError>
+    ensures ok { IfOk result (λ json. Reads bytes.now json) }
+    ensures unreadable { IfErr result (λ e. e ≡ ReadError.Unreadable → (json : JsonValue)
+        → Reads bytes.now json → ⊥) }
+{
+    let value = match Value::from_slice(alloc, bytes) {
+        Ok(value) => value,
+        Err(error) => return Err(read_error(&error)),
+    };
+    match Json::from_value(alloc, value) {
+        Ok(json) => Ok(json),
+        Err(ValueError::HoldsFloat) => Err(ReadError::Unreadable),
+        Err(ValueError::OutOfMemory) => Err(ReadError::OutOfMemory),
     }
 }
 

@@ -2,10 +2,9 @@ ghost use Rattle.std.specs.Prelude.{◌≡◌, IfOk};
 ghost use Rattle.schema_values.specs.declared.schema.SchemaObject.{out-SchemaObject};
 
 use crate::boxed::Boxed;
-use crate::leaf_copy::{copy_annotations, copy_text, copy_texts, copy_value_parts};
+use crate::leaf_copy::{Leaves, copy_leaves, copy_texts};
 use crate::list::List;
 use crate::schema::{ArrayParts, Items, ObjectParts, Property, Schema, SchemaObject, Subschemas};
-use crate::text::Text;
 use std::alloc::{AllocError, Global};
 
 impl Schema {
@@ -30,25 +29,29 @@ impl SchemaObject {
     pub fn copy(&self, alloc: Global) -> Result<SchemaObject, AllocError>
         ensures { IfOk result (λ copy. copy ≡ self.now) }
     {
-        let schemas = copy_schema_parts(alloc, self)?;
-        copy_around(alloc, self, schemas)
+        let nested = copy_nested_parts(alloc, self)?;
+        copy_around(alloc, self, nested)
     }
 }
 
-// The copy of a schema object, from the copies of its parts that have schemas within them.
+// The copy of a schema object, from the copies of its parts that have schemas within them. These come in a
+// box, so that one small value is dropped where the others are not copied.
 fn copy_around(
     alloc: Global,
     object: &SchemaObject,
-    schemas: SchemaParts,
+    nested: Boxed<NestedParts>,
 ) -> Result<SchemaObject, AllocError>
-    requires reference { schemas.reference ≡ (out-SchemaObject object.now).reference }
-    requires array { schemas.array ≡ (out-SchemaObject object.now).array }
-    requires object { schemas.object ≡ (out-SchemaObject object.now).object }
-    requires subschemas { schemas.subschemas ≡ (out-SchemaObject object.now).subschemas }
+    requires array { nested.array ≡ (out-SchemaObject object.now).array }
+    requires object { nested.object ≡ (out-SchemaObject object.now).object }
+    requires subschemas { nested.subschemas ≡ (out-SchemaObject object.now).subschemas }
     ensures { IfOk result (λ copy. copy ≡ object.now) }
 {
-    let annotations = copy_annotations(alloc, object)?;
-    let values = copy_value_parts(alloc, object)?;
+    let Leaves {
+        reference,
+        annotations,
+        values,
+    } = copy_leaves(alloc, object)?;
+    let nested = nested.into_inner();
     Ok(SchemaObject {
         title: annotations.title,
         description: annotations.description,
@@ -61,39 +64,37 @@ fn copy_around(
         format: values.format,
         enum_values: values.enum_values,
         const_value: values.const_value,
-        subschemas: schemas.subschemas,
+        subschemas: nested.subschemas,
         number: values.number,
         string: values.string,
-        array: schemas.array,
-        object: schemas.object,
-        reference: schemas.reference,
+        array: nested.array,
+        object: nested.object,
+        reference,
         extensions: annotations.extensions,
     })
 }
 
-// The parts of a schema object that have schemas within them, or name one.
+// The parts of a schema object that have schemas within them.
 #[derive(Drop)]
-struct SchemaParts {
-    reference: Option<Text>,
+struct NestedParts {
     array: Option<ArrayParts>,
     object: Option<ObjectParts>,
     subschemas: Option<Subschemas>,
 }
 
 #[cycle(schema_copy)]
-fn copy_schema_parts(alloc: Global, object: &SchemaObject) -> Result<SchemaParts, AllocError>
-    ensures reference { IfOk result (λ copy. copy.reference ≡ (out-SchemaObject object.now).reference) }
+fn copy_nested_parts(alloc: Global, object: &SchemaObject) -> Result<Boxed<NestedParts>, AllocError>
     ensures array { IfOk result (λ copy. copy.array ≡ (out-SchemaObject object.now).array) }
     ensures object { IfOk result (λ copy. copy.object ≡ (out-SchemaObject object.now).object) }
     ensures subschemas { IfOk result (λ copy. copy.subschemas
         ≡ (out-SchemaObject object.now).subschemas) }
 {
-    Ok(SchemaParts {
-        reference: copy_text(alloc, &object.reference)?,
+    let nested = NestedParts {
         array: copy_array(alloc, &object.array)?,
         object: copy_object(alloc, &object.object)?,
         subschemas: copy_subschemas(alloc, &object.subschemas)?,
-    })
+    };
+    Boxed::new(alloc, nested)
 }
 
 impl Subschemas {

@@ -39,25 +39,39 @@ impl From<AllocError> for ValueError {
 }
 
 impl Json {
-    /// The same value, with the members of each object in ascending order of names.
+    /// The same value, with the members of each object in ascending order of names. Its texts are taken over
+    /// without a copy.
     ///
     /// `HoldsFloat` exactly where it holds a number that is no integer of 64 bits, but for want of
     /// memory.
-    #[cycle(of_value)]
+    #[cycle(from_value)]
+    pub fn from_value(alloc: Global, value: Value) -> Result<Json, ValueError>
+        ensures ok { IfOk result (λ json. json_of (view value) ≡ Some json) }
+        ensures sound { IfOk result (λ json. IsSound json) }
+        ensures ascending { IfOk result (λ json. IsAscending json) }
+        ensures err { IfErr result (λ e. e ≡ ValueError.HoldsFloat → json_of (view value) ≡ None) }
+    {
+        match value {
+            Value::Null => Ok(Json::Null),
+            Value::Bool(truth) => Ok(Json::Bool(truth)),
+            Value::Number(number) => int_of_number(&number),
+            Value::String(text) => Ok(Json::Text(Text::from_string(text))),
+            Value::Array(values) => Ok(Json::List(items_of_values(alloc, values)?)),
+            Value::Object(members) => Ok(Json::Object(members_of_map(alloc, members)?)),
+        }
+    }
+
+    /// The same value, as `from_value` gives it of a copy.
+    ///
+    /// `HoldsFloat` exactly where it holds a number that is no integer of 64 bits, but for want of
+    /// memory.
     pub fn of_value(alloc: Global, value: &Value) -> Result<Json, ValueError>
         ensures ok { IfOk result (λ json. json_of (view value.now) ≡ Some json) }
         ensures sound { IfOk result (λ json. IsSound json) }
         ensures ascending { IfOk result (λ json. IsAscending json) }
         ensures err { IfErr result (λ e. e ≡ ValueError.HoldsFloat → json_of (view value.now) ≡ None) }
     {
-        match value {
-            Value::Null => Ok(Json::Null),
-            Value::Bool(truth) => Ok(Json::Bool(*truth)),
-            Value::Number(number) => int_of_number(number),
-            Value::String(text) => Ok(Json::Text(Text::from_str(alloc, text.as_str())?)),
-            Value::Array(values) => Ok(Json::List(items_of_values(alloc, values)?)),
-            Value::Object(members) => Ok(Json::Object(members_of_map(alloc, members)?)),
-        }
+        Json::from_value(alloc, value.clone()?)
     }
 
     /// The same value as one of `serde_json`, whose objects have their members in ascending order of names.
@@ -80,33 +94,33 @@ impl Json {
     }
 }
 
-#[cycle(of_value)]
-fn items_of_values(alloc: Global, values: &Vec<Value>) -> Result<List<Json>, ValueError>
-    ensures ok { IfOk result (λ items. items_of (items_view values.now.items) ≡ Some items) }
+#[cycle(from_value)]
+fn items_of_values(alloc: Global, values: Vec<Value>) -> Result<List<Json>, ValueError>
+    ensures ok { IfOk result (λ items. items_of (items_view values.items) ≡ Some items) }
     ensures sound { IfOk result (λ items. AllByRecursion IsSound items) }
     ensures ascending { IfOk result (λ items. AllByRecursion IsAscending items) }
     ensures err { IfErr result (λ e. e ≡ ValueError.HoldsFloat
-        → items_of (items_view values.now.items) ≡ None) }
+        → items_of (items_view values.items) ≡ None) }
 {
     let mut items = List::new(alloc);
     for value in values {
-        items.push(Json::of_value(alloc, value)?)?;
+        items.push(Json::from_value(alloc, value)?)?;
     }
     Ok(items)
 }
 
-#[cycle(of_value)]
-fn members_of_map(alloc: Global, map: &Map<String, Value>) -> Result<List<Member>, ValueError>
-    ensures ok { IfOk result (λ members. members_of (members_view map.now.entries) ≡ Some members) }
+#[cycle(from_value)]
+fn members_of_map(alloc: Global, map: Map<String, Value>) -> Result<List<Member>, ValueError>
+    ensures ok { IfOk result (λ members. members_of (members_view map.entries) ≡ Some members) }
     ensures sound { IfOk result (λ members. HasSoundMembers members) }
     ensures ascending { IfOk result (λ members. HasAscendingMembers members) }
     ensures err { IfErr result (λ e. e ≡ ValueError.HoldsFloat
-        → members_of (members_view map.now.entries) ≡ None) }
+        → members_of (members_view map.entries) ≡ None) }
 {
     let mut members = List::new(alloc);
-    for (key, value) in map.iter() {
-        let name = Text::from_str(alloc, key.as_str())?;
-        let value = Json::of_value(alloc, value)?;
+    for (key, value) in map {
+        let name = Text::from_string(key);
+        let value = Json::from_value(alloc, value)?;
         members.push(Member { name, value })?;
     }
     Ok(members)

@@ -12,7 +12,7 @@ use Rattle.schema_values.specs.declared.json_value.Member.{Member}
 use Rattle.schema_values.specs.Member.{name_of}
 use Rattle.schema_values.specs.Sound.{IsSound, AreDistinct}
 use Rattle.schema_values.specs.SoundMembers.{HasSoundValue, HasSoundMembers}
-use Rattle.schema_values.proofs.SoundLemmas.{IsSound-List, IsSound-Object}
+use Rattle.schema_values.proofs.CallerLemmas.{IsSound-List, IsSound-Object, contains_first, contains_later, contains_cases}
 use Rattle.typed_values.specs.declared.desc.Desc.{Desc, Null as NullDesc, Option as OptionOf, out-Desc}
 use Rattle.typed_values.specs.declared.desc.Desc.TheOpen.{Desc-F}
 use Rattle.typed_values.specs.declared.desc.Desc.TheVariants as desc
@@ -38,7 +38,6 @@ use Rattle.typed_values.proofs.Arms.{definition_is_part}
 use Rattle.typed_values.proofs.DenotedRows.{Gives, shown, below_gives, undenied, trees_of, whole_gives, nought_gives, truth_gives, character_gives, number_gives, words_give, name_gives, just_gives, optional_gives, items_give, entries_give, fields_give, choice_gives, bare_gives, payload_gives, tagged_gives}
 use Rattle.typed_values.proofs.FitRows.{skipped_desc}
 use Rattle.typed_values.proofs.FitSteps.{fits_row, nought_row, skipped_row, struct_row}
-use Rattle.schema_values.proofs.Contained.{contains_first, contains_later, contains_cases}
 use Rattle.typed_values.proofs.Inside.{part_of_option, part_of_list, part_of_map, parts_of_untagged, fields_of_struct, payloads_of_external, variants_of_tagged}
 use Rattle.typed_values.proofs.Narrower.{same_fits}
 use Rattle.typed_values.proofs.Rows.{row_at}

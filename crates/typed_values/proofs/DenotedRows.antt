@@ -8,7 +8,7 @@ use Rattle.schema_values.specs.declared.json_value.Json.{Json, out-Json}
 use Rattle.schema_values.specs.declared.json_value.Json.TheOpen.{Json-F}
 use Rattle.schema_values.specs.declared.json_value.Member.{Member}
 use Rattle.schema_values.specs.Sound.{IsSound, AreDistinct}
-use Rattle.schema_values.proofs.SoundTests.{sound-decides}
+use Rattle.schema_values.proofs.CallerLemmas.{sound-decides, contains_first, contains_later, all_sorted}
 use Rattle.typed_values.specs.declared.desc.Desc.{Desc, Null as NullDesc}
 use Rattle.typed_values.specs.declared.desc.Field.{Field}
 use Rattle.typed_values.specs.declared.desc.IntKind.{IntKind}
@@ -32,10 +32,8 @@ use Rattle.typed_values.specs.Levels.{TreeOf}
 use Rattle.schema_values.specs.Order.{sorted_by}
 use Rattle.typed_values.proofs.Arms.{bare_told, not_bare, payload_told, no_payload, at_tag_text, at_tag_other}
 use Rattle.typed_values.proofs.FitRows.{given_row, place_row}
-use Rattle.schema_values.proofs.Contained.{contains_first, contains_later}
 use Rattle.typed_values.proofs.Listed.{place_below, found_there, found_inside}
 use Rattle.typed_values.proofs.Ordered.{sorted_ascends, ascending_told}
-use Rattle.schema_values.proofs.SortedLemmas.{all_sorted}
 
 -- whatever tree is told passes a test
 abbrev pub Gives : Told → (Tree → Bool) → Type 0

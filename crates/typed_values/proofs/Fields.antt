@@ -19,7 +19,7 @@ use Rattle.typed_values.specs.Checks.{names_of_fields, lists_of_names, HasDouble
 use Rattle.typed_values.specs.Fits.{Fits}
 use Rattle.typed_values.specs.Levels.{DescLevel}
 use Rattle.typed_values.proofs.Found.{same_or_not}
-use Rattle.schema_values.proofs.Contained.{contains_first, contains_later, contains_cases}
+use Rattle.schema_values.proofs.CallerLemmas.{contains_first, contains_later, contains_cases}
 
 module _ {A : Type 0} (name_of : A → List ℕ) where
   others_of : (name : List ℕ) (xs : List A) → AllByRecursion (λ other. name ≢ other) (map name_of xs) → AllByRecursion (λ x. name ≢ name_of x) xs

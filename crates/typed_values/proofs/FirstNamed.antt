@@ -19,8 +19,7 @@ use Rattle.schema_values.specs.Order.{at_place, inserted_by, sorted_by}
 use Rattle.typed_values.specs.Order.{first_by}
 use Rattle.typed_values.proofs.Found.{other_name}
 use Rattle.typed_values.proofs.Places.{same_text}
-use Rattle.schema_values.proofs.SortedLemmas.{map_sorted}
-use Rattle.schema_values.proofs.Stable.{less, kept_sorted, none_before_at}
+use Rattle.schema_values.proofs.CallerLemmas.{map_sorted, less, kept_sorted, none_before_at}
 
 -- ---- the first of a name
 

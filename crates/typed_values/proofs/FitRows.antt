@@ -21,7 +21,7 @@ use Rattle.typed_values.specs.Fits.{field_desc, fields_fit, whole_fits, nought_f
 use Rattle.typed_values.specs.Resting.{Rests}
 use Rattle.typed_values.specs.Levels.{DescLevel}
 use Rattle.typed_values.proofs.FitSteps.{fits_row}
-use Rattle.schema_values.proofs.Contained.{contains_first, contains_later}
+use Rattle.schema_values.proofs.CallerLemmas.{contains_first, contains_later}
 
 module _ (table : List Definition) (whole : Desc) (t : Tree) (d : Desc) (h : Rests table (room table whole) d) where
   row_at : (y : DescLevel) → out-Desc d ≡ y → fits_under table whole t d ≡ fits_by table (fits_under table whole) (fits_under table whole t) y (out-Tree t)

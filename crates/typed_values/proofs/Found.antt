@@ -4,7 +4,7 @@ use Rattle.std.proofs.lemmas.Slice.Eq.{bytes_eq-Decides}
 use Rattle.std.specs.Prelude.{◌≢◌, Contains}
 use Rattle.std.specs.List.{AllByRecursion}
 use Rattle.schema_values.specs.Sound.{AreDistinct}
-use Rattle.schema_values.proofs.Contained.{contains_first, contains_later, contains_cases}
+use Rattle.schema_values.proofs.CallerLemmas.{contains_first, contains_later, contains_cases}
 use Rattle.typed_values.specs.declared.desc.Desc.{Desc}
 use Rattle.typed_values.specs.declared.table.Definition.{Definition}
 use Rattle.typed_values.specs.Definitions.{definition, entry_of, definition_name}

@@ -15,7 +15,7 @@ use Rattle.typed_values.specs.declared.table.Definition.{Definition}
 use Rattle.typed_values.specs.Definitions.{definition_name, entry_of}
 use Rattle.typed_values.specs.Index.{name_at, IsIndex, IsTable, IsGapFor}
 use Rattle.typed_values.proofs.Found.{other_name, same_name, all_names, distinct_more}
-use Rattle.schema_values.proofs.Contained.{contains_first, contains_later}
+use Rattle.schema_values.proofs.CallerLemmas.{contains_first, contains_later}
 use Rattle.typed_values.proofs.Places.{apart, not_below}
 
 -- ---- what a search finds

@@ -9,7 +9,7 @@ use Rattle.typed_values.specs.declared.desc.Desc.{Desc}
 use Rattle.typed_values.specs.declared.table.Definition.{Definition}
 use Rattle.typed_values.specs.Denotes.{value_named, member_name}
 use Rattle.schema_values.specs.Order.{sorted_by}
-use Rattle.schema_values.proofs.SortedLemmas.{all_sorted}
+use Rattle.schema_values.proofs.CallerLemmas.{all_sorted}
 use Rattle.typed_values.proofs.Measure.{size_alone, alone-lt-next}
 
 pub size_list : (js : List Json) → size-Json (JsonList js) ≡ suc (most size-Json js)

@@ -5,7 +5,7 @@ use Rattle.std.proofs.lemmas.Slice.Eq.{bytes_eq-Decides}
 use Rattle.std.specs.Prelude.{Contains, slice_get}
 use Rattle.typed_values.specs.Denotes.{named_from}
 use Rattle.typed_values.proofs.Found.{other_name}
-use Rattle.schema_values.proofs.Contained.{contains_later}
+use Rattle.schema_values.proofs.CallerLemmas.{contains_later}
 
 module _ {X : Type 0} (name_of : X → List ℕ) (xs : List X) (name : List ℕ) (i : ℕ) (x : X) (h : i < length xs) (is : x ≡ get_or xs i x) where
   next_named : named_from name_of i (drop i xs) name ≡ cond (bytes_eq (name_of x) name) (Some (i, x)) (named_from name_of (i + 1) (drop (i + 1) xs) name)

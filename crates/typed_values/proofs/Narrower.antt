@@ -26,7 +26,7 @@ use Rattle.typed_values.specs.Resting.{RestsBy, Rests}
 use Rattle.typed_values.proofs.Arms.{definition_is_part}
 use Rattle.typed_values.proofs.FitRows.{alternative_inside, skipped_desc}
 use Rattle.typed_values.proofs.FitSteps.{fits_row, nought_row, skipped_row, struct_row}
-use Rattle.schema_values.proofs.Contained.{contains_first, contains_later}
+use Rattle.schema_values.proofs.CallerLemmas.{contains_first, contains_later}
 use Rattle.typed_values.proofs.Inside.{part_of}
 use Rattle.typed_values.proofs.Soundness.{guarded_rests, is_right}
 use Rattle.typed_values.proofs.TreeParts.{OfParts, by_parts, parts_weaker}

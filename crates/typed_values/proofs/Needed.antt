@@ -11,7 +11,7 @@ use Rattle.typed_values.specs.Definitions.{definition, entry_of, tagged_fields}
 use Rattle.typed_values.specs.Parts.{StandsIn, the_whole, in_option, in_list, in_map, in_field, in_payload, in_variant, in_alternative, IsPart, of_whole as part_of_whole, of_table}
 use Rattle.typed_values.specs.Reached.{IsReached, directly, through}
 use Rattle.typed_values.proofs.Found.{definition_is}
-use Rattle.schema_values.proofs.Contained.{contains_first, contains_later}
+use Rattle.schema_values.proofs.CallerLemmas.{contains_first, contains_later}
 
 -- it stands in the whole descriptor, or in a definition that this reaches
 pub data IsNeeded (table : List Definition) (whole d : Desc) : Type 0 where

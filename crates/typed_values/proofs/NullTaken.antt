@@ -14,7 +14,7 @@ use Rattle.typed_values.specs.Denotes.{Told, room, told, or_else, first_told, at
 use Rattle.typed_values.specs.Rows.{row}
 use Rattle.typed_values.specs.Resting.{RestsBy, Rests, AllRest}
 use Rattle.typed_values.specs.Levels.{DescLevel}
-use Rattle.schema_values.proofs.Contained.{contains_first, contains_later}
+use Rattle.schema_values.proofs.CallerLemmas.{contains_first, contains_later}
 use Rattle.typed_values.proofs.Needed.{IsNeeded, needed_part, alternative_needed, definition_needed}
 use Rattle.typed_values.proofs.Rows.{row_at}
 use Rattle.typed_values.proofs.Soundness.{each_of}

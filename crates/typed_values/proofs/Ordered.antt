@@ -7,13 +7,11 @@ use Rattle.std.specs.Cmp.Lexicographic.{slice_cmp}
 use Rattle.std.specs.List.{AllByRecursion}
 use Rattle.std.specs.List.Sorted.{IsStrictlySortedBy}
 use Rattle.std.specs.Ordering.{ordering_reverse}
-use Rattle.schema_values.proofs.DistinctLemmas.{Below, below_all}
-use Rattle.schema_values.proofs.SoundLemmas.{all-push}
+use Rattle.schema_values.proofs.CallerLemmas.{Below, below_all, all-push, all_inserted}
 use Rattle.schema_values.specs.Sound.{AreDistinct}
 use Rattle.typed_values.specs.Fits.{is_less, are_ascending}
 use Rattle.schema_values.specs.Order.{at_place, inserted_by, sorted_by}
 use Rattle.typed_values.proofs.Places.{same_text}
-use Rattle.schema_values.proofs.SortedLemmas.{all_inserted}
 
 -- each name is below all behind it
 abbrev pub Ascends : List (List ℕ) → Type 0

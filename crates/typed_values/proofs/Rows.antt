@@ -25,7 +25,7 @@ use Rattle.schema_values.specs.Order.{sorted_by}
 use Rattle.typed_values.specs.Resting.{Rests}
 use Rattle.typed_values.specs.Rows.{told_item, told_entry, value_denotes, told_field, told_fields, list_row, map_row, struct_row, row}
 use Rattle.typed_values.specs.Levels.{DescLevel}
-use Rattle.schema_values.proofs.SortedLemmas.{map_sorted}
+use Rattle.schema_values.proofs.CallerLemmas.{map_sorted}
 use Rattle.typed_values.proofs.Steps.{told_row}
 
 module _ {X : Type 0} (f : Json → X) where

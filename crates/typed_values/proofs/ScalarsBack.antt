@@ -4,7 +4,7 @@ use Rattle.std.proofs.lemmas.Bool.{and_parts}
 use Rattle.std.proofs.lemmas.Int.{ints}
 use Rattle.std.specs.List.{AllByRecursion}
 use Rattle.std.specs.Prelude.{nat_lt, slice_get}
-use Rattle.schema_values.proofs.SoundTests.{sound-decides}
+use Rattle.schema_values.proofs.CallerLemmas.{sound-decides}
 use Rattle.schema_values.specs.declared.json_value.Json.{Json, Null, Text as WordsJson, out-Json}
 use Rattle.schema_values.specs.declared.json_value.Json.TheVariants as json
 use Rattle.schema_values.specs.Sound.{AreDistinct, IsWhole, IsSound}

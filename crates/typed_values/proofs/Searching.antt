@@ -20,7 +20,7 @@ use Rattle.typed_values.specs.Checks.{TakesNull, any_value, null_itself, an_opti
 use Rattle.typed_values.specs.Guarded.{Names, named_here, named_in_option, named_in_alternative, Reaches, at_once, through}
 use Rattle.typed_values.specs.Search.{HoldsNull, any_held, null_held, held_here, held_in_alternative, Meets, Leads, it_meets, it_names, all_met, with_met, on_path, with_path, IsMet, IsDone, IsNext, IsSearch, SomeLeads}
 use Rattle.typed_values.proofs.Found.{eq_false, entry_found}
-use Rattle.schema_values.proofs.Contained.{contains_first, contains_later, contains_cases}
+use Rattle.schema_values.proofs.CallerLemmas.{contains_first, contains_later, contains_cases}
 
 -- the measure: the definitions of a table that are not met
 unfoldable pub has_name : List Definition → List ℕ → Bool

@@ -13,7 +13,7 @@ use Rattle.typed_values.specs.Resting.{EachRests, RestsBy, Rests, AllRest}
 use Rattle.typed_values.specs.Checks.{IsPlainlyRight, TablePasses, DescPasses}
 use Rattle.typed_values.specs.Levels.{DescLevel}
 use Rattle.typed_values.proofs.Found.{other_name, same_name, same_or_not, entry_found}
-use Rattle.schema_values.proofs.Contained.{contains_first, contains_later, contains_cases}
+use Rattle.schema_values.proofs.CallerLemmas.{contains_first, contains_later, contains_cases}
 use Rattle.typed_values.proofs.Tops.{top, tops, top_at, top_positive, top_fits, tops_fit, other_tops_fit, map_sum, through_option, through_alternative, stands_inside}
 
 -- a table without the first definition of a name

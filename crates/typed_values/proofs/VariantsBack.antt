@@ -8,7 +8,7 @@ use Rattle.schema_values.specs.declared.json_value.Json.TheVariants as json
 use Rattle.schema_values.specs.declared.json_value.Member.{Member}
 use Rattle.schema_values.specs.Member.{member}
 use Rattle.schema_values.specs.Sound.{AreDistinct}
-use Rattle.schema_values.proofs.SoundLemmas.{IsSound-Object}
+use Rattle.schema_values.proofs.CallerLemmas.{IsSound-Object}
 use Rattle.std.specs.declared.result.Result.TheVariants.{Ok}
 use Rattle.typed_values.specs.declared.desc.Desc.{Desc}
 use Rattle.typed_values.specs.declared.desc.Field.{Field}

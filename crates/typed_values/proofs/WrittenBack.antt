@@ -12,8 +12,7 @@ use Rattle.schema_values.specs.declared.json_value.Json.TheVariants as json
 use Rattle.schema_values.specs.declared.json_value.Member.{Member}
 use Rattle.schema_values.specs.Sound.{AreDistinct, IsSound as IsSoundValue}
 use Rattle.schema_values.specs.SoundMembers.{HasSoundValue}
-use Rattle.schema_values.proofs.DistinctLemmas.{AreDistinct-sorted}
-use Rattle.schema_values.proofs.SoundLemmas.{IsSound-List, IsSound-Object}
+use Rattle.schema_values.proofs.CallerLemmas.{AreDistinct-sorted, IsSound-List, IsSound-Object, contains_first, contains_later}
 use Rattle.schema_values.specs.Member.{member, name_of}
 use Rattle.typed_values.specs.declared.desc.Desc.{Desc, Null as NullDesc, out-Desc}
 use Rattle.typed_values.specs.declared.desc.Desc.TheOpen.{Desc-F}
@@ -48,7 +47,6 @@ use Rattle.typed_values.proofs.EncodeRows.{tag_before}
 use Rattle.typed_values.proofs.EncodeSteps.{is_none_tree, written_row, skipped_written, struct_written}
 use Rattle.typed_values.proofs.FitRows.{alternative_inside, skipped_desc}
 use Rattle.typed_values.proofs.FitSteps.{fits_row, nought_row, skipped_row, struct_row as struct_fits_row}
-use Rattle.schema_values.proofs.Contained.{contains_first, contains_later}
 use Rattle.typed_values.proofs.Needed.{IsNeeded, of_whole, of_reached, needed_part, option_needed, list_needed, map_needed, field_needed, payload_needed, variant_needed, alternative_needed, definition_needed}
 use Rattle.typed_values.proofs.Ordered.{Ascends, sorted_stays}
 use Rattle.typed_values.proofs.Rows.{two_maps, row_at}

@@ -16,7 +16,7 @@ use Rattle.typed_values.specs.Encoding.{is_left_out, unless, members_written}
 use Rattle.typed_values.specs.Fits.{field_desc}
 use Rattle.typed_values.proofs.EncodeSteps.{is_none_tree}
 use Rattle.typed_values.proofs.Found.{other_name, same_name}
-use Rattle.schema_values.proofs.Contained.{contains_first, contains_later, contains_cases}
+use Rattle.schema_values.proofs.CallerLemmas.{contains_first, contains_later, contains_cases}
 
 -- a fact of each field and its tree
 abbrev pub Beside : (Field → Tree → Type 0) → List Field → List Tree → Type 0

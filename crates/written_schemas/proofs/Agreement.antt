@@ -16,7 +16,7 @@ use Rattle.typed_values.specs.SchemaTable.{drawn, other_members, schema_json}
 use Rattle.typed_values.specs.Levels.{DescLevel}
 use Rattle.typed_values.proofs.Fields.{names_apart, fields_distinct}
 use Rattle.typed_values.proofs.Found.{definition_is}
-use Rattle.schema_values.proofs.Contained.{contains_cases}
+use Rattle.schema_values.proofs.CallerLemmas.{contains_cases}
 use Rattle.typed_values.proofs.Needed.{IsNeeded, needed_part, option_needed, list_needed, map_needed, field_needed, payload_needed, variant_needed, alternative_needed, reference_reached, reference_needed}
 use Rattle.typed_values.proofs.Rows.{row_at}
 use Rattle.typed_values.proofs.Soundness.{each_of, is_right}

@@ -3,8 +3,7 @@ use Rattle.std.proofs.Common.{◌↔◌, ℕ, List, map, sym, ap, subst}
 use Rattle.std.specs.List.{list_all}
 use Rattle.schema_values.specs.declared.json_value.Json.{Json}
 use Rattle.schema_values.specs.Reading.{Reads}
-use Rattle.schema_values.proofs.OneReading.{one_reading}
-use Rattle.schema_values.proofs.SoundReadings.{reading_sound}
+use Rattle.schema_values.proofs.CallerLemmas.{one_reading, reading_sound}
 use Rattle.openapi_values.specs.declared.document.OpenApi.{OpenApi}
 use Rattle.openapi_values.specs.declared.request.WireRequest.{WireRequest}
 use Rattle.openapi_values.specs.Admits.{Admits}

@@ -8,7 +8,7 @@ use Rattle.schema_values.specs.declared.json_value.Json.TheViews.{roll-Json, rol
 use Rattle.schema_values.specs.declared.json_value.Member.{Member}
 use Rattle.schema_values.specs.Sound.{IsSound as IsSoundValue}
 use Rattle.schema_values.specs.SoundMembers.{HasSoundValue}
-use Rattle.schema_values.proofs.SoundLemmas.{IsSound-List, IsSound-Object}
+use Rattle.schema_values.proofs.CallerLemmas.{IsSound-List, IsSound-Object, OfParts, by_parts}
 use Rattle.typed_values.specs.declared.desc.Desc.{Desc}
 use Rattle.typed_values.specs.declared.table.Definition.{Definition}
 use Rattle.typed_values.specs.Checks.{TablePasses, DescPasses}
@@ -19,7 +19,6 @@ use Rattle.written_schemas.specs.Reached.{DefinesReached}
 use Rattle.written_schemas.proofs.Costs.{cost}
 use Rattle.written_schemas.proofs.AtOneValue.{Agrees, Below}
 use Rattle.written_schemas.proofs.Agreement.{agree_at}
-use Rattle.schema_values.proofs.JsonParts.{OfParts, by_parts}
 
 module _ (table : List Definition) (whole : Desc) (doc : Json) (q : ℕ) (passes : TablePasses table) (right : DescPasses table whole) (sound : AllRest table whole) (defines : DefinesReached doc table whole) (some : 1 ≤ q)
     (bounded : (d : Desc) → IsNeeded table whole d → cost table (room table whole) d ≤ q) where

@@ -27,7 +27,7 @@ use Rattle.typed_values.specs.DescBeside.{tagged_with, variant_with}
 use Rattle.schema_values.specs.Order.{sorted_by, same_name}
 use Rattle.typed_values.specs.SchemaTable.{Drawn, DrawnVariant, Remarks, drawn, drawn_json, drawn_step, defaulted, described, annotated, annotations, if_members, if_names, if_denied, plain, enumerated, is_described, choices_of, other_members, bare_names, payload_choices, tagged_choice, schema_json}
 use Rattle.typed_values.specs.Levels.{DescLevel}
-use Rattle.schema_values.proofs.Contained.{contains_cases, contains_first, contains_later}
+use Rattle.schema_values.proofs.CallerLemmas.{contains_cases, contains_first, contains_later}
 use Rattle.written_schemas.proofs.Notes.{noted}
 use Rattle.written_schemas.proofs.Composites.{counts}
 use Rattle.written_schemas.proofs.Sorted.{sum_sorted}

@@ -33,7 +33,7 @@ use Rattle.typed_values.specs.Levels.{DescLevel}
 use Rattle.typed_values.proofs.Induction.{InField, InFields, InTagged, InVariant, KnownLevel, firsts, by_levels, each_holds}
 use Rattle.typed_values.proofs.Rows.{two_maps}
 use Rattle.typed_values.proofs.SchemaRows.{parts_row, sketch_level, sketch_row}
-use Rattle.schema_values.proofs.SortedLemmas.{map_sorted}
+use Rattle.schema_values.proofs.CallerLemmas.{map_sorted}
 use Rattle.written_schemas.proofs.DrawnParts.{Shows, Bare, Dressed, IsAnnotated, written_under, written_bare, written_so, null_shows, described_shows, defaulted_shows}
 use Rattle.written_schemas.proofs.Forms.{drawn_level, drawn_row, field_property}
 use Rattle.written_schemas.proofs.SchemaForms.{annotatable_is_free, enumeration_is_free, unmarked}

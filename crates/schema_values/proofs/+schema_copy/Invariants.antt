@@ -15,8 +15,8 @@ decreases-schema::Schema::copy l = 8 * size-Schema l.self.now
 abbrev pub decreases-schema::SchemaObject::copy : goal.decreases-schema::SchemaObject::copy
 decreases-schema::SchemaObject::copy l = 8 * size-SchemaObject l.self.now + 7
 
-abbrev pub decreases-schema_copy::copy_schema_parts : goal.decreases-schema_copy::copy_schema_parts
-decreases-schema_copy::copy_schema_parts l = 8 * size-SchemaObject l.object.now + 6
+abbrev pub decreases-schema_copy::copy_nested_parts : goal.decreases-schema_copy::copy_nested_parts
+decreases-schema_copy::copy_nested_parts l = 8 * size-SchemaObject l.object.now + 6
 
 abbrev pub decreases-schema_copy::copy_array : goal.decreases-schema_copy::copy_array
 decreases-schema_copy::copy_array l = 8 * unwrap_or (option_map size-ArrayParts l.array.now) 0 + 5

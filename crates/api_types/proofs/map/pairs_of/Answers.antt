@@ -1,7 +1,7 @@
 use Rattle.std.proofs.Common.{◌≡◌, ℕ, List, [], ◌∷◌, ◌++◌, sym, ◌∙◌, ap, subst}
 use Rattle.std.proofs.lemmas.List.{append_assoc, append-nil, map-append}
 use Rattle.std.specs.Map.{keys_of}
-use Rattle.schema_values.proofs.SoundLemmas.{all-push}
+use Rattle.schema_values.proofs.CallerLemmas.{all-push}
 use Rattle.typed_values.specs.Denotes.{pair}
 use Rattle.api_types.specs.Maps.{pair_of, value_of}
 use Rattle.api_types.specs.Types.{FitsEach}

@@ -1,6 +1,6 @@
 use Rattle.std.proofs.Common.{ap, ◌∙◌}
 use Rattle.std.proofs.lemmas.Str.{chars-IsAscii}
-use Rattle.schema_values.proofs.TextLemmas.{IsAscii-from_test}
+use Rattle.schema_values.proofs.CallerLemmas.{IsAscii-from_test}
 use Rattle.schema_values.specs.Get.{get_of}
 use Rattle.contract_tool.proofs.request_line.value_of.Goals as goal
 

@@ -1,6 +1,6 @@
 use Rattle.std.proofs.lemmas.Str.{IsUtf8-from_ascii}
 use Rattle.openapi_values.proofs.After.{after_cases}
-use Rattle.schema_values.proofs.TextLemmas.{IsAscii-from_test}
+use Rattle.schema_values.proofs.CallerLemmas.{IsAscii-from_test}
 use Rattle.openapi_values.proofs.keywords.str_after.Goals as goal
 
 pub returns : goal.returns

@@ -1,5 +1,5 @@
 use Rattle.std.proofs.Common.{◌≡◌, ◌∙◌, codes}
-use Rattle.schema_values.proofs.SoundLemmas.{items_sound}
+use Rattle.schema_values.proofs.CallerLemmas.{items_sound}
 use Rattle.openapi_values.proofs.SoundLevels.{found_sound}
 use Rattle.request_admission.proofs.Found.{found}
 use Rattle.request_admission.proofs.parameters.parameters_hold.Goals as goal

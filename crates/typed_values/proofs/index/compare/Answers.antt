@@ -1,7 +1,7 @@
 use Rattle.std.proofs.Common.{◌∙◌, sym, ap₂, chars, nat_cmp}
 use Rattle.std.proofs.lemmas.Str.{encodes-chars}
 use Rattle.std.specs.Cmp.Lexicographic.{slice_cmp}
-use Rattle.schema_values.proofs.Utf8Order.{cmp-encodes}
+use Rattle.schema_values.proofs.CallerLemmas.{cmp-encodes}
 use Rattle.typed_values.proofs.index.compare.Goals as goal
 
 pub returns : goal.returns

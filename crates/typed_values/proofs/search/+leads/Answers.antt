@@ -3,7 +3,7 @@ use Rattle.std.specs.Option.{option_copied}
 use Rattle.typed_values.specs.declared.desc.Desc.{Desc}
 use Rattle.typed_values.specs.declared.search.Path.{out-Path}
 use Rattle.typed_values.specs.Search.{Meets, it_meets, all_met, on_path, IsSearch, SomeLeads}
-use Rattle.schema_values.proofs.Contained.{contains_first}
+use Rattle.schema_values.proofs.CallerLemmas.{contains_first}
 use Rattle.typed_values.proofs.Searching.{met_longer, path_longer, path_split, before_path, fewer, deeper, deeper_leads, back, back_leads, none_leads}
 use Rattle.typed_values.proofs.search.+leads.Goals as goal
 

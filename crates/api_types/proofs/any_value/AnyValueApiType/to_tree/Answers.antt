@@ -1,4 +1,4 @@
-use Rattle.schema_values.proofs.SoundTests.{sound-decides}
+use Rattle.schema_values.proofs.CallerLemmas.{sound-decides}
 use Rattle.api_types.proofs.Leaves.{whole_each}
 use Rattle.api_types.proofs.any_value.AnyValueApiType.to_tree.Goals as goal
 

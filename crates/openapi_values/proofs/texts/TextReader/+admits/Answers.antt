@@ -2,7 +2,7 @@ use Rattle.std.proofs.Common.{◌≡◌, ◌∙◌, suc, Bool, option_map, take,
 use Rattle.std.proofs.lemmas.List.{length-take}
 use Rattle.std.proofs.lemmas.List.Sums.{count_by-le-length}
 use Rattle.schema_values.specs.declared.json_value.Json.{Json}
-use Rattle.schema_values.proofs.SoundLemmas.{items_sound, members_sound}
+use Rattle.schema_values.proofs.CallerLemmas.{items_sound, members_sound}
 use Rattle.openapi_values.specs.Steps.{left}
 use Rattle.openapi_values.specs.TextAdmits.{text_within}
 use Rattle.openapi_values.proofs.SoundLevels.{named_sound, definition_sound}

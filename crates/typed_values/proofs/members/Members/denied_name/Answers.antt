@@ -10,7 +10,7 @@ use Rattle.schema_values.specs.Order.{sorted_by}
 use Rattle.typed_values.specs.Order.{first_by}
 use Rattle.typed_values.proofs.FirstNamed.{declared_by_found, denied_sorted, denied_behind, denied_here}
 use Rattle.typed_values.proofs.Places.{taken_behind}
-use Rattle.schema_values.proofs.Stable.{sorted_is_sorted}
+use Rattle.schema_values.proofs.CallerLemmas.{sorted_is_sorted}
 use Rattle.typed_values.proofs.members.Members.denied_name.Goals as goal
 
 abbrev lent : List (Bor Member) → List Member

@@ -6,7 +6,7 @@ use Rattle.schema_values.specs.Member.{name_of}
 use Rattle.schema_values.specs.Order.{sorted_by}
 use Rattle.typed_values.specs.Order.{first_by}
 use Rattle.typed_values.proofs.FirstNamed.{first_sorted, value_of_first}
-use Rattle.schema_values.proofs.Stable.{sorted_is_sorted}
+use Rattle.schema_values.proofs.CallerLemmas.{sorted_is_sorted}
 use Rattle.typed_values.proofs.members.Members.value_named.Goals as goal
 
 abbrev lent : List (Bor Member) → List Member
