@@ -10,7 +10,7 @@ use Rattle.typed_values.specs.declared.table.AddError.{AddError}
 use Rattle.typed_values.specs.declared.table.AddError.TheVariants.{Clash, OutOfMemory}
 use Rattle.typed_values.specs.Adding.{Adds, IsRefused}
 use Rattle.typed_values.specs.Definitions.{entry_of}
-use Rattle.typed_values.proofs.Found.{same_name}
+use Rattle.typed_values.proofs.CallerLemmas.{same_name}
 use Rattle.schema_values.proofs.Contained.{contains_cases}
 use Rattle.api_types.specs.Additions.{with_missing, with_all, AreRefused}
 use Rattle.api_types.specs.Types.{HoldsAll}
