@@ -4,7 +4,7 @@ use Rattle.std.proofs.lemmas.List.Elements.{All-head, All-tail}
 use Rattle.schema_values.proofs.CallerLemmas.{reading_sound}
 use Rattle.typed_values.specs.declared.table.Definition.{Definition}
 use Rattle.typed_values.specs.Checks.{TablePasses}
-use Rattle.typed_values.proofs.DenotedFits.{denoted_fits}
+use Rattle.typed_values.proofs.CallerLemmas.{denoted_fits}
 use Rattle.api_description.specs.declared.api_extract.slot.Slot.{Slot}
 use Rattle.api_description.specs.declared.api_extract.slot.Slot.TheVariants.{TypedBody}
 use Rattle.api_description.specs.declared.api_extract.slot.Arg.{Arg}

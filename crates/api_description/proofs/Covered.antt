@@ -7,9 +7,8 @@ use Rattle.typed_values.specs.declared.desc.Desc.{Desc}
 use Rattle.typed_values.specs.declared.table.Definition.{Definition}
 use Rattle.typed_values.specs.Definitions.{entry_of}
 use Rattle.typed_values.specs.Reached.{Mentions, IsReached, directly, through}
-use Rattle.typed_values.proofs.Found.{entry_name}
 use Rattle.schema_values.proofs.CallerLemmas.{contains_cases}
-use Rattle.typed_values.proofs.Needed.{entry_inside}
+use Rattle.typed_values.proofs.CallerLemmas.{entry_name, entry_inside}
 use Rattle.api_description.specs.Documents.{references, is_among, referred_by, reached_within}
 use Rattle.api_description.proofs.Among.{any_contained, among_texts, among_joined}
 use Rattle.api_description.proofs.Growing.{StaysAt, some_stay}

@@ -15,10 +15,8 @@ use Rattle.typed_values.specs.Checks.{TakesNull, of_struct, null_twice}
 use Rattle.typed_values.specs.Fits.{option_fits, fields_fit, parts_fit, fits_under}
 use Rattle.typed_values.specs.Parts.{the_whole, in_field, IsPart, of_whole}
 use Rattle.typed_values.specs.Reached.{Mentions, IsReached, directly, through}
-use Rattle.typed_values.proofs.FitRows.{fits_struct}
-use Rattle.typed_values.proofs.FitSteps.{skipped_row}
 use Rattle.schema_values.proofs.CallerLemmas.{contains_first, contains_later}
-use Rattle.typed_values.proofs.Within.{parts_at}
+use Rattle.typed_values.proofs.CallerLemmas.{fits_struct, skipped_row, parts_at, inner_passes}
 use Rattle.api_types.specs.Options.{option_tree}
 use Rattle.api_types.specs.Structs.{Part}
 use Rattle.api_types.specs.Types.{IsTableOf, FitsEach, FitsOne, ReachesExactly}
@@ -26,7 +24,6 @@ use Rattle.api_types.proofs.Composites.{none_each, some_each}
 use Rattle.api_types.proofs.Forms.{both, option_form}
 use Rattle.api_types.proofs.Inner.{part_each, part_one}
 use Rattle.api_types.proofs.Leaves.{words_reach, words_each, words_one}
-use Rattle.typed_values.proofs.Narrower.{inner_passes}
 use Rattle.api_types.proofs.Reaching.{rests}
 use Rattle.api_types.proofs.References.{ref_reaches, ref_each, ref_one}
 use Rattle.api_types.proofs.Structs.{struct_one}

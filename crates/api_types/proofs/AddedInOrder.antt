@@ -10,8 +10,8 @@ use Rattle.typed_values.specs.declared.table.AddError.{AddError}
 use Rattle.typed_values.specs.declared.table.AddError.TheVariants.{Clash, OutOfMemory}
 use Rattle.typed_values.specs.Adding.{Adds, IsRefused}
 use Rattle.typed_values.specs.Definitions.{entry_of}
-use Rattle.typed_values.proofs.Found.{same_name}
 use Rattle.schema_values.proofs.CallerLemmas.{contains_cases}
+use Rattle.typed_values.proofs.CallerLemmas.{same_name}
 use Rattle.api_types.specs.Additions.{with_missing, with_all, AreRefused}
 use Rattle.api_types.specs.Types.{HoldsAll}
 

@@ -14,8 +14,7 @@ use Rattle.typed_values.specs.Fits.{option_fits, items_fit, are_ascending, key_o
 use Rattle.typed_values.specs.Parts.{StandsIn, the_whole, in_option, in_list, in_map, of_whole}
 use Rattle.typed_values.specs.Reached.{Mentions}
 use Rattle.typed_values.specs.Levels.{DescLevel}
-use Rattle.typed_values.proofs.FitRows.{fits_option, fits_list, fits_map}
-use Rattle.typed_values.proofs.Within.{SomeChild, parts_at}
+use Rattle.typed_values.proofs.CallerLemmas.{fits_option, fits_list, fits_map, SomeChild, parts_at}
 use Rattle.api_types.specs.Types.{IsTableOf, FitsEach, FitsOne, ReachesExactly}
 use Rattle.api_types.proofs.Forms.{true_each, option_form, items_form, entries_form}
 use Rattle.api_types.proofs.Inner.{part_each, part_one}

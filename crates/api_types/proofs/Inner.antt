@@ -6,7 +6,7 @@ use Rattle.typed_values.specs.declared.table.Definition.{Definition}
 use Rattle.typed_values.specs.declared.tree.Tree.{Tree}
 use Rattle.typed_values.specs.Fits.{fits_under}
 use Rattle.typed_values.specs.Parts.{IsPart}
-use Rattle.typed_values.proofs.Narrower.{inner_passes, same_fits}
+use Rattle.typed_values.proofs.CallerLemmas.{inner_passes, same_fits}
 use Rattle.api_types.specs.Types.{IsTableOf, FitsEach, FitsOne}
 
 module _ (ds es : List Definition) (whole inner : Desc) (fewer : (e : Definition) → Contains es e → Contains ds e) (inside : (table : List Definition) → IsTableOf ds whole table → IsPart table whole inner) where

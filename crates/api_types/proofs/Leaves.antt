@@ -15,7 +15,7 @@ use Rattle.typed_values.specs.declared.tree.Tree.TheVariants as trees
 use Rattle.typed_values.specs.declared.tree.Tree.TheViews.{roll-out-Tree}
 use Rattle.typed_values.specs.Bounds.{least_of, greatest_of, is_number_of, is_length_within}
 use Rattle.typed_values.specs.Fits.{whole_fits, truth_fits, number_fits, words_fit, character_fits}
-use Rattle.typed_values.proofs.FitRows.{fits_any, fits_bool, fits_char, fits_int, fits_text}
+use Rattle.typed_values.proofs.CallerLemmas.{fits_any, fits_bool, fits_char, fits_int, fits_text}
 use Rattle.api_types.specs.Types.{FitsEach, FitsOne, ReachesExactly}
 use Rattle.api_types.proofs.Forms.{both, truth_form, number_form, words_form, character_form, whole_form}
 use Rattle.api_types.proofs.Reaching.{rests, reaches_none}

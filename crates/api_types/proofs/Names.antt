@@ -10,8 +10,7 @@ use Rattle.typed_values.specs.declared.tree.Tree.TheVariants as trees
 use Rattle.typed_values.specs.declared.tree.Tree.TheViews.{roll-Tree, roll-out-Tree}
 use Rattle.typed_values.specs.Fits.{nought_fits, name_fits, fits_under}
 use Rattle.typed_values.specs.Levels.{TreeOf}
-use Rattle.typed_values.proofs.FitRows.{fits_enumeration, place_row, below_true}
-use Rattle.typed_values.proofs.FitSteps.{nought_row}
+use Rattle.typed_values.proofs.CallerLemmas.{fits_enumeration, place_row, below_true, nought_row}
 use Rattle.api_types.specs.Types.{FitsEach, FitsOne, ReachesExactly}
 use Rattle.api_types.proofs.Forms.{both}
 use Rattle.api_types.proofs.Reaching.{rests, reaches_none}

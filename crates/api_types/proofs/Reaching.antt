@@ -8,8 +8,7 @@ use Rattle.typed_values.specs.Parts.{the_whole, of_whole}
 use Rattle.typed_values.specs.Reached.{Mentions, IsReached, directly, through}
 use Rattle.typed_values.specs.Resting.{Rests}
 use Rattle.typed_values.specs.Levels.{DescLevel}
-use Rattle.typed_values.proofs.Soundness.{guarded_rests}
-use Rattle.typed_values.proofs.Within.{SomeChild, parts_at}
+use Rattle.typed_values.proofs.CallerLemmas.{guarded_rests, SomeChild, parts_at}
 use Rattle.api_types.specs.Types.{IsTableOf, ReachesExactly}
 
 -- steps are never spent

@@ -12,11 +12,8 @@ use Rattle.typed_values.specs.Definitions.{entry_of, definition_name}
 use Rattle.typed_values.specs.Fits.{fits_under}
 use Rattle.typed_values.specs.Parts.{the_whole, IsPart, of_table}
 use Rattle.typed_values.specs.Reached.{Mentions, IsReached, directly, through}
-use Rattle.typed_values.proofs.FitRows.{fits_ref}
-use Rattle.typed_values.proofs.Found.{same_or_not, definition_is}
 use Rattle.schema_values.proofs.CallerLemmas.{contains_first}
-use Rattle.typed_values.proofs.Needed.{entry_inside}
-use Rattle.typed_values.proofs.Within.{parts_at}
+use Rattle.typed_values.proofs.CallerLemmas.{fits_ref, same_or_not, definition_is, entry_inside, parts_at}
 use Rattle.api_types.specs.Types.{HoldsAll, IsTableOf, FitsEach, FitsOne, ReachesExactly}
 use Rattle.api_types.proofs.AddedInOrder.{only_one}
 use Rattle.api_types.proofs.Inner.{part_each, part_one}

@@ -17,9 +17,8 @@ use Rattle.typed_values.specs.Fits.{field_desc, fields_fit, parts_fit, fits_unde
 use Rattle.typed_values.specs.Levels.{TreeOf}
 use Rattle.typed_values.specs.Parts.{the_whole, in_field, IsPart, of_whole}
 use Rattle.typed_values.specs.Reached.{Mentions, IsReached, directly, through}
-use Rattle.typed_values.proofs.FitRows.{fits_struct}
 use Rattle.schema_values.proofs.CallerLemmas.{contains_first, contains_later, contains_cases}
-use Rattle.typed_values.proofs.Within.{parts_at}
+use Rattle.typed_values.proofs.CallerLemmas.{fits_struct, parts_at}
 use Rattle.api_types.specs.Structs.{Part, definitions_in, fields_in, AreParts, FieldsFitEach, FieldsFitOne}
 use Rattle.api_types.specs.Types.{HoldsAll, IsTableOf, FitsEach, FitsOne, ReachesExactly}
 use Rattle.api_types.proofs.Forms.{both}

@@ -1,8 +1,9 @@
 -- What each arm of the decoder needs: its row, and that the descriptors that it goes on to are parts.
-use Rattle.std.proofs.Common.{◌≡◌, ℕ, ℤ, List, Option, Some, None, Bool, false, refl, ◌∙◌, ap, subst}
-use Rattle.std.specs.declared.result.Result.TheVariants.{Ok, Err}
+use Rattle.std.proofs.Common.{◌≡◌, ℕ, ℤ, List, Option, Some, None, Bool, false, refl, sym, ◌∙◌, ap, subst}
+use Rattle.std.specs.declared.result.Result.TheVariants.{Ok}
 use Rattle.schema_values.specs.declared.json_value.Json.{Json, out-Json}
 use Rattle.schema_values.specs.declared.json_value.Json.TheOpen.{Json-F}
+use Rattle.schema_values.specs.declared.json_value.Json.TheVariants as json
 use Rattle.schema_values.specs.declared.json_value.Member.{Member}
 use Rattle.typed_values.specs.declared.desc.Desc.{Desc, out-Desc}
 use Rattle.typed_values.specs.declared.desc.Desc.TheOpen.{Desc-F}
@@ -14,16 +15,13 @@ use Rattle.typed_values.specs.declared.desc.TaggedVariant.{TaggedVariant}
 use Rattle.typed_values.specs.declared.desc.Variant.{Variant}
 use Rattle.typed_values.specs.declared.fault.FaultKind.TheVariants.{WrongKind, NotListed}
 use Rattle.typed_values.specs.declared.fault.Place.TheVariants.{Name}
-use Rattle.typed_values.specs.declared.fault.Stop.{Stop}
-use Rattle.typed_values.specs.declared.fault.Stop.TheVariants as stop
 use Rattle.typed_values.specs.declared.tree.Tree.{Any as Whole}
 use Rattle.typed_values.specs.declared.table.Definition.{Definition}
-use Rattle.typed_values.specs.Answer.{Tells}
 use Rattle.typed_values.specs.Definitions.{definition, tagged_name, variant_name}
-use Rattle.typed_values.specs.Denotes.{Told, told, below, refused, where_found, named_from, bare, without_payload, with_payload, chosen, at_tag, room, nought, truth, character, number, words, one_of_names, optional, just, external, tagged, first_told, at_definition}
+use Rattle.typed_values.specs.Denotes.{Told, told, below, refused, where_found, named_from, bare, without_payload, with_payload, chosen, at_tag, room, nought, truth, character, number, words, one_of_names, optional, just, items_told, entries_told, external, tagged, first_told, at_definition}
 use Rattle.typed_values.specs.Resting.{Rests}
 use Rattle.typed_values.specs.Parts.{IsPart, of_table, StandsIn, the_whole}
-use Rattle.typed_values.specs.Rows.{list_row, map_row, struct_row}
+use Rattle.typed_values.specs.Rows.{list_row, map_row, struct_row, told_item}
 use Rattle.typed_values.proofs.Found.{entry_found}
 use Rattle.typed_values.proofs.Listed.{found_named}
 use Rattle.typed_values.proofs.Rows.{row_at}
@@ -85,6 +83,14 @@ module _ (table : List Definition) (whole : Desc) (j : Json) (d : Desc) (h : Res
   pub row_ref : (name : List ℕ) (o : Option Desc) → d ≡ desc.Ref name → definition table name ≡ o → told table whole j d ≡ at_definition (told table whole j) o
   row_ref name o e f = row_at table whole j d (out-Json j) (Desc-F.Ref name) h refl (ap out-Desc e ∙ desc.outs-Ref name) ∙ ap (at_definition (told table whole j)) f
 
+-- what is told of a list, and of an object under a map, over the slice of its items or members
+module _ (table : List Definition) (whole d : Desc) where
+  pub list_at : (min max : Option ℕ) (j : Json) (js items : List Json) → j ≡ json.List js → items ≡ js → list_row table whole d min max (out-Json j) ≡ items_told (told_item table whole d) min max items
+  list_at min max j js items e same = ap (list_row table whole d min max) (ap out-Json e ∙ json.outs-List js) ∙ ap (items_told (told_item table whole d) min max) (sym same)
+
+  pub map_at : (j : Json) (ns ms : List Member) → j ≡ json.Object ns → ms ≡ ns → map_row table whole d (out-Json j) ≡ entries_told (λ value. told table whole value d) ms
+  map_at j ns ms e same = ap (map_row table whole d) (ap out-Json e ∙ json.outs-Object ns) ∙ ap (entries_told (λ (value : Json). told table whole value d)) (sym same)
+
 -- what a name is defined as is a part
 pub definition_is_part : (table : List Definition) (whole : Desc) (name : List ℕ) (d : Desc) → definition table name ≡ Some d → IsPart table whole d
 definition_is_part table whole name d e =
@@ -114,11 +120,6 @@ payload_at told vs name k v d found e =
     ap (where_found (refused NotListed) (with_payload told)) found
     ∙ payload_told k v told d e
     ∙ ap (λ (n : List ℕ). chosen k (below (Name n) (told d))) (found_named variant_name vs name (k, v) found)
-
--- a fault that is told of a payload is told of the variant
-pub chosen_err : (k : ℕ) (told : Told) (end : Stop) → Tells (Err end) told → Tells (Err end) (chosen k told)
-chosen_err k told (stop.Misfit m) bad = ap (chosen k) bad
-chosen_err k told stop.OutOfMemory bad = tt
 
 module _ (tag : List ℕ) (told : ℕ → TaggedVariant → Told) (vs : List TaggedVariant) (j : Json) where
   pub at_tag_text : (name : List ℕ) → out-Json j ≡ Json-F.Text name → at_tag tag told vs j ≡ where_found (below (Name tag) (refused NotListed)) told (named_from tagged_name 0 vs name)

@@ -1,5 +1,5 @@
 -- The sizes of what a JSON value is made of.
-use Rattle.std.proofs.Common.{◌≡◌, ℕ, suc, Bool, true, false, cond, ◌<◌, ◌≤◌, List, [], ◌∷◌, Option, Some, ◌∙◌, ◌⊎◌, inl, inr, ap, bytes_eq, length, get_or, arith}
+use Rattle.std.proofs.Common.{◌≡◌, ℕ, suc, Bool, true, false, cond, ◌<◌, ◌≤◌, List, [], ◌∷◌, Option, Some, sym, ◌∙◌, ◌⊎◌, inl, inr, ap, bytes_eq, length, get_or, arith}
 use denote.Param.Weighed.{most, at_most}
 use Rattle.std.specs.List.{AllByRecursion}
 use Rattle.schema_values.specs.declared.json_value.Json.{Json, List as JsonList, Object as JsonObject, size-Json}
@@ -12,8 +12,12 @@ use Rattle.schema_values.specs.Order.{sorted_by}
 use Rattle.schema_values.proofs.CallerLemmas.{all_sorted}
 use Rattle.typed_values.proofs.Measure.{size_alone, alone-lt-next}
 
-pub size_list : (js : List Json) → size-Json (JsonList js) ≡ suc (most size-Json js)
+size_list : (js : List Json) → size-Json (JsonList js) ≡ suc (most size-Json js)
 size_list js = sized-List js ∙ omega arith
+
+-- the size of a list with the items that a slice of it has
+pub list_size : (j : Json) (js items : List Json) → j ≡ JsonList js → items ≡ js → size-Json j ≡ suc (most size-Json items)
+list_size j js items e same = ap size-Json e ∙ size_list js ∙ ap (λ (xs : List Json). suc (most size-Json xs)) (sym same)
 
 size_object : (ms : List Member) → size-Json (JsonObject ms) ≡ suc (most size-Member ms)
 size_object ms = sized-Object ms ∙ omega arith
@@ -51,12 +55,18 @@ most_of_each b [] h = omega arith
 most_of_each b (m ∷ ms) h = omega (arith, h.0, most_of_each b ms h.1)
 
 -- a member in the order of names is no greater than the greatest
-pub entry_at_most : (ms : List Member) (i : ℕ) (m : Member) → i < length (sorted_by member_name ms) → m ≡ get_or (sorted_by member_name ms) i m → size-Member m ≤ most size-Member ms
+entry_at_most : (ms : List Member) (i : ℕ) (m : Member) → i < length (sorted_by member_name ms) → m ≡ get_or (sorted_by member_name ms) i m → size-Member m ≤ most size-Member ms
 entry_at_most ms i m h is =
     let some : most size-Member (sorted_by member_name ms) ≤ most size-Member ms =
     most_of_each (most size-Member ms) (sorted_by member_name ms) (all_sorted (λ n. size-Member n ≤ most size-Member ms) member_name ms (each_at_most (most size-Member ms) ms (omega arith))) in
     let deep = at_most size-Member (sorted_by member_name ms) i m h in
     rw is (omega (arith, some, deep))
+
+-- the value of a member in the order of names is smaller than the object
+pub entry_smaller : (j : Json) (ns ms : List Member) → j ≡ JsonObject ns → ms ≡ ns → (i : ℕ) (m : Member) → i < length (sorted_by member_name ms) → m ≡ get_or (sorted_by member_name ms) i m → size-Json m.value < size-Json j
+entry_smaller j ns ms e same i m h is =
+    let size : size-Json j ≡ suc (most size-Member ms) = ap size-Json e ∙ size_object ns ∙ ap (λ (xs : List Member). suc (most size-Member xs)) (sym same) in
+    omega (arith, size, member_greater m, entry_at_most ms i m h is)
 
 -- an object's members are measured below the object
 pub members-lt-alone : (table : List Definition) (whole : Desc) (j : Json) (ms : List Member) → j ≡ JsonObject ms → suc (suc (size_alone table whole (most size-Member ms))) < size_alone table whole (size-Json j)

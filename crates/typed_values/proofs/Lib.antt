@@ -41,3 +41,4 @@ pub mod Fields
 pub mod Places
 pub mod Indexing
 pub mod First
+pub mod CallerLemmas

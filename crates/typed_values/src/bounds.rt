@@ -52,12 +52,7 @@ fn is_at_most(max: &Option<i128>, number: i128) -> bool
 }
 
 /// Whether a number is one of the kind, within the bounds.
-pub(crate) fn is_number_of(
-    kind: IntKind,
-    min: &Option<i128>,
-    max: &Option<i128>,
-    number: &i128,
-) -> bool
+pub fn is_number_of(kind: IntKind, min: &Option<i128>, max: &Option<i128>, number: &i128) -> bool
     ensures { result ≡ bounds.is_number_of kind min.now max.now number.now }
 {
     least_of(kind) <= *number
@@ -85,14 +80,14 @@ fn is_short_enough(max: Option<u32>, length: usize) -> bool
 }
 
 /// Whether a length is within the bounds.
-pub(crate) fn is_length_within(min: Option<u32>, max: Option<u32>, length: usize) -> bool
+pub fn is_length_within(min: Option<u32>, max: Option<u32>, length: usize) -> bool
     ensures { result ≡ bounds.is_length_within min max length }
 {
     is_long_enough(min, length) && is_short_enough(max, length)
 }
 
 /// The number of characters of a text.
-pub(crate) fn character_count(text: &Text) -> usize
+pub fn character_count(text: &Text) -> usize
     ensures { result ≡ length text.now }
 {
     text.as_str().chars().count()

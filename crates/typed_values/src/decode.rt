@@ -2,26 +2,29 @@ ghost use Rattle.std.specs.Prelude.{◌≤◌, length, IfOk, IfErr};
 ghost use Rattle.std.specs.Option.{option_copied};
 ghost use Rattle.schema_values.specs.Sound.{IsSound};
 ghost use Rattle.schema_values.specs.declared.json_value.Json.{out-Json};
+ghost use Rattle.typed_values.specs.declared.fault.Place.TheVariants.{Item, Name};
 ghost use Rattle.typed_values.specs.declared.tree.Tree.{Tree};
 ghost use Rattle.typed_values.specs.Answer.{Tells, IfFault, IsFaultOf};
 ghost use Rattle.typed_values.specs.Checks.{TablePasses, DescPasses};
 ghost use Rattle.typed_values.specs.Denotes as denotes;
-ghost use Rattle.typed_values.specs.Denotes.{JsonDenotes, Told, told, as_tree, items_told, entries_told};
-ghost use Rattle.typed_values.specs.Denotes.{first_told, if_absent, optional};
+ghost use Rattle.typed_values.specs.Denotes.{JsonDenotes, Told, told, below, as_pair, as_tree};
+ghost use Rattle.typed_values.specs.Denotes.{first_told, if_absent, if_present, optional};
 ghost use Rattle.typed_values.specs.Fits.{Fits};
 ghost use Rattle.typed_values.specs.Parts.{IsPart};
-ghost use Rattle.typed_values.specs.Rows.{told_item, told_entry, told_field, told_fields, told_struct};
+ghost use Rattle.typed_values.specs.Rows.{told_field, told_fields};
 ghost use Rattle.typed_values.specs.Rows.{list_row, map_row, struct_row, AreFieldsOf, AreParts};
 
 use crate::bounds::is_length_within;
 use crate::desc::{Desc, Field, Presence};
 use crate::fault::{DecodeError, FaultKind, Place, Stop};
 use crate::members::Members;
-use crate::scalars::{decode_bool, decode_char, decode_int, decode_name, decode_null, decode_text};
+use crate::scalars::{
+    decode_any, decode_bool, decode_char, decode_int, decode_name, decode_null, decode_text,
+};
 use crate::scope::Decoder;
 use crate::table::DescTable;
 use crate::tree::{Pair, Tree};
-use crate::wrapped::{some, variant};
+use crate::wrapped::{in_some, some, variant};
 use schema_values::{Json, List, Member, Text, in_order};
 use std::alloc::Global;
 
@@ -44,6 +47,51 @@ pub fn decode_json(
     match Decoder::new(table, desc).decode_at(alloc, desc, json) {
         Ok(tree) => Ok(tree),
         Err(stop) => Err(stop.into_error(alloc)),
+    }
+}
+
+/// A value under its key, or the fault below the key.
+fn pair(key: Text, answer: Result<Tree, Stop>) -> Result<Pair, Stop>
+    ensures { (told : Told) → Tells answer told → Tells result (as_pair key (below (Name key) told)) }
+{
+    match answer {
+        Ok(value) => Ok(Pair { key, value }),
+        Err(stop) => Err(stop.below(Place::Name(key))),
+    }
+}
+
+/// The answer of an item, whose fault stands below its place.
+fn item_at(place: usize, answer: Result<Tree, Stop>) -> Result<Tree, Stop>
+    ensures { (told : Told) → Tells answer told → Tells result (below (Item place) told) }
+{
+    match answer {
+        Ok(tree) => Ok(tree),
+        Err(stop) => Err(stop.below(Place::Item(place))),
+    }
+}
+
+/// What a field that is there gives.
+fn present(alloc: Global, field: &Field, answer: Result<Tree, Stop>) -> Result<Tree, Stop>
+    ensures { (told : Told) → Tells answer told
+        → Tells result (if_present field.now.presence (below (Name field.now.name) told)) }
+{
+    match answer {
+        Ok(tree) => match &field.presence {
+            Presence::Required | Presence::Nullable | Presence::Default(_) => Ok(tree),
+            Presence::Skipped => some(alloc, tree),
+        },
+        Err(stop) => Err(stop.below_name(alloc, &field.name)),
+    }
+}
+
+/// What an absent field gives.
+fn absent(alloc: Global, field: &Field) -> Result<Tree, Stop>
+    ensures { Tells result (if_absent field.now.presence field.now.name) }
+{
+    match &field.presence {
+        Presence::Required => Err(Stop::missing(alloc, &field.name)),
+        Presence::Nullable | Presence::Skipped => Ok(Tree::None),
+        Presence::Default(tree) => Ok(tree.copy(alloc)?),
     }
 }
 
@@ -70,7 +118,7 @@ impl Decoder<'_> {
         ensures { Tells result (told self.now.table.now self.now.whole.now json.now desc.now) }
     {
         match desc {
-            Desc::Any => Ok(Tree::Any(json.copy(alloc)?)),
+            Desc::Any => decode_any(alloc, json),
             Desc::Never => Err(Stop::refused(alloc, FaultKind::WrongKind)),
             Desc::Null => decode_null(alloc, json),
             Desc::Bool => decode_bool(alloc, json),
@@ -110,11 +158,11 @@ impl Decoder<'_> {
     {
         match json {
             Json::Null => Ok(Tree::None),
-            _ => some(alloc, self.decode_at(alloc, inner, json)?),
+            _ => in_some(alloc, self.decode_at(alloc, inner, json)),
         }
     }
 
-    /// Decodes a list.
+    /// Decodes each item of a list, where there are as many as the bounds allow.
     #[cycle(decode)]
     fn decode_list(
         &self,
@@ -128,82 +176,41 @@ impl Decoder<'_> {
         ensures { Tells result
             (list_row self.now.table.now self.now.whole.now item.now min max (out-Json json.now)) }
     {
-        match json {
-            Json::List(items) => self.decode_items(alloc, item, min, max, items.as_slice()),
-            _ => Err(Stop::refused(alloc, FaultKind::WrongKind)),
-        }
-    }
-
-    /// Decodes each item of a list, where there are as many as the bounds allow.
-    #[cycle(decode)]
-    fn decode_items(
-        &self,
-        alloc: Global,
-        item: &Desc,
-        min: Option<u32>,
-        max: Option<u32>,
-        items: &[Json],
-    ) -> Result<Tree, Stop>
-        requires { IsPart self.now.table.now self.now.whole.now item.now }
-        ensures { Tells result
-            (items_told (told_item self.now.table.now self.now.whole.now item.now) min max items.now) }
-    {
+        let Json::List(list) = json else {
+            return Err(Stop::refused(alloc, FaultKind::WrongKind));
+        };
+        let items = list.as_slice();
         if !is_length_within(min, max, items.len()) {
             return Err(Stop::refused(alloc, FaultKind::BadLength));
         }
         let mut trees = List::new(alloc);
         for (i, json) in items.iter().enumerate() {
-            match self.decode_at(alloc, item, json) {
-                Ok(tree) => trees.push(tree)?,
-                Err(stop) => return Err(stop.below(Place::Item(i))),
-            }
+            trees.push(item_at(i, self.decode_at(alloc, item, json))?)?;
         }
         Ok(Tree::List(trees))
     }
 
-    /// Decodes a map.
+    /// Decodes the value of each member of a map, in the order of names.
     #[cycle(decode)]
     fn decode_map(&self, alloc: Global, value: &Desc, json: &Json) -> Result<Tree, Stop>
         requires { IsPart self.now.table.now self.now.whole.now value.now }
         ensures { Tells result
             (map_row self.now.table.now self.now.whole.now value.now (out-Json json.now)) }
     {
-        match json {
-            Json::Object(members) => self.decode_entries(alloc, value, members.as_slice()),
-            _ => Err(Stop::refused(alloc, FaultKind::WrongKind)),
-        }
-    }
-
-    /// Decodes the value of each member, in the order of names.
-    #[cycle(decode)]
-    fn decode_entries(&self, alloc: Global, value: &Desc, members: &[Member]) -> Result<Tree, Stop>
-        requires { IsPart self.now.table.now self.now.whole.now value.now }
-        ensures { Tells result (entries_told
-            (λ json. told self.now.table.now self.now.whole.now json value.now) members.now) }
-    {
+        let Json::Object(object) = json else {
+            return Err(Stop::refused(alloc, FaultKind::WrongKind));
+        };
+        let members = object.as_slice();
         let ordered = in_order(alloc, members)?;
         let mut pairs = List::new(alloc);
         for member in ordered.iter() {
-            pairs.push(self.decode_pair(alloc, value, member)?)?;
+            let key = member.name.copy(alloc)?;
+            pairs.push(pair(key, self.decode_at(alloc, value, &member.value))?)?;
         }
         Ok(Tree::Map(pairs))
     }
 
-    /// Decodes the value of a member, under its name.
-    #[cycle(decode)]
-    fn decode_pair(&self, alloc: Global, value: &Desc, member: &Member) -> Result<Pair, Stop>
-        requires { IsPart self.now.table.now self.now.whole.now value.now }
-        ensures { Tells result
-            (told_entry self.now.table.now self.now.whole.now value.now member.now) }
-    {
-        let key = member.name.copy(alloc)?;
-        match self.decode_at(alloc, value, &member.value) {
-            Ok(value) => Ok(Pair { key, value }),
-            Err(stop) => Err(stop.below(Place::Name(key))),
-        }
-    }
-
-    /// Decodes a struct.
+    /// Decodes the fields of a struct, and then looks for unknown names where they are denied.
     #[cycle(decode)]
     fn decode_struct(
         &self,
@@ -216,28 +223,10 @@ impl Decoder<'_> {
         ensures { Tells result (struct_row self.now.table.now self.now.whole.now fields.now deny_unknown
             (out-Json json.now)) }
     {
-        match json {
-            Json::Object(members) => {
-                self.decode_members(alloc, fields, deny_unknown, members.as_slice())
-            }
-            _ => Err(Stop::refused(alloc, FaultKind::WrongKind)),
-        }
-    }
-
-    /// Decodes the fields, and then looks for unknown names where they are denied.
-    #[cycle(decode)]
-    fn decode_members(
-        &self,
-        alloc: Global,
-        fields: &[Field],
-        deny_unknown: bool,
-        members: &[Member],
-    ) -> Result<Tree, Stop>
-        requires { AreFieldsOf self.now.table.now self.now.whole.now fields.now }
-        ensures { Tells result
-            (told_struct self.now.table.now self.now.whole.now fields.now deny_unknown members.now) }
-    {
-        let members = Members::new(alloc, members)?;
+        let Json::Object(members) = json else {
+            return Err(Stop::refused(alloc, FaultKind::WrongKind));
+        };
+        let members = Members::new(alloc, members.as_slice())?;
         let denied = members.denied_name(alloc, deny_unknown, fields)?;
         unless_denied(alloc, denied, self.decode_fields(alloc, fields, &members))
     }
@@ -268,27 +257,9 @@ impl Decoder<'_> {
         ensures { Tells result
             (told_field self.now.table.now self.now.whole.now members.now.items.now field.now) }
     {
-        let Some(json) = members.value_named(&field.name) else {
-            return self.absent(alloc, field);
-        };
-        let tree = match self.decode_at(alloc, &field.desc, json) {
-            Ok(tree) => tree,
-            Err(stop) => return Err(stop.below_name(alloc, &field.name)),
-        };
-        match &field.presence {
-            Presence::Required | Presence::Nullable | Presence::Default(_) => Ok(tree),
-            Presence::Skipped => some(alloc, tree),
-        }
-    }
-
-    /// What an absent field gives.
-    fn absent(&self, alloc: Global, field: &Field) -> Result<Tree, Stop>
-        ensures { Tells result (if_absent field.now.presence field.now.name) }
-    {
-        match &field.presence {
-            Presence::Required => Err(Stop::missing(alloc, &field.name)),
-            Presence::Nullable | Presence::Skipped => Ok(Tree::None),
-            Presence::Default(tree) => Ok(tree.copy(alloc)?),
+        match members.value_named(&field.name) {
+            Some(json) => present(alloc, field, self.decode_at(alloc, &field.desc, json)),
+            None => absent(alloc, field),
         }
     }
 

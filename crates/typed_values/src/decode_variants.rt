@@ -3,10 +3,11 @@ ghost use Rattle.std.specs.Prelude.{◌≤◌, false, length};
 ghost use Rattle.schema_values.specs.declared.json_value.Json.{out-Json};
 ghost use Rattle.typed_values.specs.Answer.{Tells};
 ghost use Rattle.typed_values.specs.Definitions.{tagged_fields, variant_name};
-ghost use Rattle.typed_values.specs.Denotes.{told, external, tagged, at_tag, chosen, where_found, refused};
-ghost use Rattle.typed_values.specs.Denotes.{named_from, with_payload, without_payload};
+ghost use Rattle.typed_values.specs.Denotes.{Told, told, below, external, tagged, at_tag, chosen, where_found};
+ghost use Rattle.typed_values.specs.Denotes.{named_from, refused, with_payload, without_payload};
 ghost use Rattle.typed_values.specs.Rows.{struct_row, told_struct, ArePayloadsOf, AreVariantsOf};
 ghost use Rattle.typed_values.specs.declared.fault.FaultKind.TheVariants.{NotListed};
+ghost use Rattle.typed_values.specs.declared.fault.Place.TheVariants.{Name};
 
 use crate::desc::{TaggedVariant, Variant};
 use crate::fault::{FaultKind, Stop};
@@ -14,7 +15,7 @@ use crate::members::Members;
 use crate::order::find_named;
 use crate::scope::Decoder;
 use crate::tree::Tree;
-use crate::wrapped::variant;
+use crate::wrapped::{in_variant, variant};
 use schema_values::{Json, Member, Text};
 use std::alloc::Global;
 
@@ -27,6 +28,16 @@ fn decode_bare(alloc: Global, variants: &[Variant], name: &Text) -> Result<Tree,
     match find_named(variants, name) {
         Some((place, Variant { payload: None, .. })) => variant(alloc, place, Tree::Unit),
         _ => Err(Stop::refused(alloc, FaultKind::NotListed)),
+    }
+}
+
+/// The answer of a payload, whose fault stands below the name of its variant.
+fn below_name(alloc: Global, name: &Text, answer: Result<Tree, Stop>) -> Result<Tree, Stop>
+    ensures { (told : Told) → Tells answer told → Tells result (below (Name name.now) told) }
+{
+    match answer {
+        Ok(tree) => Ok(tree),
+        Err(stop) => Err(stop.below_name(alloc, name)),
     }
 }
 
@@ -75,10 +86,8 @@ impl Decoder<'_> {
         let Some(payload) = &chosen.payload else {
             return Err(Stop::refused(alloc, FaultKind::NotListed));
         };
-        match self.decode_at(alloc, payload, &member.value) {
-            Ok(tree) => variant(alloc, place, tree),
-            Err(stop) => Err(stop.below_name(alloc, &member.name)),
-        }
+        let answer = self.decode_at(alloc, payload, &member.value);
+        in_variant(alloc, place, below_name(alloc, &member.name, answer))
     }
 
     /// Decodes an object whose tag names a variant.
@@ -128,7 +137,10 @@ impl Decoder<'_> {
         let Some((place, chosen)) = find_named(variants, name) else {
             return Err(Stop::refused(alloc, FaultKind::NotListed).below_name(alloc, tag));
         };
-        let tree = self.decode_fields(alloc, chosen.fields.as_slice(), members)?;
-        variant(alloc, place, tree)
+        in_variant(
+            alloc,
+            place,
+            self.decode_fields(alloc, chosen.fields.as_slice(), members),
+        )
     }
 }

@@ -3,15 +3,19 @@ ghost use Rattle.std.specs.Prelude.{◌≡◌, IfOk};
 use schema_values::{List, Text};
 use std::alloc::{AllocError, Global};
 
-/// Why a value is not decoded. A payload is the name of a field.
+/// Why a value, a text, a header or a page token is not decoded.
 #[derive(Debug, Drop)]
 pub enum FaultKind {
     /// A field of this name that must be there is absent, or a tag is.
     Missing(Text),
+    /// A field of this name is there more than once, where one is asked.
+    Doubled(Text),
     /// A member of this name, where no other names than those of the fields are taken.
     Unknown(Text),
     /// A value of another kind.
     WrongKind,
+    /// This text denotes no value of the kind with this name, or no value within its bounds.
+    BadText(Text, Text),
     /// A number outside its kind or its bounds.
     OutOfRange,
     /// A text with too few or too many characters, or a list with too few or too many items.
@@ -22,6 +26,22 @@ pub enum FaultKind {
     NoAlternative,
     /// Bytes that are no JSON.
     NotJson,
+    /// A header whose value has a byte that is no visible ASCII character.
+    HeaderBytes,
+    /// A limit on the items of a page that is no whole number from 1 to 4294967295.
+    BadLimit,
+    /// A page token that is longer than a token may be.
+    TokenTooLarge,
+    /// A page token that is not written in base64.
+    TokenNotBase64,
+    /// A page token whose bytes are not those of a token.
+    TokenCorrupted,
+    /// A content type that has a byte that is no visible ASCII character.
+    ContentTypeBytes,
+    /// This content type is none that a body may have.
+    ContentTypeUnsupported(Text),
+    /// The first content type is expected of the body, and the second is given.
+    ContentTypeMismatch(Text, Text),
 }
 
 /// A fault, and the path to it: `.` at the root, else names joined by dots, with `[k]` for item k of a list.
@@ -40,13 +60,30 @@ impl FaultKind {
     {
         match self {
             FaultKind::Missing(name) => Ok(FaultKind::Missing(name.copy(alloc)?)),
+            FaultKind::Doubled(name) => Ok(FaultKind::Doubled(name.copy(alloc)?)),
             FaultKind::Unknown(name) => Ok(FaultKind::Unknown(name.copy(alloc)?)),
             FaultKind::WrongKind => Ok(FaultKind::WrongKind),
+            FaultKind::BadText(text, kind) => {
+                Ok(FaultKind::BadText(text.copy(alloc)?, kind.copy(alloc)?))
+            }
             FaultKind::OutOfRange => Ok(FaultKind::OutOfRange),
             FaultKind::BadLength => Ok(FaultKind::BadLength),
             FaultKind::NotListed => Ok(FaultKind::NotListed),
             FaultKind::NoAlternative => Ok(FaultKind::NoAlternative),
             FaultKind::NotJson => Ok(FaultKind::NotJson),
+            FaultKind::HeaderBytes => Ok(FaultKind::HeaderBytes),
+            FaultKind::BadLimit => Ok(FaultKind::BadLimit),
+            FaultKind::TokenTooLarge => Ok(FaultKind::TokenTooLarge),
+            FaultKind::TokenNotBase64 => Ok(FaultKind::TokenNotBase64),
+            FaultKind::TokenCorrupted => Ok(FaultKind::TokenCorrupted),
+            FaultKind::ContentTypeBytes => Ok(FaultKind::ContentTypeBytes),
+            FaultKind::ContentTypeUnsupported(given) => {
+                Ok(FaultKind::ContentTypeUnsupported(given.copy(alloc)?))
+            }
+            FaultKind::ContentTypeMismatch(expected, given) => Ok(FaultKind::ContentTypeMismatch(
+                expected.copy(alloc)?,
+                given.copy(alloc)?,
+            )),
         }
     }
 }
@@ -85,22 +122,28 @@ impl From<AllocError> for DecodeError {
 
 /// A step of a path.
 #[derive(Drop)]
-pub(crate) enum Place {
+pub enum Place {
+    /// A field, a key or a variant of this name.
     Name(Text),
+    /// The item of a list at this place, counted from 0.
     Item(usize),
 }
 
-/// A fault on the way out, and the places passed so far, the innermost first.
+/// A fault on the way out.
 #[derive(Drop)]
-pub(crate) struct Misfit {
+pub struct Misfit {
+    /// What is wrong.
     pub kind: FaultKind,
+    /// The places passed so far, the innermost first.
     pub places: List<Place>,
 }
 
 /// Why decoding stops.
 #[derive(Drop)]
-pub(crate) enum Stop {
+pub enum Stop {
+    /// There is a fault.
     Misfit(Misfit),
+    /// There was not enough memory.
     OutOfMemory,
 }
 

@@ -34,11 +34,12 @@ mod table;
 mod tree;
 mod wrapped;
 
+pub use bounds::{character_count, is_length_within, is_number_of};
 pub use check::{TableError, check_desc, check_table};
 pub use decode::decode_json;
 pub use desc::{Desc, Field, IntKind, Named, Presence, TaggedVariant, Variant};
 pub use encode::encode_json;
-pub use fault::{DecodeError, Fault, FaultKind};
+pub use fault::{DecodeError, Fault, FaultKind, Misfit, Place, Stop};
 pub use fitting::fits;
 pub use schemas::{SchemaPlace, schema_of, schema_of_definition};
 pub use table::{AddError, Added, Definition, DescTable};

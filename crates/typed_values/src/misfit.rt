@@ -1,5 +1,7 @@
+ghost use Rattle.std.specs.Prelude.{◌≡◌, IfOk, IsTrue};
 ghost use Rattle.std.specs.declared.result.Result.TheVariants.{Err};
-ghost use Rattle.typed_values.specs.declared.fault.FaultKind.TheVariants.{Missing, Unknown};
+ghost use Rattle.schema_values.specs.Ascii.{all_ascii};
+ghost use Rattle.typed_values.specs.declared.fault.FaultKind.TheVariants.{BadText, Doubled, Missing, Unknown};
 ghost use Rattle.typed_values.specs.declared.fault.Place.TheVariants.{Name};
 ghost use Rattle.typed_values.specs.Answer.{Tells, IfFault, IsFaultOf};
 ghost use Rattle.typed_values.specs.Denotes.{Told, below, refused};
@@ -7,11 +9,11 @@ ghost use Rattle.typed_values.specs.Denotes.{Told, below, refused};
 use crate::fault::{DecodeError, Fault, FaultKind, Misfit, Place, Stop};
 use crate::path::path_text;
 use schema_values::{List, Text};
-use std::alloc::Global;
+use std::alloc::{AllocError, Global};
 
 impl Stop {
     /// A fault at the root.
-    pub(crate) fn refused(alloc: Global, kind: FaultKind) -> Stop
+    pub fn refused(alloc: Global, kind: FaultKind) -> Stop
         ensures { Tells (Err result) (refused kind) }
     {
         Stop::Misfit(Misfit {
@@ -21,7 +23,7 @@ impl Stop {
     }
 
     /// The same fault, below a place.
-    pub(crate) fn below(self, place: Place) -> Stop
+    pub fn below(self, place: Place) -> Stop
         ensures { (told : Told) → Tells (Err self) told → Tells (Err result) (below place told) }
     {
         match self {
@@ -34,7 +36,7 @@ impl Stop {
     }
 
     /// The same fault, below a name.
-    pub(crate) fn below_name(self, alloc: Global, name: &Text) -> Stop
+    pub fn below_name(self, alloc: Global, name: &Text) -> Stop
         ensures { (told : Told) → Tells (Err self) told → Tells (Err result) (below (Name name.now) told) }
     {
         match name.copy(alloc) {
@@ -44,7 +46,7 @@ impl Stop {
     }
 
     /// A fault at the root: what has to have this name is not there.
-    pub(crate) fn missing(alloc: Global, name: &Text) -> Stop
+    pub fn missing(alloc: Global, name: &Text) -> Stop
         ensures { Tells (Err result) (refused (Missing name.now)) }
     {
         match name.copy(alloc) {
@@ -54,7 +56,7 @@ impl Stop {
     }
 
     /// A fault at the root: a name that is not taken.
-    pub(crate) fn unknown(alloc: Global, name: &Text) -> Stop
+    pub fn unknown(alloc: Global, name: &Text) -> Stop
         ensures { Tells (Err result) (refused (Unknown name.now)) }
     {
         match name.copy(alloc) {
@@ -63,8 +65,29 @@ impl Stop {
         }
     }
 
+    /// A fault at the root: a name that is given more than once.
+    pub fn doubled(alloc: Global, name: &Text) -> Stop
+        ensures { Tells (Err result) (refused (Doubled name.now)) }
+    {
+        match name.copy(alloc) {
+            Ok(name) => Stop::refused(alloc, FaultKind::Doubled(name)),
+            Err(_) => Stop::OutOfMemory,
+        }
+    }
+
+    /// A fault at the root: a text that is no value of the kind with this name.
+    pub fn bad_text(alloc: Global, text: &Text, kind: &str) -> Stop
+        requires { IsTrue (all_ascii kind.now) }
+        ensures { Tells (Err result) (refused (BadText text.now kind.now)) }
+    {
+        match bad_text(alloc, text, kind) {
+            Ok(kind) => Stop::refused(alloc, kind),
+            Err(_) => Stop::OutOfMemory,
+        }
+    }
+
     /// The error as it is handed out.
-    pub(crate) fn into_error(self, alloc: Global) -> DecodeError
+    pub fn into_error(self, alloc: Global) -> DecodeError
         ensures { (told : Told) → Tells (Err self) told → IfFault result (IsFaultOf told) }
     {
         match self {
@@ -78,4 +101,12 @@ impl Stop {
             Stop::OutOfMemory => DecodeError::OutOfMemory,
         }
     }
+}
+
+fn bad_text(alloc: Global, text: &Text, kind: &str) -> Result<FaultKind, AllocError>
+    requires { IsTrue (all_ascii kind.now) }
+    ensures { IfOk result (λ fault. fault ≡ BadText text.now kind.now) }
+{
+    let kind = Text::from_ascii(alloc, kind)?;
+    Ok(FaultKind::BadText(text.copy(alloc)?, kind))
 }

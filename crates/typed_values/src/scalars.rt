@@ -1,4 +1,4 @@
-ghost use Rattle.std.specs.Prelude.{◌≤◌, length};
+ghost use Rattle.std.specs.Prelude.{◌≤◌, length, Ok};
 ghost use Rattle.schema_values.specs.declared.json_value.Json.{out-Json};
 ghost use Rattle.typed_values.specs.Answer.{Tells};
 ghost use Rattle.typed_values.specs.Denotes.{nought, truth, character, number, words, one_of_names};
@@ -11,6 +11,12 @@ use crate::tree::Tree;
 use crate::wrapped::variant;
 use schema_values::Json;
 use std::alloc::Global;
+
+pub(crate) fn decode_any(alloc: Global, json: &Json) -> Result<Tree, Stop>
+    ensures { Tells result (Ok (Tree.Any json.now)) }
+{
+    Ok(Tree::Any(json.copy(alloc)?))
+}
 
 pub(crate) fn decode_null(alloc: Global, json: &Json) -> Result<Tree, Stop>
     ensures { Tells result (nought (out-Json json.now)) }

@@ -1,4 +1,5 @@
 //! What the calls of cases answer.
+use crate::faults::fault_text;
 use crate::printed::{lines_printed, printed_and_read, value};
 use crate::schemas::{admits, copied_schemas, definition, schema, titled};
 use crate::tables::{add, add_together, copied_table, table_told};
@@ -9,7 +10,7 @@ use schema_values::{Json, List};
 use std::alloc::Global;
 
 /// The names that members of a case have.
-const MEMBERS: [&str; 15] = [
+const MEMBERS: [&str; 17] = [
     "case",
     "like",
     "call",
@@ -25,6 +26,8 @@ const MEMBERS: [&str; 15] = [
     "title",
     "text",
     "type",
+    "kind",
+    "places",
 ];
 
 /// The calls of cases of values.
@@ -73,6 +76,7 @@ fn answer(alloc: Global, call: &Json, case: &Json) -> Result<Json, CaseError> {
         "value" => value(alloc, case),
         "print_and_read" => printed_and_read(alloc, case),
         "type" => type_told(alloc, case),
+        "fault_text" => fault_text(alloc, case),
         _ => Err(CaseError::Expected("the name of a call")),
     }
 }

@@ -3,6 +3,7 @@
 
 mod answers;
 mod case;
+mod faults;
 mod printed;
 mod refusals;
 mod schemas;

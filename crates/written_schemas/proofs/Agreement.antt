@@ -14,12 +14,8 @@ use Rattle.typed_values.specs.Rows.{row}
 use Rattle.typed_values.specs.Resting.{EachRests, RestsBy, Rests, AllRest}
 use Rattle.typed_values.specs.SchemaTable.{drawn, other_members, schema_json}
 use Rattle.typed_values.specs.Levels.{DescLevel}
-use Rattle.typed_values.proofs.Fields.{names_apart, fields_distinct}
-use Rattle.typed_values.proofs.Found.{definition_is}
 use Rattle.schema_values.proofs.CallerLemmas.{contains_cases}
-use Rattle.typed_values.proofs.Needed.{IsNeeded, needed_part, option_needed, list_needed, map_needed, field_needed, payload_needed, variant_needed, alternative_needed, reference_reached, reference_needed}
-use Rattle.typed_values.proofs.Rows.{row_at}
-use Rattle.typed_values.proofs.Soundness.{each_of, is_right}
+use Rattle.typed_values.proofs.CallerLemmas.{names_apart, fields_distinct, definition_is, IsNeeded, needed_part, option_needed, list_needed, map_needed, field_needed, payload_needed, variant_needed, alternative_needed, reference_reached, reference_needed, row_at, each_of, is_right}
 use Rattle.written_schemas.specs.Reached.{DefinesReached}
 use Rattle.written_schemas.proofs.Scalars.{any_admits, never_admits, null_admits, truth_admits, character_admits, number_admits, words_admit}
 use Rattle.written_schemas.proofs.Composites.{is_list_of, list_admits}

@@ -27,10 +27,8 @@ use Rattle.typed_values.specs.DescBeside.{field_with}
 use Rattle.schema_values.specs.Order.{sorted_by, same_name}
 use Rattle.typed_values.specs.Rows.{told_item, list_row, map_row, struct_row}
 use Rattle.typed_values.specs.SchemaTable.{Drawn, Remarks, annotations, default_of, defaulted, no_remarks, plain, reference, drawn, drawn_json, described, property_of, enumerated, is_described, described_choice, choices_of, enumeration, other_members, schema_json, schema_json_described}
-use Rattle.typed_values.proofs.Denoted.{ok_below, ok_just, ok_items, ok_entries, ok_first}
 use Rattle.schema_values.proofs.CallerLemmas.{contains_first, contains_later}
-use Rattle.typed_values.proofs.Needed.{IsNeeded}
-use Rattle.typed_values.proofs.Rows.{two_maps}
+use Rattle.typed_values.proofs.CallerLemmas.{ok_below, ok_just, ok_items, ok_entries, ok_first, IsNeeded, two_maps}
 use Rattle.written_schemas.proofs.Notes.{noted, before_members}
 use Rattle.written_schemas.proofs.Composites.{is_list_of, wrapped_admits, reference_admits, choice_admits, one_admitted}
 use Rattle.written_schemas.proofs.Counted.{count, one_counted}

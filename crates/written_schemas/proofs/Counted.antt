@@ -4,8 +4,8 @@ use Rattle.std.proofs.lemmas.List.Sums.{sum_by-cons}
 use Rattle.std.specs.List.{list_any, AllByRecursion}
 use Rattle.std.specs.Prelude.{Contains}
 use Rattle.schema_values.specs.Sound.{AreDistinct}
-use Rattle.typed_values.proofs.Fields.{AreDistinct-cons}
 use Rattle.schema_values.proofs.CallerLemmas.{contains_first, contains_later}
+use Rattle.typed_values.proofs.CallerLemmas.{AreDistinct-cons}
 
 pub none_of : {X : Type 0} (p : X → Bool) → ((x : X) → p x ≡ false) → (xs : List X) → list_any p xs ≡ false
 none_of p none [] = refl

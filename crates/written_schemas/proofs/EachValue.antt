@@ -14,7 +14,7 @@ use Rattle.typed_values.specs.declared.table.Definition.{Definition}
 use Rattle.typed_values.specs.Checks.{TablePasses, DescPasses}
 use Rattle.typed_values.specs.Denotes.{room}
 use Rattle.typed_values.specs.Resting.{AllRest}
-use Rattle.typed_values.proofs.Needed.{IsNeeded, needed_part}
+use Rattle.typed_values.proofs.CallerLemmas.{IsNeeded, needed_part}
 use Rattle.written_schemas.specs.Reached.{DefinesReached}
 use Rattle.written_schemas.proofs.Costs.{cost}
 use Rattle.written_schemas.proofs.AtOneValue.{Agrees, Below}

@@ -19,8 +19,7 @@ use Rattle.typed_values.specs.Denotes.{told, refused, without_payload, with_payl
 use Rattle.typed_values.specs.DescBeside.{variant_with}
 use Rattle.typed_values.specs.Rows.{told_field, told_fields, struct_row}
 use Rattle.typed_values.specs.SchemaTable.{bare_names, drawn}
-use Rattle.typed_values.proofs.Denoted.{ok_below, ok_all, ok_struct}
-use Rattle.typed_values.proofs.Found.{other_name}
+use Rattle.typed_values.proofs.CallerLemmas.{ok_below, ok_all, ok_struct, other_name}
 use Rattle.written_schemas.proofs.Counted.{none_of}
 use Rattle.written_schemas.proofs.Enumerations.{is_named, turned}
 use Rattle.written_schemas.proofs.FoundByName.{any_same, ok_found, ok_chosen}

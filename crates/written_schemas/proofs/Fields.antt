@@ -22,9 +22,8 @@ use Rattle.typed_values.specs.Definitions.{field_name}
 use Rattle.typed_values.specs.Denotes.{Told, value_named, is_declared, told, by_presence, if_absent, if_present}
 use Rattle.schema_values.specs.Order.{sorted_by, same_name}
 use Rattle.typed_values.specs.Rows.{value_denotes, told_field, told_fields, told_struct}
-use Rattle.typed_values.proofs.Denoted.{ok_below, ok_just, ok_all, ok_struct}
-use Rattle.typed_values.proofs.Found.{other_name}
 use Rattle.schema_values.proofs.CallerLemmas.{contains_first, contains_later}
+use Rattle.typed_values.proofs.CallerLemmas.{ok_below, ok_just, ok_all, ok_struct, other_name}
 use Rattle.openapi_values.proofs.Steps.{all_same}
 use Rattle.written_schemas.proofs.Forms.{field_property, names_required}
 use Rattle.written_schemas.proofs.Structs.{is_struct_of, other_passes}

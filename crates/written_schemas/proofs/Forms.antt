@@ -10,8 +10,7 @@ use Rattle.typed_values.specs.declared.table.Definition.{Definition}
 use Rattle.typed_values.specs.DescBeside.{Beside, LevelBeside, level_with, beside_with, field_with}
 use Rattle.typed_values.specs.SchemaTable.{Drawn, drawn, drawn_json, drawn_step, plain, property_of, required_names, struct_drawn, schema_json}
 use Rattle.typed_values.specs.Levels.{DescLevel}
-use Rattle.typed_values.proofs.DescBesides.{made_row}
-use Rattle.typed_values.proofs.Rows.{two_maps}
+use Rattle.typed_values.proofs.CallerLemmas.{made_row, two_maps}
 
 module _ (table : List Definition) where
   -- one level of a descriptor, with the schemas of the smaller ones

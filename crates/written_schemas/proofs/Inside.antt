@@ -17,7 +17,7 @@ use Rattle.typed_values.specs.Parts.{StandsIn, the_whole, in_option, in_list, in
 use Rattle.typed_values.specs.SchemaTable.{default_of, drawn, schema_json, schema_json_described}
 use Rattle.typed_values.specs.Levels.{DescLevel}
 use Rattle.schema_values.proofs.CallerLemmas.{contains_cases}
-use Rattle.typed_values.proofs.Tops.{through_option, through_alternative}
+use Rattle.typed_values.proofs.CallerLemmas.{through_option, through_alternative}
 use Rattle.written_schemas.proofs.Forms.{drawn_row, field_property}
 use Rattle.written_schemas.proofs.Sizes.{bare, drawn_fits, remarks_fit, top_cost, top_at, option_size, list_size, map_size, enumeration_size, choice_size, reference_size, field_size, payload_size, variant_size, one_of_fits}
 

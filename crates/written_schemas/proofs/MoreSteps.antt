@@ -25,12 +25,8 @@ use Rattle.typed_values.specs.Parts.{the_whole}
 use Rattle.typed_values.specs.Rows.{told_item, told_entry, value_denotes, told_field, list_row, map_row, struct_row, row}
 use Rattle.typed_values.specs.Resting.{EachRests, RestsBy, Rests, AllRest}
 use Rattle.typed_values.specs.Levels.{DescLevel}
-use Rattle.typed_values.proofs.Found.{definition_is}
 use Rattle.schema_values.proofs.CallerLemmas.{contains_first, contains_later, OfParts, by_parts, all_sorted}
-use Rattle.typed_values.proofs.Needed.{IsNeeded, of_whole, needed_part, option_needed, list_needed, map_needed, field_needed, payload_needed, variant_needed, alternative_needed, reference_needed}
-use Rattle.typed_values.proofs.Rows.{row_at}
-use Rattle.typed_values.proofs.Soundness.{guarded_rests, each_of}
-use Rattle.typed_values.proofs.Tops.{nodes_at}
+use Rattle.typed_values.proofs.CallerLemmas.{definition_is, IsNeeded, of_whole, needed_part, option_needed, list_needed, map_needed, field_needed, payload_needed, variant_needed, alternative_needed, reference_needed, row_at, guarded_rests, each_of, nodes_at}
 
 -- a descriptor under so many options
 options : ℕ → Desc → Desc

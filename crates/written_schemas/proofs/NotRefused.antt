@@ -32,9 +32,8 @@ use Rattle.schema_values.specs.Order.{sorted_by, property_name, same_name}
 use Rattle.typed_values.specs.SchemaTable.{bare_names, default_of, is_described, least_shown}
 use Rattle.schema_values.specs.Parts.{Parts, no_parts}
 use Rattle.typed_values.specs.Schemas.{Sketch, object_of, no_subschemas, of_single, annotatable, with_null, with_default, with_description, property, property_of, required_names, nothing_more, number_bounds, number_parts, list_of, struct_parts, map_of, choice_of, one_of, all_or_none, other_members, texts_of, not_described, enumerated, described_choice, plain_choice, choices_of, enumeration, external_choices, payload_choices, tagged_choice, sketch_step, schema_sketch, schema_parts, sketch_of_field, sketch_of_tagged, sketch_of_variant, schema_value}
-use Rattle.typed_values.proofs.Induction.{InField, InFields, InTagged, InVariant, KnownLevel, firsts, by_levels, each_holds}
-use Rattle.typed_values.proofs.SchemaRows.{parts_row, sketch_level}
 use Rattle.schema_values.proofs.CallerLemmas.{all_sorted}
+use Rattle.typed_values.proofs.CallerLemmas.{InField, InFields, InTagged, InVariant, KnownLevel, firsts, by_levels, each_holds, parts_row, sketch_level}
 use Rattle.written_schemas.proofs.SchemaForms.{StructParts, object_parts, in_all_of, kept, wrapped}
 
 -- parts in which each part with schemas stands as its refusal

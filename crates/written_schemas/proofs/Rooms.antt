@@ -18,11 +18,9 @@ use Rattle.typed_values.specs.Guarded.{named_here, Reaches, at_once, through}
 use Rattle.typed_values.specs.SchemaTable.{schema_json_described}
 use Rattle.typed_values.specs.Reached.{IsReached}
 use Rattle.typed_values.specs.Levels.{DescLevel}
-use Rattle.typed_values.proofs.Found.{definition_is, entry_name, same_or_not}
 use Rattle.schema_values.proofs.CallerLemmas.{contains_first, contains_later}
+use Rattle.typed_values.proofs.CallerLemmas.{definition_is, entry_name, same_or_not, IsNeeded, of_whole, of_reached, entry_inside, option_needed, alternative_needed, reference_reached, reference_needed, through_option, through_alternative}
 use Rattle.openapi_values.proofs.SchemasOfDocument.{total, schemas_in, definition_found, schemas_fit}
-use Rattle.typed_values.proofs.Needed.{IsNeeded, of_whole, of_reached, entry_inside, option_needed, alternative_needed, reference_reached, reference_needed}
-use Rattle.typed_values.proofs.Tops.{through_option, through_alternative}
 use Rattle.written_schemas.specs.Reached.{DefinesReached}
 use Rattle.written_schemas.proofs.Costs.{cost_after, cost_by, cost}
 use Rattle.written_schemas.proofs.Sizes.{bare, top_cost, top_at}

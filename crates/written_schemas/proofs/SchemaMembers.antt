@@ -23,7 +23,7 @@ use Rattle.typed_values.specs.declared.desc.IntKind.{IntKind}
 use Rattle.typed_values.specs.SchemaTable.{Remarks, annotations, nothing, if_true, if_text, if_value, if_number, if_count, if_members, if_names, if_denied, of_type, format_of, reference}
 use Rattle.schema_values.specs.Parts.{Parts}
 use Rattle.typed_values.specs.Schemas.{object_of, of_single, no_subschemas, number_bounds, length_bounds, nothing_more, list_of, struct_of, map_of, choice_of, one_of, all_or_none}
-use Rattle.typed_values.proofs.Rows.{two_maps}
+use Rattle.typed_values.proofs.CallerLemmas.{two_maps}
 use Rattle.written_schemas.proofs.SchemaForms.{StructParts, object_parts, of_reference, in_all_of, unmarked}
 
 -- ---- a schema by its parts

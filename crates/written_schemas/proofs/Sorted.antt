@@ -12,8 +12,8 @@ use Rattle.schema_values.specs.Get.{first_named}
 use Rattle.schema_values.specs.Member.{name_of}
 use Rattle.schema_values.specs.Order.{at_place, inserted_by, sorted_by}
 use Rattle.typed_values.specs.Order.{first_by}
-use Rattle.typed_values.proofs.FirstNamed as typed
-use Rattle.typed_values.proofs.Found.{other_name}
+use Rattle.typed_values.proofs.CallerLemmas as typed
+use Rattle.typed_values.proofs.CallerLemmas.{other_name}
 
 pub and_swapped : (a b c : Bool) → (a && (b && c)) ≡ (b && (a && c))
 and_swapped true b c = refl

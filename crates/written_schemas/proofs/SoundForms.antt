@@ -16,7 +16,7 @@ use Rattle.typed_values.specs.declared.desc.IntKind.{IntKind}
 use Rattle.typed_values.specs.declared.desc.Named.{Named}
 use Rattle.typed_values.specs.SchemaTable.{Drawn, plain, all_or_none, reference, enumerated, enumeration, described, described_choice, plain_choice, choices_of, drawn_json, format_of, if_count, if_denied, if_number, if_text, is_described, null_alone, of_type, one_character, other_members, struct_drawn}
 use Rattle.typed_values.specs.Definitions.{listed_name}
-use Rattle.typed_values.proofs.Ordered.{sorted_ascends}
+use Rattle.typed_values.proofs.CallerLemmas.{sorted_ascends}
 use Rattle.openapi_values.specs.SoundContents.{IsCount}
 use Rattle.openapi_values.proofs.Keyed.{IsKeyed, is_new, none_keyed, put}
 use Rattle.written_schemas.proofs.KeyedMembers.{IsSoundlyDrawn, notes, count_keyed, denied_keyed, described_sound, drawn_sound, members_keyed, names_keyed, number_keyed, text_keyed, texts_sound}

@@ -29,12 +29,7 @@ use Rattle.typed_values.specs.Levels.{DescLevel}
 use Rattle.typed_values.specs.Parts.{StandsIn, the_whole, in_option, in_list, in_map, in_field, in_payload, in_variant, in_alternative}
 use Rattle.typed_values.specs.Schemas.{in_header}
 use Rattle.typed_values.specs.SchemaTable.{Drawn, bare_names, choices_of, default_of, defaulted, described, drawn, drawn_json, drawn_step, enumerated, external_choices, least_shown, payload_choices, property, property_of, required_names, schema_json, schema_json_described, schema_json_titled, tagged_choice, titled}
-use Rattle.typed_values.proofs.Fields.{distinct_at, fields_distinct, names_apart}
-use Rattle.typed_values.proofs.Induction.{InField, InFields, InTagged, InVariant, KnownLevel, firsts, by_levels, each_holds}
-use Rattle.typed_values.proofs.DescBesides.{made_row}
-use Rattle.typed_values.proofs.ScalarsBack.{kind_whole}
-use Rattle.typed_values.proofs.Within.{stands_through}
-use Rattle.typed_values.proofs.WrittenBack.{read_back}
+use Rattle.typed_values.proofs.CallerLemmas.{distinct_at, fields_distinct, names_apart, InField, InFields, InTagged, InVariant, KnownLevel, firsts, by_levels, each_holds, made_row, kind_whole, stands_through, read_back}
 use Rattle.written_schemas.proofs.KeyedMembers.{IsSoundlyDrawn, defaulted_sound, described_sound, drawn_sound, null_sound, titled_sound}
 use Rattle.written_schemas.proofs.SoundForms.{any_sound, appended, character_sound, choice_sound, choices_sound, enumerated_sound, enumeration_sound, every_sound, length_is_count, list_sound, map_sound, null_alone_sound, number_sound, reference_sound, struct_sound, text_sound, truth_sound}
 

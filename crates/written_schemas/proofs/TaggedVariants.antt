@@ -20,10 +20,7 @@ use Rattle.typed_values.specs.Denotes.{Told, told, room, nodes, nodes_of_table, 
 use Rattle.typed_values.specs.Rows.{value_denotes, told_field, told_fields, told_struct, struct_row}
 use Rattle.typed_values.specs.Resting.{RestsBy, Rests}
 use Rattle.typed_values.specs.Levels.{DescLevel}
-use Rattle.typed_values.proofs.Denoted.{ok_below, ok_all, ok_struct}
-use Rattle.typed_values.proofs.Fields.{names_apart, distinct_at}
-use Rattle.typed_values.proofs.Rows.{row_at}
-use Rattle.typed_values.proofs.WrittenMembers.{new_name}
+use Rattle.typed_values.proofs.CallerLemmas.{ok_below, ok_all, ok_struct, names_apart, distinct_at, row_at, new_name}
 use Rattle.written_schemas.proofs.Counted.{none_of}
 use Rattle.written_schemas.proofs.Enumerations.{is_named, named_once, turned, ok_named}
 use Rattle.written_schemas.proofs.FoundByName.{any_same, ok_found, ok_chosen}

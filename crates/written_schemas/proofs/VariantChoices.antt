@@ -22,8 +22,7 @@ use Rattle.typed_values.specs.DescBeside.{tagged_with, variant_with}
 use Rattle.typed_values.specs.Rows.{struct_row}
 use Rattle.typed_values.specs.SchemaTable.{DrawnVariant, no_remarks, plain, drawn, drawn_json, described, bare_names, choices_of, payload_choices, external_choices, tagged_choice}
 use Rattle.schema_values.proofs.CallerLemmas.{contains_cases, contains_first, contains_later}
-use Rattle.typed_values.proofs.Needed.{IsNeeded}
-use Rattle.typed_values.proofs.Rows.{two_maps}
+use Rattle.typed_values.proofs.CallerLemmas.{IsNeeded, two_maps}
 use Rattle.written_schemas.proofs.AtOneValue.{AgreesAt, Below, FieldsAgree, object_agrees, one_agrees, names_counted, plain_names}
 use Rattle.written_schemas.proofs.Counted.{count, either_counted, counted_once, counted_map}
 use Rattle.written_schemas.proofs.Enumerations.{is_named}

@@ -13,8 +13,7 @@ use Rattle.typed_values.specs.Denotes.{Told, told, room as table_room}
 use Rattle.typed_values.specs.Parts.{the_whole}
 use Rattle.typed_values.specs.SchemaTable.{Remarks, drawn, drawn_json, schema_json, schema_json_titled, schema_json_described}
 use Rattle.typed_values.specs.Levels.{DescLevel}
-use Rattle.typed_values.proofs.Needed.{of_whole}
-use Rattle.typed_values.proofs.Soundness.{guarded_rests}
+use Rattle.typed_values.proofs.CallerLemmas.{of_whole, guarded_rests}
 use Rattle.written_schemas.specs.Written.{IsWritten, AdmitsDenoted, StepsSuffice}
 use Rattle.written_schemas.proofs.Notes.{noted}
 use Rattle.written_schemas.proofs.EachValue.{agree}

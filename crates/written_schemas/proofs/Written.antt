@@ -30,10 +30,8 @@ use Rattle.typed_values.specs.Schemas as meant
 use Rattle.schema_values.specs.Parts.{Parts}
 use Rattle.typed_values.specs.Schemas.{Sketch, object_of, with_null, with_description, one_of, texts_of, not_described, sketch, schema_sketch, schema_parts, sketch_of_field, sketch_of_tagged, sketch_of_variant, schema_value}
 use Rattle.typed_values.specs.Levels.{DescLevel}
-use Rattle.typed_values.proofs.Induction.{InField, InFields, InTagged, InVariant, KnownLevel, firsts, by_levels, each_holds}
-use Rattle.typed_values.proofs.Rows.{two_maps}
-use Rattle.typed_values.proofs.SchemaRows.{parts_row, sketch_level, sketch_row}
 use Rattle.schema_values.proofs.CallerLemmas.{map_sorted}
+use Rattle.typed_values.proofs.CallerLemmas.{InField, InFields, InTagged, InVariant, KnownLevel, firsts, by_levels, each_holds, two_maps, parts_row, sketch_level, sketch_row}
 use Rattle.written_schemas.proofs.DrawnParts.{Shows, Bare, Dressed, IsAnnotated, written_under, written_bare, written_so, null_shows, described_shows, defaulted_shows}
 use Rattle.written_schemas.proofs.Forms.{drawn_level, drawn_row, field_property}
 use Rattle.written_schemas.proofs.SchemaForms.{annotatable_is_free, enumeration_is_free, unmarked}

@@ -1,6 +1,6 @@
 use Rattle.std.proofs.Common.{map}
 use Rattle.typed_values.specs.Fits.{key_of}
-use Rattle.typed_values.proofs.AscendingKeys.{keys_sorted}
+use Rattle.typed_values.proofs.CallerLemmas.{keys_sorted}
 use Rattle.api_types.proofs.Entries.{next_pairs}
 use Rattle.api_types.proofs.map.map_of.Goals as goal
 

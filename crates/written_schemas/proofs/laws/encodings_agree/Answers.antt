@@ -1,4 +1,4 @@
-use Rattle.typed_values.proofs.WrittenBack.{read_back}
+use Rattle.typed_values.proofs.CallerLemmas.{read_back}
 use Rattle.written_schemas.proofs.Whole.{plain_agrees, titled_agrees, described_agrees}
 use Rattle.written_schemas.proofs.laws.encodings_agree.Goals as goal
 

@@ -1,4 +1,4 @@
-use Rattle.std.proofs.Common.{ℕ, suc, true, ◌≡◌, ◌+◌, List, map, refl, sym, ◌∙◌, ap, arith, length, drop, Bor, ◌<◌, ◌≤◌, Option, Some, None, subst}
+use Rattle.std.proofs.Common.{ℕ, suc, true, false, ◌≡◌, ◌+◌, List, map, refl, sym, ◌∙◌, ap, arith, length, drop, Bor, ◌<◌, ◌≤◌, Option, Some, None, subst}
 use Rattle.std.proofs.lemmas.List.{length-map}
 use Rattle.std.proofs.lemmas.Result.{err_from_is_err_and}
 use Rattle.std.specs.Prelude.{IfSome}
@@ -7,25 +7,26 @@ use denote.Param.Weighed.{most}
 use Rattle.schema_values.specs.declared.json_value.Json.{Json, out-Json, size-Json}
 use Rattle.schema_values.specs.declared.json_value.Json.TheVariants as json
 use Rattle.schema_values.specs.declared.json_value.Member.{Member, size-Member}
-use Rattle.std.specs.declared.result.Result.TheVariants.{Err}
 use Rattle.typed_values.specs.declared.desc.Desc.{Desc}
 use Rattle.typed_values.specs.declared.desc.Field.{Field}
+use Rattle.typed_values.specs.declared.desc.TaggedVariant.{TaggedVariant}
+use Rattle.typed_values.specs.declared.fault.FaultKind.TheVariants.{NotListed}
 use Rattle.typed_values.specs.declared.fault.Place.TheVariants.{Item, Name}
 use Rattle.typed_values.specs.declared.tree.Pair.{Pair}
 use Rattle.typed_values.specs.declared.tree.Tree.{Tree, List as Items, Map as Entries, Fields as Parts}
 use Rattle.typed_values.specs.Answer.{Tells}
 use Rattle.typed_values.specs.Bounds.{is_length_within}
-use Rattle.typed_values.specs.Definitions.{tagged_name, variant_name}
-use Rattle.typed_values.specs.Denotes.{Told, below, chosen, told, all_told, as_tree, member_name}
+use Rattle.typed_values.specs.Definitions.{tagged_fields, tagged_name, variant_name}
+use Rattle.typed_values.specs.Denotes.{Told, below, chosen, told, all_told, as_tree, member_name, refused, where_found}
 use Rattle.typed_values.specs.Faults.{Trouble}
 use Rattle.schema_values.specs.Order.{sorted_by}
 use Rattle.typed_values.specs.Parts.{IsPart}
-use Rattle.typed_values.specs.Rows.{told_item, told_entry, told_field}
-use Rattle.typed_values.proofs.Arms.{row_any, row_never, row_nought, row_bool, row_char, row_int, row_text, row_enumeration, row_option, row_list, row_map, row_struct, row_external, row_tagged, row_untagged, row_ref, definition_is_part, payload_at, chosen_err}
+use Rattle.typed_values.specs.Rows.{told_item, told_entry, told_field, told_fields, told_struct}
+use Rattle.typed_values.proofs.Arms.{row_any, row_never, row_nought, row_bool, row_char, row_int, row_text, row_enumeration, row_option, row_list, row_map, row_struct, row_external, row_tagged, row_untagged, row_ref, definition_is_part, payload_at, list_at, map_at, at_tag_text}
 use Rattle.typed_values.proofs.Inside.{part_of_option, part_of_list, part_of_map, parts_of_untagged, fields_of_struct, payloads_of_external, variants_of_tagged, few_names, few_variants, few_tagged, few_alternatives}
 use Rattle.typed_values.proofs.Listed.{place_below, found_inside}
 use Rattle.typed_values.proofs.Loops.{after, all_step, all_err, all_end, items_within}
-use Rattle.typed_values.proofs.JsonSizes.{size_list, item_smaller, member_greater, member_at_most, entry_at_most, value_smaller, members-lt-alone}
+use Rattle.typed_values.proofs.JsonSizes.{list_size, item_smaller, member_greater, member_at_most, entry_smaller, value_smaller, members-lt-alone}
 use Rattle.typed_values.proofs.Measure.{option-lt, ref-lt, choice-lt-at, at-lt-choice, alone-lt-at, at-lt-alone, alone-le-alone, size_alone}
 use Rattle.typed_values.proofs.Places.{taken_behind}
 use Rattle.typed_values.proofs.scope.Decoder.+decode.Goals as goal
@@ -43,8 +44,8 @@ decode_at-decode_option-requires t c =
 pub decode_at-returns-in-Option : goal.decode_at-returns-in-Option
 decode_at-returns-in-Option t c = rw (row_option _ _ c.args.json.now c.args.desc.now (c.args.self.now.all_rest _ c.requires) c.in-Option.inner c.in-Option.is, ← c.get.ensures) c.decode_option.ensures
 
-pub decode_at-returns-in_ok-copy-in-Any : goal.decode_at-returns-in_ok-copy-in-Any
-decode_at-returns-in_ok-copy-in-Any t c = rw (row_any _ _ c.args.json.now c.args.desc.now (c.args.self.now.all_rest _ c.requires) c.in-Any.is, c.in_ok-copy-in-Any.ensures) refl
+pub decode_at-returns-in-Any : goal.decode_at-returns-in-Any
+decode_at-returns-in-Any t c = rw (row_any _ _ c.args.json.now c.args.desc.now (c.args.self.now.all_rest _ c.requires) c.in-Any.is) c.decode_any.ensures
 
 pub decode_at-returns-in-Never : goal.decode_at-returns-in-Never
 decode_at-returns-in-Never t c = rw (row_never _ _ c.args.json.now c.args.desc.now (c.args.self.now.all_rest _ c.requires) c.in-Never.is) c.refused.ensures
@@ -146,62 +147,48 @@ pub decode_at-returns-in-None : goal.decode_at-returns-in-None
 decode_at-returns-in-None t c =
     rw (row_ref _ _ c.args.json.now c.args.desc.now (c.args.self.now.all_rest _ c.requires) c.in-Ref.name None c.in-Ref.is (sym c.in-None.ensures)) c.refused-in-None.ensures
 
-pub decode_list-decode_items-requires : goal.decode_list-decode_items-requires
-decode_list-decode_items-requires t c =
-    let size : size-Json c.args.json.now ≡ suc (most size-Json c.in-List.items) = ap size-Json c.in-List.is ∙ size_list c.in-List.items in
-    rw (c.as_slice.ensures, ← size) (omega (arith, c.decreases), c.requires)
-
-pub decode_map-decode_entries-requires : goal.decode_map-decode_entries-requires
-decode_map-decode_entries-requires t c =
+pub decode_struct-decode_fields-requires : goal.decode_struct-decode_fields-requires
+decode_struct-decode_fields-requires t c =
     let less = members-lt-alone c.args.self.now.table.now c.args.self.now.whole.now c.args.json.now c.in-Object.members c.in-Object.is in
-    rw c.as_slice.ensures (omega (arith, c.decreases, less), c.requires)
+    rw (c.in_ok-members.ensures, c.as_slice.ensures) (omega (arith, c.decreases, less), c.requires)
 
-pub decode_map-returns-in-Object : goal.decode_map-returns-in-Object
-decode_map-returns-in-Object t c = rw (ap out-Json c.in-Object.is ∙ json.outs-Object c.in-Object.members, ← c.as_slice.ensures) c.decode_entries.ensures
-
-pub decode_struct-decode_members-requires : goal.decode_struct-decode_members-requires
-decode_struct-decode_members-requires t c =
-    let less = members-lt-alone c.args.self.now.table.now c.args.self.now.whole.now c.args.json.now c.in-Object.members c.in-Object.is in
-    rw c.as_slice.ensures (omega (arith, c.decreases, less), c.requires)
-
-pub decode_pair-decode_at-requires : goal.decode_pair-decode_at-requires
-decode_pair-decode_at-requires t c =
-    let less = at-lt-alone c.args.self.now.table.now c.args.self.now.whole.now (size-Json c.args.member.now.value) (size-Member c.args.member.now) c.args.value.now (member_greater c.args.member.now) in
-    (omega (arith, c.decreases, less), c.requires)
-
-pub decode_entries-decode_pair-requires : goal.decode_entries-decode_pair-requires
-decode_entries-decode_pair-requires t c =
-    let ms = c.args.members.now in
-    let same = ap lent c.deref-member-items.ensures.value ∙ c.in_ok-ordered.ensures in
-    let at = taken_behind (λ member. member.now) c.deref-member-items.result.now (sorted_by member_name ms) same c.loop-member.member-index c.member-item.result (omega arith) c.member-item.is in
-    let less = alone-le-alone c.args.self.now.table.now c.args.self.now.whole.now (size-Member c.member-item.result.now) (most size-Member ms) (entry_at_most ms c.loop-member.member-index c.member-item.result.now at.0 at.1) in
-    (omega (arith, c.decreases, less), c.requires)
-
-pub decode_entries-returns-in_err-decode_pair : goal.decode_entries-returns-in_err-decode_pair
-decode_entries-returns-in_err-decode_pair t c =
-    let ms = sorted_by member_name c.args.members.now in
-    let f : ℕ → Member → Result Pair Trouble = λ i m. told_entry c.args.self.now.table.now c.args.self.now.whole.now c.args.value.now m in
+pub decode_map-decode_at-requires : goal.decode_map-decode_at-requires
+decode_map-decode_at-requires t c =
+    let ms = sorted_by member_name c.as_slice-members.result.now in
     let same = ap lent c.deref-member-items.ensures.value ∙ c.in_ok-ordered.ensures in
     let at = taken_behind (λ member. member.now) c.deref-member-items.result.now ms same c.loop-member.member-index c.member-item.result (omega arith) c.member-item.is in
-    let p = err_from_is_err_and c.from_residual-in_err-decode_pair.result c.from_residual-in_err-decode_pair.ensures.1 in
-    rw (p.1, p.2) (all_err f (all_told f 0 ms) ms c.loop-member.member-index c.loop-member.pairs c.loop-member.invariant (as_tree Entries) (λ k. refl) c.member-item.result.now c.in_err-decode_pair.field-0.0 at.0 at.1 c.in_err-decode_pair.ensures)
+    let smaller = entry_smaller c.args.json.now c.in-Object.object c.as_slice-members.result.now c.in-Object.is c.as_slice-members.ensures c.loop-member.member-index c.member-item.result.now at.0 at.1 in
+    let less = at-lt-alone c.args.self.now.table.now c.args.self.now.whole.now (size-Json c.member-item.result.now.value) (size-Json c.args.json.now) c.args.value.now smaller in
+    (omega (arith, c.decreases, less), c.requires)
 
-pub decode_entries-loop-member-preserved : goal.decode_entries-loop-member-preserved
-decode_entries-loop-member-preserved t c =
-    let ms = sorted_by member_name c.args.members.now in
+pub decode_map-returns-in_err-pair : goal.decode_map-returns-in_err-pair
+decode_map-returns-in_err-pair t c =
+    let ms = lent c.deref-member-items.result.now in
     let f : ℕ → Member → Result Pair Trouble = λ i m. told_entry c.args.self.now.table.now c.args.self.now.whole.now c.args.value.now m in
-    let same = ap lent c.deref-member-items.ensures.value ∙ c.in_ok-ordered.ensures in
-    let at = taken_behind (λ member. member.now) c.deref-member-items.result.now ms same c.loop-member.member-index c.member-item.result (omega arith) c.member-item.is in
-    all_step f (all_told f 0 ms) ms c.loop-member.member-index c.loop-member.pairs c.loop-member.invariant c.member-item.result.now _ at.0 at.1 c.in_ok-decode_pair.ensures
+    let at = taken_behind (λ member. member.now) c.deref-member-items.result.now ms refl c.loop-member.member-index c.member-item.result (omega arith) c.member-item.is in
+    let same : ms ≡ sorted_by member_name c.as_slice-members.result.now = ap lent c.deref-member-items.ensures.value ∙ c.in_ok-ordered.ensures in
+    let row = map_at c.args.self.now.table.now c.args.self.now.whole.now c.args.value.now c.args.json.now c.in-Object.object c.as_slice-members.result.now c.in-Object.is c.as_slice-members.ensures ∙ ap (λ (xs : List Member). as_tree Entries (all_told f 0 xs)) (sym same) in
+    let bad = rw c.in_ok-key.ensures at (c.in_err-pair.ensures (told c.args.self.now.table.now c.args.self.now.whole.now c.member-item.result.now.value c.args.value.now) c.decode_at.ensures) in
+    let p = err_from_is_err_and c.from_residual-in_err-pair.result c.from_residual-in_err-pair.ensures.1 in
+    rw (row, p.1, p.2) (all_err f (all_told f 0 ms) ms c.loop-member.member-index c.loop-member.pairs c.loop-member.invariant (as_tree Entries) (λ k. refl) c.member-item.result.now c.in_err-pair.field-0.0 at.0 at.1 bad)
+
+pub decode_map-loop-member-preserved : goal.decode_map-loop-member-preserved
+decode_map-loop-member-preserved t c =
+    let ms = lent c.deref-member-items.result.now in
+    let f : ℕ → Member → Result Pair Trouble = λ i m. told_entry c.args.self.now.table.now c.args.self.now.whole.now c.args.value.now m in
+    let at = taken_behind (λ member. member.now) c.deref-member-items.result.now ms refl c.loop-member.member-index c.member-item.result (omega arith) c.member-item.is in
+    let good = rw c.in_ok-key.ensures at (c.in_ok-pair.ensures (told c.args.self.now.table.now c.args.self.now.whole.now c.member-item.result.now.value c.args.value.now) c.decode_at.ensures) in
+    all_step f (all_told f 0 ms) ms c.loop-member.member-index c.loop-member.pairs c.loop-member.invariant c.member-item.result.now _ at.0 at.1 good
     ∙ ap (λ (ps : List Pair). after ps (all_told f (c.loop-member.member-index + 1) (drop (c.loop-member.member-index + 1) ms))) (sym c.in_ok-push.ensures.ok)
 
-pub decode_entries-returns : goal.decode_entries-returns
-decode_entries-returns t c =
-    let ms = sorted_by member_name c.args.members.now in
+pub decode_map-returns : goal.decode_map-returns
+decode_map-returns t c =
+    let ms = lent c.deref-member-items.result.now in
     let f : ℕ → Member → Result Pair Trouble = λ i m. told_entry c.args.self.now.table.now c.args.self.now.whole.now c.args.value.now m in
-    let same = ap lent c.deref-member-items.ensures.value ∙ c.in_ok-ordered.ensures in
-    let n : length ms ≡ length c.deref-member-items.result.now = ap length (sym same) ∙ length-map c.deref-member-items.result.now (λ member. member.now) in
-    ap (as_tree Entries) (all_end f (all_told f 0 ms) ms c.loop-member.member-index c.loop-member.pairs c.loop-member.invariant (omega (arith, n)))
+    let same : ms ≡ sorted_by member_name c.as_slice-members.result.now = ap lent c.deref-member-items.ensures.value ∙ c.in_ok-ordered.ensures in
+    let row = map_at c.args.self.now.table.now c.args.self.now.whole.now c.args.value.now c.args.json.now c.in-Object.object c.as_slice-members.result.now c.in-Object.is c.as_slice-members.ensures ∙ ap (λ (xs : List Member). as_tree Entries (all_told f 0 xs)) (sym same) in
+    let n : length ms ≡ length c.deref-member-items.result.now = length-map c.deref-member-items.result.now (λ member. member.now) in
+    row ∙ ap (as_tree Entries) (all_end f (all_told f 0 ms) ms c.loop-member.member-index c.loop-member.pairs c.loop-member.invariant (omega (arith, n)))
 
 pub decode_field-decode_at-requires : goal.decode_field-decode_at-requires
 decode_field-decode_at-requires t c =
@@ -232,32 +219,39 @@ decode_fields-returns t c =
     let f : ℕ → Field → Told = λ i x. told_field c.args.self.now.table.now c.args.self.now.whole.now c.args.members.now.items.now x in
     ap (as_tree Parts) (all_end f (all_told f 0 fs) fs c.loop-field.field-index c.loop-field.trees c.loop-field.invariant (omega arith))
 
-pub decode_items-decode_at-requires : goal.decode_items-decode_at-requires
-decode_items-decode_at-requires t c =
-    let less = at-lt-alone c.args.self.now.table.now c.args.self.now.whole.now (size-Json c.index-items-i.result) (suc (most size-Json c.args.items.now)) c.args.item.now (item_smaller c.args.items.now c.loop-i.i c.index-items-i.result (omega arith) c.index-items-i.is) in
+pub decode_list-decode_at-requires : goal.decode_list-decode_at-requires
+decode_list-decode_at-requires t c =
+    let js = c.as_slice-items.result.now in
+    let size : size-Json c.args.json.now ≡ suc (most size-Json js) = list_size c.args.json.now c.in-List.list js c.in-List.is c.as_slice-items.ensures in
+    let smaller = item_smaller js c.loop-i.i c.index-items-i.result (omega arith) c.index-items-i.is in
+    let less = at-lt-alone c.args.self.now.table.now c.args.self.now.whole.now (size-Json c.index-items-i.result) (size-Json c.args.json.now) c.args.item.now (omega (arith, size, smaller)) in
     (omega (arith, c.decreases, less), c.requires)
 
-pub decode_items-returns-in-Err : goal.decode_items-returns-in-Err
-decode_items-returns-in-Err t c =
-    let js = c.args.items.now in
+pub decode_list-returns-in_err-item_at : goal.decode_list-returns-in_err-item_at
+decode_list-returns-in_err-item_at t c =
+    let js = c.as_slice-items.result.now in
     let f : ℕ → Json → Told = told_item c.args.self.now.table.now c.args.self.now.whole.now c.args.item.now in
     let within : is_length_within c.args.min c.args.max (length js) ≡ true = cc in
-    rw (items_within f c.args.min c.args.max js within) (all_err f (all_told f 0 js) js c.loop-i.i c.loop-i.trees c.loop-i.invariant (as_tree Items) (λ k. refl) c.index-items-i.result c.below.result (omega arith) c.index-items-i.is
-    (c.below.ensures (told c.args.self.now.table.now c.args.self.now.whole.now c.index-items-i.result c.args.item.now) c.in-Err.ensures))
+    let row = list_at c.args.self.now.table.now c.args.self.now.whole.now c.args.item.now c.args.min c.args.max c.args.json.now c.in-List.list js c.in-List.is c.as_slice-items.ensures ∙ items_within f c.args.min c.args.max js within in
+    let bad = c.in_err-item_at.ensures (told c.args.self.now.table.now c.args.self.now.whole.now c.index-items-i.result c.args.item.now) c.decode_at.ensures in
+    let p = err_from_is_err_and c.from_residual.result c.from_residual.ensures.1 in
+    rw (row, p.1, p.2) (all_err f (all_told f 0 js) js c.loop-i.i c.loop-i.trees c.loop-i.invariant (as_tree Items) (λ k. refl) c.index-items-i.result c.in_err-item_at.field-0.0 (omega arith) c.index-items-i.is bad)
 
-pub decode_items-loop-i-preserved : goal.decode_items-loop-i-preserved
-decode_items-loop-i-preserved t c =
-    let js = c.args.items.now in
+pub decode_list-loop-i-preserved : goal.decode_list-loop-i-preserved
+decode_list-loop-i-preserved t c =
+    let js = c.as_slice-items.result.now in
     let f : ℕ → Json → Told = told_item c.args.self.now.table.now c.args.self.now.whole.now c.args.item.now in
-    all_step f (all_told f 0 js) js c.loop-i.i c.loop-i.trees c.loop-i.invariant c.index-items-i.result c.in-Ok.tree (omega arith) c.index-items-i.is (ap (below (Item c.loop-i.i)) c.in-Ok.ensures)
-    ∙ ap (λ (ts : List Tree). after ts (all_told f (c.loop-i.i + 1) (drop (c.loop-i.i + 1) js))) (sym c.in_ok-push-in-Ok.ensures.ok)
+    let good = c.in_ok-item_at.ensures (told c.args.self.now.table.now c.args.self.now.whole.now c.index-items-i.result c.args.item.now) c.decode_at.ensures in
+    all_step f (all_told f 0 js) js c.loop-i.i c.loop-i.trees c.loop-i.invariant c.index-items-i.result _ (omega arith) c.index-items-i.is good
+    ∙ ap (λ (ts : List Tree). after ts (all_told f (c.loop-i.i + 1) (drop (c.loop-i.i + 1) js))) (sym c.in_ok-push.ensures.ok)
 
-pub decode_items-returns : goal.decode_items-returns
-decode_items-returns t c =
-    let js = c.args.items.now in
+pub decode_list-returns : goal.decode_list-returns
+decode_list-returns t c =
+    let js = c.as_slice-items.result.now in
     let f : ℕ → Json → Told = told_item c.args.self.now.table.now c.args.self.now.whole.now c.args.item.now in
     let within : is_length_within c.args.min c.args.max (length js) ≡ true = cc in
-    items_within f c.args.min c.args.max js within ∙ ap (as_tree Items) (all_end f (all_told f 0 js) js c.loop-i.i c.loop-i.trees c.loop-i.invariant (omega arith))
+    let row = list_at c.args.self.now.table.now c.args.self.now.whole.now c.args.item.now c.args.min c.args.max c.args.json.now c.in-List.list js c.in-List.is c.as_slice-items.ensures ∙ items_within f c.args.min c.args.max js within in
+    row ∙ ap (as_tree Items) (all_end f (all_told f 0 js) js c.loop-i.i c.loop-i.trees c.loop-i.invariant (omega arith))
 
 pub decode_untagged-decode_at-requires : goal.decode_untagged-decode_at-requires
 decode_untagged-decode_at-requires t c =
@@ -272,25 +266,25 @@ decode_external-decode_payload-requires t c =
     let less = alone-le-alone c.args.self.now.table.now c.args.self.now.whole.now (size-Member m) (most size-Member c.in-Object.members) here in
     (omega (arith, c.decreases, inner, less), (c.requires.parts, c.requires.few))
 
-pub decode_payload-decode_at-requires : goal.decode_payload-decode_at-requires
-decode_payload-decode_at-requires t c =
+pub decode_payload-decode_at-answer-requires : goal.decode_payload-decode_at-answer-requires
+decode_payload-decode_at-answer-requires t c =
     let v = c.in-Some.chosen.now in
     let inside = found_inside variant_name c.args.variants.now c.args.member.now.name (c.in-Some.place, v) (sym c.in-Some.ensures) in
     let less = at-lt-alone c.args.self.now.table.now c.args.self.now.whole.now (size-Json c.args.member.now.value) (size-Member c.args.member.now) c.in-Some-payload.payload (member_greater c.args.member.now) in
     (omega (arith, c.decreases, less), subst (λ (o : Option Desc). IfSome o (IsPart c.args.self.now.table.now c.args.self.now.whole.now)) c.in-Some-payload.is (c.requires.parts v inside))
 
-pub decode_payload-variant-requires : goal.decode_payload-variant-requires
-decode_payload-variant-requires t c =
+pub decode_payload-returns : goal.decode_payload-returns
+decode_payload-returns t c =
+    let inner = told c.args.self.now.table.now c.args.self.now.whole.now c.args.member.now.value in
+    let of_payload = below (Name c.args.member.now.name) (inner c.in-Some-payload.payload) in
+    let at = payload_at inner c.args.variants.now c.args.member.now.name c.in-Some.place c.in-Some.chosen.now c.in-Some-payload.payload (sym c.in-Some.ensures) c.in-Some-payload.is in
+    let answer = c.in_variant.ensures of_payload (c.below_name.ensures (inner c.in-Some-payload.payload) c.decode_at-answer.ensures) in
+    subst (λ (o : Told). Tells c.in_variant.result o) (sym at) answer
+
+pub decode_payload-in_variant-requires : goal.decode_payload-in_variant-requires
+decode_payload-in_variant-requires t c =
     let less = place_below variant_name c.args.variants.now c.args.member.now.name (c.in-Some.place, c.in-Some.chosen.now) (sym c.in-Some.ensures) in
     omega (arith, less, c.requires.few)
-
-pub decode_payload-returns-in-Err : goal.decode_payload-returns-in-Err
-decode_payload-returns-in-Err t c =
-    let inner = told c.args.self.now.table.now c.args.self.now.whole.now c.args.member.now.value in
-    let of_payload = inner c.in-Some-payload.payload in
-    let at = payload_at inner c.args.variants.now c.args.member.now.name c.in-Some.place c.in-Some.chosen.now c.in-Some-payload.payload (sym c.in-Some.ensures) c.in-Some-payload.is in
-    let bad = chosen_err c.in-Some.place (below (Name c.args.member.now.name) of_payload) c.below_name.result (c.below_name.ensures of_payload c.in-Err.ensures) in
-    subst (λ (o : Told). Tells (Err c.below_name.result) o) (sym at) bad
 
 pub decode_tagged-decode_variant-requires : goal.decode_tagged-decode_variant-requires
 decode_tagged-decode_variant-requires t c =
@@ -305,7 +299,16 @@ decode_variant-decode_fields-requires t c =
     let inside = found_inside tagged_name c.args.variants.now c.in-Text.name (c.in-Some.place, c.in-Some.chosen.now) (sym c.in-Some.ensures) in
     (omega (arith, c.decreases), rw c.as_slice.ensures (c.requires.parts c.in-Some.chosen.now inside))
 
-pub decode_variant-variant-requires : goal.decode_variant-variant-requires
-decode_variant-variant-requires t c =
+pub decode_variant-in_variant-requires : goal.decode_variant-in_variant-requires
+decode_variant-in_variant-requires t c =
     let less = place_below tagged_name c.args.variants.now c.in-Text.name (c.in-Some.place, c.in-Some.chosen.now) (sym c.in-Some.ensures) in
     omega (arith, less, c.requires.few)
+
+pub decode_variant-returns : goal.decode_variant-returns
+decode_variant-returns t c =
+    let ms = c.args.members.now.items.now in
+    let f : ℕ → TaggedVariant → Told = λ place variant. chosen place (told_struct c.args.self.now.table.now c.args.self.now.whole.now (tagged_fields variant) false ms) in
+    let text = at_tag_text c.args.tag.now f c.args.variants.now c.args.name.now c.in-Text.name (ap out-Json c.in-Text.is ∙ json.outs-Text c.in-Text.name) in
+    let at = text ∙ ap (where_found (below (Name c.args.tag.now) (refused NotListed)) f) (sym c.in-Some.ensures) in
+    let answer = c.in_variant.ensures (as_tree Parts (told_fields c.args.self.now.table.now c.args.self.now.whole.now ms (tagged_fields c.in-Some.chosen.now))) (rw c.as_slice.ensures at c.decode_fields.ensures) in
+    subst (λ (o : Told). Tells c.in_variant.result o) (sym at) answer

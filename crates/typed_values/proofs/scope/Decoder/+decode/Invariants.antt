@@ -1,6 +1,5 @@
-use Rattle.std.proofs.Common.{◌≡◌, suc, drop}
-use Rattle.typed_values.specs.Denotes.{told, first_told, all_told, member_name}
-use Rattle.schema_values.specs.Order.{sorted_by}
+use Rattle.std.proofs.Common.{◌≡◌, suc, drop, map}
+use Rattle.typed_values.specs.Denotes.{told, first_told, all_told}
 use Rattle.typed_values.specs.Rows.{told_item, told_field, told_fields, told_entry}
 use denote.Param.Weighed.{most}
 use Rattle.schema_values.specs.declared.json_value.Json.{size-Json}
@@ -19,25 +18,13 @@ abbrev pub decreases-decode_option : goal.decreases-decode_option
 decreases-decode_option l = suc (at_size l.self.now.table.now l.self.now.whole.now (size-Json l.json.now) l.inner.now)
 
 abbrev pub decreases-decode_list : goal.decreases-decode_list
-decreases-decode_list l = suc (size_alone l.self.now.table.now l.self.now.whole.now (size-Json l.json.now))
-
-abbrev pub decreases-decode_items : goal.decreases-decode_items
-decreases-decode_items l = size_alone l.self.now.table.now l.self.now.whole.now (suc (most size-Json l.items.now))
+decreases-decode_list l = size_alone l.self.now.table.now l.self.now.whole.now (size-Json l.json.now)
 
 abbrev pub decreases-decode_map : goal.decreases-decode_map
-decreases-decode_map l = suc (size_alone l.self.now.table.now l.self.now.whole.now (size-Json l.json.now))
-
-abbrev pub decreases-decode_entries : goal.decreases-decode_entries
-decreases-decode_entries l = suc (size_alone l.self.now.table.now l.self.now.whole.now (most size-Member l.members.now))
-
-abbrev pub decreases-decode_pair : goal.decreases-decode_pair
-decreases-decode_pair l = size_alone l.self.now.table.now l.self.now.whole.now (size-Member l.member.now)
+decreases-decode_map l = size_alone l.self.now.table.now l.self.now.whole.now (size-Json l.json.now)
 
 abbrev pub decreases-decode_struct : goal.decreases-decode_struct
 decreases-decode_struct l = suc (size_alone l.self.now.table.now l.self.now.whole.now (size-Json l.json.now))
-
-abbrev pub decreases-decode_members : goal.decreases-decode_members
-decreases-decode_members l = suc (suc (size_alone l.self.now.table.now l.self.now.whole.now (most size-Member l.members.now)))
 
 abbrev pub decreases-decode_fields : goal.decreases-decode_fields
 decreases-decode_fields l = suc (size_alone l.self.now.table.now l.self.now.whole.now (most size-Member l.members.now.items.now))
@@ -62,15 +49,16 @@ invariant-decode_fields-loop-field l =
     told_fields l.self.table.now l.self.whole.now l.members.items.now l.fields
     ≡ after l.trees (all_told (λ i f. told_field l.self.table.now l.self.whole.now l.members.items.now f) l.field-index (drop l.field-index l.fields))
 
-abbrev pub invariant-decode_items-loop-i : goal.invariant-decode_items-loop-i
-invariant-decode_items-loop-i l =
+abbrev pub invariant-decode_list-loop-i : goal.invariant-decode_list-loop-i
+invariant-decode_list-loop-i l =
     all_told (told_item l.self.table.now l.self.whole.now l.item) 0 l.items
     ≡ after l.trees (all_told (told_item l.self.table.now l.self.whole.now l.item) l.i (drop l.i l.items))
 
-abbrev pub invariant-decode_entries-loop-member : goal.invariant-decode_entries-loop-member
-invariant-decode_entries-loop-member l =
+abbrev pub invariant-decode_map-loop-member : goal.invariant-decode_map-loop-member
+invariant-decode_map-loop-member l =
     let told = told_entry l.self.table.now l.self.whole.now l.value in
-    all_told (λ i m. told m) 0 (sorted_by member_name l.members) ≡ after l.pairs (all_told (λ i m. told m) l.member-index (drop l.member-index (sorted_by member_name l.members)))
+    let members = map (λ member. member.now) l.member-items in
+    all_told (λ i m. told m) 0 members ≡ after l.pairs (all_told (λ i m. told m) l.member-index (drop l.member-index members))
 
 abbrev pub invariant-decode_untagged-loop-i : goal.invariant-decode_untagged-loop-i
 invariant-decode_untagged-loop-i l =
