@@ -275,3 +275,14 @@ in_header d = inner (out-Desc d) where
   inner : DescLevel → Desc
   inner (Desc-F.Option x) = x
   inner _ = d
+
+-- what stands in a query for a descriptor: an option over a reference is written as the reference alone
+abbrev pub in_query : Desc → Desc
+in_query d = inner (out-Desc d) where
+  is_reference : DescLevel → Bool
+  is_reference (Desc-F.Ref name) = true
+  is_reference _ = false
+
+  inner : DescLevel → Desc
+  inner (Desc-F.Option x) = if is_reference (out-Desc x) then x else d
+  inner _ = d

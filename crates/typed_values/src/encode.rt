@@ -1,4 +1,5 @@
-ghost use Rattle.std.specs.Prelude.{◌≡◌, ◌++◌, map, IfOk};
+ghost use Rattle.std.specs.Prelude.{◌≡◌, ◌∷◌, ◌++◌, [], IfOk, OnOk};
+ghost use Rattle.schema_values.specs.Member.{member};
 ghost use Rattle.schema_values.specs.Sound.{IsSound};
 ghost use Rattle.typed_values.specs.declared.tree.Tree.{Tree, out-Tree};
 ghost use Rattle.typed_values.specs.Checks.{TablePasses, DescPasses};
@@ -13,8 +14,8 @@ ghost use Rattle.typed_values.specs.Rows.{AreParts, AreFieldsOf};
 use crate::desc::{Desc, Field, Named, Presence};
 use crate::scope::Scope;
 use crate::table::DescTable;
-use crate::tree::{Pair, Tree};
-use schema_values::{Json, List, Member};
+use crate::tree::Tree;
+use schema_values::{Json, List, Member, Text};
 use std::alloc::{AllocError, Global};
 
 /// The JSON of a tree of a descriptor, which denotes that very tree where no untagged union is reached.
@@ -100,6 +101,19 @@ fn is_none(tree: &Tree) -> bool
     }
 }
 
+/// Puts a member behind others.
+pub(crate) fn push_member(
+    alloc: Global,
+    members: &mut List<Member>,
+    name: &Text,
+    value: Json,
+) -> Result<(), AllocError>
+    ensures { OnOk result (members.new ≡ members.old ++ member name.now value ∷ []) }
+{
+    let name = name.copy(alloc)?;
+    members.push(Member { name, value })
+}
+
 // A tree that fits has the form that its descriptor asks for. Any other is written as null.
 impl Scope<'_> {
     #[cycle(encode)]
@@ -156,28 +170,14 @@ impl Scope<'_> {
         ensures { IfOk result (λ json. json ≡ meant.items_written
             (λ t. written_under self.now.table.now self.now.whole.now t item.now) (out-Tree tree.now)) }
     {
-        match tree {
-            Tree::List(trees) => Ok(Json::List(self.encode_each(alloc, item, trees.as_slice())?)),
-            _ => Ok(Json::Null),
-        }
-    }
-
-    #[cycle(encode)]
-    fn encode_each(
-        &self,
-        alloc: Global,
-        item: &Desc,
-        trees: &[Tree],
-    ) -> Result<List<Json>, AllocError>
-        requires { IsPart self.now.table.now self.now.whole.now item.now }
-        ensures { IfOk result (λ items. items ≡ map
-            (λ t. written_under self.now.table.now self.now.whole.now t item.now) trees.now) }
-    {
+        let Tree::List(trees) = tree else {
+            return Ok(Json::Null);
+        };
         let mut items = List::new(alloc);
-        for tree in trees {
+        for tree in trees.as_slice() {
             items.push(self.encode_at(alloc, item, tree)?)?;
         }
-        Ok(items)
+        Ok(Json::List(items))
     }
 
     #[cycle(encode)]
@@ -186,34 +186,15 @@ impl Scope<'_> {
         ensures { IfOk result (λ json. json ≡ meant.entries_written
             (λ t. written_under self.now.table.now self.now.whole.now t value.now) (out-Tree tree.now)) }
     {
-        match tree {
-            Tree::Map(pairs) => Ok(Json::Object(self.encode_pairs(
-                alloc,
-                value,
-                pairs.as_slice(),
-            )?)),
-            _ => Ok(Json::Null),
-        }
-    }
-
-    #[cycle(encode)]
-    fn encode_pairs(
-        &self,
-        alloc: Global,
-        value: &Desc,
-        pairs: &[Pair],
-    ) -> Result<List<Member>, AllocError>
-        requires { IsPart self.now.table.now self.now.whole.now value.now }
-        ensures { IfOk result (λ members. members ≡ map (meant.pair_written
-            (λ t. written_under self.now.table.now self.now.whole.now t value.now)) pairs.now) }
-    {
+        let Tree::Map(pairs) = tree else {
+            return Ok(Json::Null);
+        };
         let mut members = List::new(alloc);
-        for pair in pairs {
-            let name = pair.key.copy(alloc)?;
+        for pair in pairs.as_slice() {
             let value = self.encode_at(alloc, value, &pair.value)?;
-            members.push(Member { name, value })?;
+            push_member(alloc, &mut members, &pair.key, value)?;
         }
-        Ok(members)
+        Ok(Json::Object(members))
     }
 
     #[cycle(encode)]
@@ -252,9 +233,8 @@ impl Scope<'_> {
     {
         for (field, tree) in fields.iter().zip(trees) {
             if !is_left_out(&field.presence, tree) {
-                let name = field.name.copy(alloc)?;
                 let value = self.encode_field(alloc, field, tree)?;
-                members.push(Member { name, value })?;
+                push_member(alloc, &mut members, &field.name, value)?;
             }
         }
         Ok(members)

@@ -1,5 +1,4 @@
 ghost use Rattle.std.specs.Prelude.{◌≡◌, IfOk};
-ghost use Rattle.schema_values.specs.declared.schema.Schema.{Object};
 ghost use Rattle.schema_values.specs.declared.schema.SchemaObject.{out-SchemaObject};
 ghost use Rattle.schema_values.specs.declared.schema.Subschemas.{out-Subschemas};
 ghost use Rattle.typed_values.specs.Schemas as meant;
@@ -12,7 +11,7 @@ use schema_values::{
 use std::alloc::{AllocError, Global};
 
 pub(crate) fn object_of(alloc: Global, parts: SchemaObject) -> Result<Schema, AllocError>
-    ensures { IfOk result (λ schema. schema ≡ Object parts) }
+    ensures { IfOk result (λ schema. schema ≡ meant.object_of (out-SchemaObject parts)) }
 {
     Ok(Schema::Object(Boxed::new(alloc, parts)?))
 }

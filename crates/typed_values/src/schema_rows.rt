@@ -4,7 +4,7 @@ ghost use Rattle.typed_values.specs.SchemaTable as table;
 ghost use Rattle.typed_values.specs.Schemas as meant;
 
 use crate::desc::IntKind;
-use crate::schema_parts::{length_bounds, no_subschemas, number_bounds, of_single};
+use crate::schema_parts::{length_bounds, no_subschemas, number_bounds, object_of, of_single};
 use schema_values::{
     ArrayParts, InstanceType, Items, List, ObjectParts, Property, Schema, SchemaObject, Text,
     copy_text,
@@ -107,21 +107,24 @@ pub(crate) fn text_parts(
     Ok(parts)
 }
 
+/// A list of items of some parts.
 pub(crate) fn list_parts(
     alloc: Global,
-    item: Schema,
+    item: SchemaObject,
     min: Option<u32>,
     max: Option<u32>,
-) -> SchemaObject
-    ensures { out-SchemaObject result ≡ meant.list_of item min max }
+) -> Result<SchemaObject, AllocError>
+    ensures { IfOk result (λ parts. out-SchemaObject parts
+        ≡ meant.list_of (meant.object_of (out-SchemaObject item)) min max) }
 {
+    let item = object_of(alloc, item)?;
     let mut parts = of_single(alloc, InstanceType::Array);
     parts.array = Some(ArrayParts {
         items: Some(Items::One(item)),
         min,
         max,
     });
-    parts
+    Ok(parts)
 }
 
 pub(crate) fn struct_parts(

@@ -1,9 +1,11 @@
 // The schemas of external and tagged enumerations.
-ghost use Rattle.std.specs.Prelude.{◌≡◌, ◌∷◌, List, [], map, IfOk, true};
+ghost use Rattle.std.specs.Prelude.{◌≡◌, ◌∷◌, ◌++◌, List, [], map, IfOk, OnOk, false, true};
 ghost use Rattle.schema_values.specs.declared.json_value.Json.{Text as Words};
 ghost use Rattle.schema_values.specs.declared.schema.SchemaObject.{out-SchemaObject};
+ghost use Rattle.schema_values.specs.Order.{same_name, sorted_by};
 ghost use Rattle.typed_values.specs.declared.table.Definition.{Definition};
 ghost use Rattle.typed_values.specs.Checks.{TablePasses};
+ghost use Rattle.typed_values.specs.Definitions.{tagged_description, tagged_fields};
 ghost use Rattle.typed_values.specs.SchemaTable.{bare_names as names_alone};
 ghost use Rattle.typed_values.specs.Schemas as meant;
 
@@ -28,14 +30,22 @@ pub(crate) fn external_parts(
     ensures { IfOk result (λ parts. out-SchemaObject parts ≡ meant.one_of
         (meant.external_choices (map (meant.sketch_of_variant table.now) variants.now))) }
 {
-    let mut choices = choices_of(alloc, bare_names(alloc, variants)?.as_slice())?;
+    let mut choices = bare_choices(alloc, variants)?;
     for variant in variants {
         if let Some(payload) = &variant.payload {
             let parts = parts_of(alloc, table, payload)?;
-            choices.push(payload_choice(alloc, &variant.name, &variant.description, parts)?)?;
+            push_payload(alloc, &mut choices, variant, parts)?;
         }
     }
     Ok(one_of(alloc, choices))
+}
+
+/// The choices of the variants without payload.
+fn bare_choices(alloc: Global, variants: &[Variant]) -> Result<List<Schema>, AllocError>
+    ensures { (table : List Definition) → IfOk result (λ choices. choices
+        ≡ meant.choices_of (names_alone (map (meant.sketch_of_variant table) variants.now))) }
+{
+    choices_of(alloc, bare_names(alloc, variants)?.as_slice())
 }
 
 /// The variants without payload, as the names of an enumeration.
@@ -55,20 +65,22 @@ fn bare_names(alloc: Global, variants: &[Variant]) -> Result<List<Named>, AllocE
     Ok(names)
 }
 
-/// An object of one property, which must be there, and of no other.
-fn payload_choice(
+/// Adds the choice of a variant with payload: an object of one property, which must be there, and of no
+/// other.
+fn push_payload(
     alloc: Global,
-    name: &Text,
-    description: &Option<Text>,
+    choices: &mut List<Schema>,
+    variant: &Variant,
     payload: SchemaObject,
-) -> Result<Schema, AllocError>
-    ensures { IfOk result (λ schema. schema ≡ meant.object_of (meant.with_description description.now
-        (meant.struct_parts (meant.property name.now (out-SchemaObject payload) ∷ [])
-        (name.now ∷ []) true))) }
+) -> Result<(), AllocError>
+    ensures { OnOk result (choices.new ≡ choices.old ++ meant.object_of (meant.with_description
+        variant.now.description (meant.struct_parts (meant.property variant.now.name
+        (out-SchemaObject payload) ∷ []) (variant.now.name ∷ []) true)) ∷ []) }
 {
-    let properties = only(alloc, property(alloc, name, payload)?)?;
-    let required = only(alloc, name.copy(alloc)?)?;
-    described_struct(alloc, description, properties, required, true)
+    let properties = only(alloc, property(alloc, &variant.name, payload)?)?;
+    let required = only(alloc, variant.name.copy(alloc)?)?;
+    let choice = described_struct(alloc, &variant.description, properties, required, true)?;
+    choices.push(choice)
 }
 
 /// An object of some properties, with its description.
@@ -87,7 +99,8 @@ fn described_struct(
     object_of(alloc, with_description(alloc, description, parts)?)
 }
 
-/// A choice of the variants of a tagged enumeration.
+/// A choice of the variants of a tagged enumeration: each an object of the tag, which has the variant's name
+/// alone, and of its fields.
 #[cycle(schema)]
 pub(crate) fn tagged_parts(
     alloc: Global,
@@ -101,36 +114,38 @@ pub(crate) fn tagged_parts(
 {
     let mut choices = List::new(alloc);
     for variant in variants {
-        choices.push(tagged_choice(alloc, table, tag, variant)?)?;
+        let properties = tag_alone(alloc, tag, &variant.name)?;
+        let properties = properties_of(alloc, table, properties, variant.fields.as_slice())?;
+        push_tagged(alloc, &mut choices, tag, variant, properties)?;
     }
     Ok(one_of(alloc, choices))
 }
 
-/// An object of the tag, which has the variant's name alone, and of its fields.
-#[cycle(schema)]
-fn tagged_choice(
+/// Adds the choice of a variant with its properties, of which the tag and some fields must be there.
+fn push_tagged(
     alloc: Global,
-    table: &DescTable,
+    choices: &mut List<Schema>,
     tag: &Text,
     variant: &TaggedVariant,
-) -> Result<Schema, AllocError>
-    requires { TablePasses table.now }
-    ensures { IfOk result (λ schema. schema
-        ≡ meant.tagged_choice table.now tag.now (meant.sketch_of_tagged table.now variant.now)) }
+    properties: List<Property>,
+) -> Result<(), AllocError>
+    ensures { (table : List Definition) → OnOk result (choices.new ≡ choices.old ++ meant.object_of
+        (meant.with_description (tagged_description variant.now) (meant.struct_of properties
+        (sorted_by same_name (tag.now ∷ meant.required_names
+        (map (meant.sketch_of_field table) (tagged_fields variant.now)))) false)) ∷ []) }
 {
-    let fields = variant.fields.as_slice();
-    let tag_alone = property(alloc, tag, name_alone(alloc, &variant.name)?)?;
-    let properties = only(alloc, tag_alone)?.into_vec();
-    let properties = properties_of(alloc, table, properties, fields)?;
     let required = only(alloc, tag.copy(alloc)?)?.into_vec();
-    let required = required_names(alloc, required, fields)?;
-    described_struct(alloc, &variant.description, properties, required, false)
+    let required = required_names(alloc, required, variant.fields.as_slice())?;
+    let choice = described_struct(alloc, &variant.description, properties, required, false)?;
+    choices.push(choice)
 }
 
-/// One name alone.
-fn name_alone(alloc: Global, name: &Text) -> Result<SchemaObject, AllocError>
-    ensures { IfOk result (λ parts. out-SchemaObject parts ≡ meant.enumerated (Words name.now ∷ [])) }
+/// The property of a tag, which has one name alone.
+fn tag_alone(alloc: Global, tag: &Text, name: &Text) -> Result<Vec<Property>, AllocError>
+    ensures { IfOk result (λ properties. properties.items
+        ≡ meant.property tag.now (meant.enumerated (Words name.now ∷ [])) ∷ []) }
 {
     let texts = only(alloc, Json::Text(name.copy(alloc)?))?;
-    Ok(enumerated(alloc, texts))
+    let property = property(alloc, tag, enumerated(alloc, texts))?;
+    Ok(only(alloc, property)?.into_vec())
 }

@@ -1,13 +1,13 @@
-ghost use Rattle.std.specs.Prelude.{◌≡◌, ◌++◌, List, map, IfOk};
+ghost use Rattle.std.specs.Prelude.{◌≡◌, ◌∷◌, ◌++◌, List, [], map, IfOk, OnOk};
 ghost use Rattle.schema_values.specs.declared.schema.SchemaObject.{out-SchemaObject};
-ghost use Rattle.typed_values.specs.declared.schemas.SchemaPlace.TheVariants.{Plain, Header};
+ghost use Rattle.typed_values.specs.declared.schemas.SchemaPlace.TheVariants.{Plain, Header, Query};
 ghost use Rattle.typed_values.specs.declared.table.Definition.{Definition as DefinitionModel};
 ghost use Rattle.typed_values.specs.Checks.{TablePasses};
 ghost use Rattle.schema_values.specs.Order.{property_name, same_name, sorted_by};
 ghost use Rattle.typed_values.specs.SchemaTable.{default_of};
 ghost use Rattle.typed_values.specs.Schemas as meant;
 ghost use Rattle.typed_values.specs.Schemas.{schema_value, schema_sketch, schema_parts};
-ghost use Rattle.typed_values.specs.Schemas.{definition_value, in_header};
+ghost use Rattle.typed_values.specs.Schemas.{definition_value, in_header, in_query};
 
 use crate::desc::{Desc, Field, Presence};
 use crate::encode::written;
@@ -31,6 +31,8 @@ pub enum SchemaPlace {
     Plain,
     /// In a header an option is written as the schema of what it is over.
     Header,
+    /// In a query an option over a reference is written as the reference alone.
+    Query,
 }
 
 /// The schema of a descriptor. A reference stands as its name; definitions are looked up for defaults alone,
@@ -45,10 +47,36 @@ pub fn schema_of(
     ensures plain { place ≡ Plain → IfOk result (λ schema. schema ≡ schema_value table.now desc.now) }
     ensures header { place ≡ Header
         → IfOk result (λ schema. schema ≡ schema_value table.now (in_header desc.now)) }
+    ensures query { place ≡ Query
+        → IfOk result (λ schema. schema ≡ schema_value table.now (in_query desc.now)) }
 {
-    match (place, desc) {
-        (SchemaPlace::Header, Desc::Option(inner)) => schema_at(alloc, table, inner.get()),
-        _ => schema_at(alloc, table, desc),
+    match place {
+        SchemaPlace::Plain => schema_at(alloc, table, desc),
+        SchemaPlace::Header => schema_at(alloc, table, shown_in_header(desc)),
+        SchemaPlace::Query => schema_at(alloc, table, shown_in_query(desc)),
+    }
+}
+
+/// The descriptor whose schema stands in a header: of an option what it is over.
+fn shown_in_header(desc: &Desc) -> &Desc
+    ensures { result.now ≡ in_header desc.now }
+{
+    match desc {
+        Desc::Option(inner) => inner.get(),
+        _ => desc,
+    }
+}
+
+/// The descriptor whose schema stands in a query: of an option over a reference the reference.
+fn shown_in_query(desc: &Desc) -> &Desc
+    ensures { result.now ≡ in_query desc.now }
+{
+    match desc {
+        Desc::Option(inner) => match inner.get() {
+            Desc::Ref(_) => inner.get(),
+            _ => desc,
+        },
+        _ => desc,
     }
 }
 
@@ -93,17 +121,16 @@ pub(crate) fn parts_of(
         Desc::Enumeration { names } => enumeration_parts(alloc, names.as_slice()),
         Desc::Option(inner) => with_null(alloc, parts_of(alloc, table, inner.get())?),
         Desc::List { item, min, max } => {
-            let item = object_of(alloc, parts_of(alloc, table, item.get())?)?;
-            Ok(list_parts(alloc, item, *min, *max))
+            list_parts(alloc, parts_of(alloc, table, item.get())?, *min, *max)
         }
         Desc::Map(value) => Ok(map_parts(alloc, other_members(alloc, table, value.get())?)),
         Desc::Struct {
             fields,
             deny_unknown,
         } => {
-            let properties = properties_of(alloc, table, Vec::new(alloc), fields.as_slice())?;
-            let required = required_names(alloc, Vec::new(alloc), fields.as_slice())?;
-            Ok(struct_parts(alloc, properties, required, *deny_unknown))
+            let fields = fields.as_slice();
+            let properties = properties_of(alloc, table, Vec::new(alloc), fields)?;
+            object_parts(alloc, properties, fields, *deny_unknown)
         }
         Desc::External { variants } => external_parts(alloc, table, variants.as_slice()),
         Desc::Tagged { tag, variants } => tagged_parts(alloc, table, tag, variants.as_slice()),
@@ -136,9 +163,34 @@ fn schemas_of(alloc: Global, table: &DescTable, descs: &[Desc]) -> Result<List<S
 {
     let mut schemas = List::new(alloc);
     for desc in descs {
-        schemas.push(object_of(alloc, parts_of(alloc, table, desc)?)?)?;
+        push_schema(alloc, &mut schemas, parts_of(alloc, table, desc)?)?;
     }
     Ok(schemas)
+}
+
+fn push_schema(
+    alloc: Global,
+    schemas: &mut List<Schema>,
+    parts: SchemaObject,
+) -> Result<(), AllocError>
+    ensures { OnOk result (schemas.new ≡ schemas.old ++ meant.object_of (out-SchemaObject parts) ∷ []) }
+{
+    schemas.push(object_of(alloc, parts)?)
+}
+
+/// The parts of an object of some properties and of the names of its required fields.
+fn object_parts(
+    alloc: Global,
+    properties: List<Property>,
+    fields: &[Field],
+    deny_unknown: bool,
+) -> Result<SchemaObject, AllocError>
+    ensures { (table : List DefinitionModel) → IfOk result (λ parts. out-SchemaObject parts
+        ≡ meant.struct_of properties (sorted_by same_name
+        (meant.required_names (map (meant.sketch_of_field table) fields.now))) deny_unknown) }
+{
+    let required = required_names(alloc, Vec::new(alloc), fields)?;
+    Ok(struct_parts(alloc, properties, required, deny_unknown))
 }
 
 /// Some properties and those of fields, in the order of their names.
@@ -156,8 +208,15 @@ pub(crate) fn properties_of(
     for field in fields {
         let annotations = annotations_of(alloc, table, field)?;
         let parts = parts_of(alloc, table, &field.desc)?;
-        properties.push(property_of(alloc, &field.name, annotations, parts)?)?;
+        push_property(alloc, &mut properties, &field.name, annotations, parts)?;
     }
+    in_order(properties)
+}
+
+/// Some properties in the order of their names.
+fn in_order(mut properties: Vec<Property>) -> Result<List<Property>, AllocError>
+    ensures { IfOk result (λ all. all ≡ sorted_by property_name properties.items) }
+{
     sort_by_name(&mut properties)?;
     Ok(List::from_vec(properties))
 }
@@ -187,21 +246,26 @@ fn annotations_of(
     })
 }
 
-fn property_of(
+/// Adds the property of a field behind others.
+fn push_property(
     alloc: Global,
+    properties: &mut Vec<Property>,
     name: &Text,
     annotations: Annotations,
     parts: SchemaObject,
-) -> Result<Property, AllocError>
-    ensures { IfOk result (λ property. property ≡ meant.property name.now (meant.with_default
-        annotations.default (meant.with_description annotations.description (out-SchemaObject parts)))) }
+) -> Result<(), AllocError>
+    ensures { OnOk result (properties.new.items ≡ properties.old.items ++ meant.property name.now
+        (meant.with_default annotations.default (meant.with_description annotations.description
+        (out-SchemaObject parts))) ∷ []) }
 {
     let Annotations {
         description,
         default,
     } = annotations;
     let parts = with_description(alloc, description, parts)?;
-    property(alloc, name, with_default(alloc, default, parts)?)
+    let parts = with_default(alloc, default, parts)?;
+    properties.push(property(alloc, name, parts)?)?;
+    Ok(())
 }
 
 /// The JSON of the value that an absent field has.

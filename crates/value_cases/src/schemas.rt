@@ -9,7 +9,7 @@ use std::alloc::{AllocError, Global};
 use typed_values::{DescTable, SchemaPlace, schema_of, schema_of_definition};
 use written_schemas::{definition_schema, titled_schema};
 
-/// The schema of the descriptor of a case at its place, `plain` or `header`.
+/// The schema of the descriptor of a case at its place, `plain`, `header` or `query`.
 pub fn schema(alloc: Global, case: &Json) -> Result<Json, CaseError> {
     schema_at(alloc, case, place_of(case)?)
 }
@@ -34,7 +34,8 @@ fn place_of(case: &Json) -> Result<SchemaPlace, CaseError> {
     match text_of(given(case, "place")?)?.as_str() {
         "plain" => Ok(SchemaPlace::Plain),
         "header" => Ok(SchemaPlace::Header),
-        _ => Err(CaseError::Expected("plain or header")),
+        "query" => Ok(SchemaPlace::Query),
+        _ => Err(CaseError::Expected("plain, header or query")),
     }
 }
 

@@ -27,7 +27,7 @@ use Rattle.typed_values.specs.Fits.{fits_under}
 use Rattle.typed_values.specs.Lengths.{are_lengths_short, is_short, HasShortLengths}
 use Rattle.typed_values.specs.Levels.{DescLevel}
 use Rattle.typed_values.specs.Parts.{StandsIn, the_whole, in_option, in_list, in_map, in_field, in_payload, in_variant, in_alternative}
-use Rattle.typed_values.specs.Schemas.{in_header}
+use Rattle.typed_values.specs.Schemas.{in_header, in_query}
 use Rattle.typed_values.specs.SchemaTable.{Drawn, bare_names, choices_of, default_of, defaulted, described, drawn, drawn_json, drawn_step, enumerated, external_choices, least_shown, payload_choices, property, property_of, required_names, schema_json, schema_json_described, schema_json_titled, tagged_choice, titled}
 use Rattle.typed_values.proofs.CallerLemmas.{distinct_at, fields_distinct, names_apart, InField, InFields, InTagged, InVariant, KnownLevel, firsts, by_levels, each_holds, made_row, kind_whole, stands_through, read_back}
 use Rattle.written_schemas.proofs.KeyedMembers.{IsSoundlyDrawn, defaulted_sound, described_sound, drawn_sound, null_sound, titled_sound}
@@ -215,25 +215,38 @@ module _ (table : List Definition) (whole : Desc) (passes : TablePasses table) (
       by_form (Desc-F.Untagged ds) e = rw e under
       by_form (Desc-F.Ref other) e = rw e h
 
--- ---- in a header
+-- ---- in a header and in a query
 
 -- what stands in what a header shows of a descriptor stands in the descriptor
-in_header_stands : (d x : Desc) → StandsIn (in_header d) x → StandsIn d x
+pub in_header_stands : (d x : Desc) → StandsIn (in_header d) x → StandsIn d x
 in_header_stands d x = by_form (out-Desc d) refl
   where
     by_form : (z : DescLevel) → out-Desc d ≡ z → StandsIn (in_header d) x → StandsIn d x
     by_form (Desc-F.Option y) e = rw e (stands_through (in_option y the_whole e))
     by_form _ e = rw e (λ s. s)
 
-module _ (table : List Definition) (whole : Desc) (passes : TablePasses table) (right : DescPasses table whole) (short : HasShortLengths whole) where
-  header_passes : DescPasses table (in_header whole)
-  header_passes d s = right d (in_header_stands whole d s)
+-- and so does what stands in what a query shows
+pub in_query_stands : (d x : Desc) → StandsIn (in_query d) x → StandsIn d x
+in_query_stands d x = by_form (out-Desc d) refl
+  where
+    by_inner : (y : Desc) (z : DescLevel) → out-Desc y ≡ z → out-Desc d ≡ Desc-F.Option y → StandsIn (in_query d) x → StandsIn d x
+    by_inner y (Desc-F.Ref name) f e = rw (e, f) (stands_through (in_option y the_whole e))
+    by_inner y _ f e = rw (e, f) (λ s. s)
 
-  header_short : HasShortLengths (in_header whole)
-  header_short d s = short d (in_header_stands whole d s)
+    by_form : (z : DescLevel) → out-Desc d ≡ z → StandsIn (in_query d) x → StandsIn d x
+    by_form (Desc-F.Option y) e = by_inner y (out-Desc y) refl e
+    by_form _ e = rw e (λ s. s)
 
-  pub header_plain_sound : IsSound (schema_json table (in_header whole))
-  header_plain_sound = plain_sound table (in_header whole) passes header_passes header_short
+-- a descriptor is shown by another, in which nothing stands that does not stand in the first
+module _ (table : List Definition) (whole shown : Desc) (passes : TablePasses table) (right : DescPasses table whole) (short : HasShortLengths whole) (stands : (x : Desc) → StandsIn shown x → StandsIn whole x) where
+  shown_passes : DescPasses table shown
+  shown_passes d s = right d (stands d s)
 
-  pub header_titled_sound : (name : List ℕ) → IsSound (schema_json_titled table name (in_header whole))
-  header_titled_sound = schema_titled_sound table (in_header whole) passes header_passes header_short
+  shown_short : HasShortLengths shown
+  shown_short d s = short d (stands d s)
+
+  pub shown_plain_sound : IsSound (schema_json table shown)
+  shown_plain_sound = plain_sound table shown passes shown_passes shown_short
+
+  pub shown_titled_sound : (name : List ℕ) → IsSound (schema_json_titled table name shown)
+  shown_titled_sound = schema_titled_sound table shown passes shown_passes shown_short

@@ -19,7 +19,7 @@ ghost use Rattle.typed_values.specs.Encoding.{json_of_tree};
 ghost use Rattle.typed_values.specs.Fits.{Fits};
 ghost use Rattle.typed_values.specs.Lengths.{HasShortLengths};
 ghost use Rattle.typed_values.specs.SchemaTable.{schema_json, schema_json_titled, schema_json_described};
-ghost use Rattle.typed_values.specs.Schemas.{schema_value, in_header};
+ghost use Rattle.typed_values.specs.Schemas.{schema_value, in_header, in_query};
 ghost use Rattle.written_schemas.specs.Bodies.{TakesJson};
 ghost use Rattle.written_schemas.specs.Written.{IsWritten, AdmitsDenoted, StepsSuffice};
 
@@ -75,7 +75,7 @@ pub fn encodings_agree()
 {}
 
 /// The schema of a descriptor is never refused. It is written as the table of schemas has it, also under a
-/// title, which a reference does not show; so is the schema that stands in a header.
+/// title, which a reference does not show; so is the schema that stands in a header or in a query.
 pub fn schemas_written()
     ensures accepted { (table : List Entry) (desc : Descriptor)
         → refusal_of (schema_value table desc) ≡ None }
@@ -90,11 +90,18 @@ pub fn schemas_written()
     ensures header_titled { (table : List Entry) (desc : Descriptor) (name : List ℕ)
         → json_written (Some name) (schema_value table (in_header desc))
         ≡ schema_json_titled table name (in_header desc) }
+    ensures query_accepted { (table : List Entry) (desc : Descriptor)
+        → refusal_of (schema_value table (in_query desc)) ≡ None }
+    ensures query_plain { (table : List Entry) (desc : Descriptor)
+        → json_written None (schema_value table (in_query desc)) ≡ schema_json table (in_query desc) }
+    ensures query_titled { (table : List Entry) (desc : Descriptor) (name : List ℕ)
+        → json_written (Some name) (schema_value table (in_query desc))
+        ≡ schema_json_titled table name (in_query desc) }
 {}
 
 /// In a table that passes its checks the schema of a descriptor that passes them, and whose lengths have 32
 /// bits, is sound JSON; so it is under a title or a description, and so is the schema that stands in a
-/// header.
+/// header or in a query.
 pub fn schemas_sound()
     ensures plain { (table : List Entry) (desc : Descriptor) → TablePasses table
         → DescPasses table desc → HasShortLengths desc → IsSound (schema_json table desc) }
@@ -107,4 +114,9 @@ pub fn schemas_sound()
     ensures header_titled { (table : List Entry) (desc : Descriptor) (name : List ℕ) → TablePasses table
         → DescPasses table desc → HasShortLengths desc
         → IsSound (schema_json_titled table name (in_header desc)) }
+    ensures query_plain { (table : List Entry) (desc : Descriptor) → TablePasses table
+        → DescPasses table desc → HasShortLengths desc → IsSound (schema_json table (in_query desc)) }
+    ensures query_titled { (table : List Entry) (desc : Descriptor) (name : List ℕ) → TablePasses table
+        → DescPasses table desc → HasShortLengths desc
+        → IsSound (schema_json_titled table name (in_query desc)) }
 {}

@@ -37,19 +37,18 @@ pub schemas::parts_of-returns-in_ok-parts_of-in-Option : goal.schemas::parts_of-
 schemas::parts_of-returns-in_ok-parts_of-in-Option t c =
     rw (parts_are c.args.table.now c.in-Option.is (desc.outs-Option c.in-Option.inner), ← c.get.ensures, ← c.in_ok-parts_of-in-Option.ensures) c.with_null.ensures
 
-pub schemas::parts_of-returns-in_ok-item-in-List : goal.schemas::parts_of-returns-in_ok-item-in-List
-schemas::parts_of-returns-in_ok-item-in-List t c =
-    let parts = c.in_ok-parts_of-in-List in
-    rw (c.list_parts.ensures, parts_are c.args.table.now c.in-List.is (desc.outs-List c.in-List.item c.in-List.min c.in-List.max), c.in_ok-item-in-List.ensures, ← c.get-in-List.ensures, ← parts.ensures, roll-out-SchemaObject parts.field-0) refl
+pub schemas::parts_of-returns-in_ok-parts_of-in-List : goal.schemas::parts_of-returns-in_ok-parts_of-in-List
+schemas::parts_of-returns-in_ok-parts_of-in-List t c =
+    rw (parts_are c.args.table.now c.in-List.is (desc.outs-List c.in-List.item c.in-List.min c.in-List.max), ← c.get-in-List.ensures, ← c.in_ok-parts_of-in-List.ensures) c.list_parts.ensures
 
 pub schemas::parts_of-returns-in_ok-other_members-in-Map : goal.schemas::parts_of-returns-in_ok-other_members-in-Map
 schemas::parts_of-returns-in_ok-other_members-in-Map t c =
     rw (c.map_parts.ensures, parts_are c.args.table.now c.in-Map.is (desc.outs-Map c.in-Map.value), c.in_ok-other_members-in-Map.ensures, c.get-in-Map.ensures) refl
 
-pub schemas::parts_of-returns-in_ok-required-in-Struct : goal.schemas::parts_of-returns-in_ok-required-in-Struct
-schemas::parts_of-returns-in_ok-required-in-Struct t c =
+pub schemas::parts_of-returns-in_ok-properties-in-Struct : goal.schemas::parts_of-returns-in_ok-properties-in-Struct
+schemas::parts_of-returns-in_ok-properties-in-Struct t c =
     let table = c.args.table.now in
-    rw (c.struct_parts.ensures, struct_parts_are table c.args.desc.now c.in-Struct.fields c.in-Struct.deny_unknown c.in-Struct.is, c.in_ok-properties-in-Struct.ensures, c.in_ok-required-in-Struct.ensures table, c.new-in-Struct.ensures.items, c.new-in-Struct-2.ensures.items, c.as_slice-in-Struct.ensures, c.as_slice-in-Struct-2.ensures) refl
+    rw (struct_parts_are table c.args.desc.now c.in-Struct.fields c.in-Struct.deny_unknown c.in-Struct.is) (rw (c.in_ok-properties-in-Struct.ensures, c.new-in-Struct.ensures.items, c.as_slice-in-Struct.ensures) at (c.object_parts.ensures table))
 
 pub schemas::parts_of-returns-in-External : goal.schemas::parts_of-returns-in-External
 schemas::parts_of-returns-in-External t c =
@@ -74,31 +73,28 @@ schemas::other_members-returns-in-Never t c = rw (sketch_are c.args.table.now c.
 
 pub schemas::other_members-returns-in_ok-parts_of-in_default : goal.schemas::other_members-returns-in_ok-parts_of-in_default
 schemas::other_members-returns-in_ok-parts_of-in_default t c =
-    let parts = c.in_ok-parts_of-in_default in
-    rw (other_members_are c.args.table.now c.args.desc.now c.in_default.not-Any c.in_default.not-Never, ← parts.ensures, roll-out-SchemaObject parts.field-0) c.object_of.ensures
+    rw (other_members_are c.args.table.now c.args.desc.now c.in_default.not-Any c.in_default.not-Never, ← c.in_ok-parts_of-in_default.ensures) c.object_of.ensures
 
 pub schemas::schemas_of-loop-desc-preserved : goal.schemas::schemas_of-loop-desc-preserved
 schemas::schemas_of-loop-desc-preserved t c =
-    let parts = c.in_ok-parts_of in
     let more = map_more (λ d. object_of (schema_parts c.args.table.now d)) c.args.descs.now c.loop-desc.desc-index c.desc-item.result (omega arith) in
-    rw (c.in_ok-push.ensures.ok, c.loop-desc.invariant, more, ← c.desc-item.is, ← parts.ensures, roll-out-SchemaObject parts.field-0, c.in_ok-object_of.ensures) refl
+    rw (c.in_ok-push_schema.ensures, c.loop-desc.invariant, more, ← c.desc-item.is, c.in_ok-parts_of.ensures) refl
 
 pub schemas::properties_of-loop-field-preserved : goal.schemas::properties_of-loop-field-preserved
 schemas::properties_of-loop-field-preserved t c =
     let more = map_more (sketch_of_field c.args.table.now) c.args.fields.now c.loop-field.field-index c.field-item.result (omega arith) in
-    rw (c.in_ok-push.ensures.items, c.in_ok-property_of.ensures, c.in_ok-annotations.ensures.description, c.in_ok-annotations.ensures.default, c.in_ok-parts.ensures, c.loop-field.invariant, more, map-append, append_assoc, ← c.field-item.is) refl
+    rw (c.in_ok-push_property.ensures, c.in_ok-annotations.ensures.description, c.in_ok-annotations.ensures.default, c.in_ok-parts.ensures, c.loop-field.invariant, more, map-append, append_assoc, ← c.field-item.is) refl
 
 pub schema_variants::external_parts-loop-variant-init : goal.schema_variants::external_parts-loop-variant-init
 schema_variants::external_parts-loop-variant-init t c =
-    rw (c.in_ok-choices.ensures, c.as_slice.ensures, c.in_ok-bare_names.ensures c.args.table.now) refl
+    rw (c.in_ok-choices.ensures c.args.table.now) refl
 
-pub schema_variants::tagged_choice-returns : goal.schema_variants::tagged_choice-returns
-schema_variants::tagged_choice-returns t c =
+pub schema_variants::tagged_parts-loop-variant-preserved : goal.schema_variants::tagged_parts-loop-variant-preserved
+schema_variants::tagged_parts-loop-variant-preserved t c =
     let table = c.args.table.now in
     let tag = c.args.tag.now in
-    let v = sketch_of_tagged table c.args.variant.now in
-    let properties : c.in_ok-properties.properties ≡ sorted_by property_name (property tag (enumerated (Words v.name ∷ [])) ∷ map (property_of table) v.fields) =
-    rw (c.in_ok-properties.ensures, c.into_vec-properties.ensures, c.in_ok-only.ensures, c.in_ok-tag_alone.ensures, c.in_ok-name_alone.ensures, c.as_slice-fields.ensures) refl in
-    let required : c.in_ok-required.required ≡ sorted_by same_name (tag ∷ required_names v.fields) =
-    rw (c.in_ok-required.ensures table, c.into_vec-required.ensures, c.in_ok-only-2.ensures, c.in_ok-copy.ensures, c.as_slice-fields.ensures) refl in
-    rw (← properties, ← required) c.described_struct.ensures
+    let v = sketch_of_tagged table c.variant-item.result in
+    let more = map_more (sketch_of_tagged table) c.args.variants.now c.loop-variant.variant-index c.variant-item.result (omega arith) in
+    let properties : c.in_ok-properties-2.properties ≡ sorted_by property_name (property tag (enumerated (Words v.name ∷ [])) ∷ map (property_of table) v.fields) =
+    rw (c.in_ok-properties-2.ensures, c.in_ok-properties.ensures, c.as_slice.ensures) refl in
+    rw (c.in_ok-push_tagged.ensures table, properties, c.loop-variant.invariant, more, map-append, ← c.variant-item.is) refl
