@@ -23,8 +23,8 @@ use Rattle.openapi_values.specs.Options.{is_some_and}
 use Rattle.openapi_values.specs.SchemaJson.{Written, truth_json, annotations, entries_behind, without_values, schema_json}
 use Rattle.openapi_values.specs.Smaller.{smaller_admits as written_smaller}
 use Rattle.openapi_values.proofs.Steps.{admits-zero as written-zero, admits-suc as written-suc}
-use Rattle.schema_meaning.specs.Accepted.{IsEmpty, SubschemasAreRead, IsAccepted}
-use Rattle.schema_meaning.specs.Asked.{parts_hold}
+use Rattle.schema_meaning.specs.Accepted.{IsEmpty, SubschemasAreKept, IsAccepted}
+use Rattle.schema_meaning.specs.Asked.{parts_admit}
 use Rattle.schema_meaning.specs.Definitions.{NamedSchemas, schema_named, name_referred}
 use Rattle.schema_meaning.specs.Forms.{SchemaLevel, level_by_form}
 use Rattle.schema_meaning.specs.Meaning.{object_admits, admits_within}
@@ -83,10 +83,10 @@ empty_meant definitions r (suc n) j s le (inr (o, e, f)) =
     let next = admits_within definitions r j n in
     admits-suc definitions r j n s
     ∙ ap (λ (z : SchemaLevel). level_by_form (λ b. b) (object_admits definitions smaller next j (out-Json j)) z) e
-    ∙ ap (λ (p : Parts). option_map_or (λ text. is_some_and (option_and_then (schema_named definitions) (name_in (Some text))) next) p.reference (parts_hold smaller next j (out-Json j) p)) f
+    ∙ ap (λ (p : Parts). option_map_or (λ text. is_some_and (option_and_then (schema_named definitions) (name_in (Some text))) next) p.reference (parts_admit smaller next j (out-Json j) p)) f
     ∙ by_level (out-Json j)
   where
-    by_level : (x : Level Json) → parts_hold (smaller_admits definitions r) (admits_within definitions r j n) j x no_parts ≡ true
+    by_level : (x : Level Json) → parts_admit (smaller_admits definitions r) (admits_within definitions r j n) j x no_parts ≡ true
     by_level Json-F.Null = refl
     by_level (Json-F.Bool b) = refl
     by_level (Json-F.Int i) = refl
@@ -161,7 +161,7 @@ module _ (definitions : NamedSchemas) (whole : Schema) (doc : Json) (accepted : 
 
         abbrev Agreement : Option (List ℕ) → Type 0
         Agreement text = written_admits doc (written_smaller doc q) Next j (out-Json j) (option_map_or reference_json text (object_of (annotations given p ++ entries_behind (level_of p))))
-            ≡ option_map_or (λ text. is_some_and (option_and_then (schema_named definitions) (name_in (Some text))) MeansNext) text (parts_hold (smaller_admits definitions r) MeansNext j (out-Json j) p)
+            ≡ option_map_or (λ text. is_some_and (option_and_then (schema_named definitions) (name_in (Some text))) MeansNext) text (parts_admit (smaller_admits definitions r) MeansNext j (out-Json j) p)
 
         by_reference : (text : List ℕ) → p.reference ≡ Some text → Agreement (Some text)
         by_reference text f =
@@ -176,7 +176,7 @@ module _ (definitions : NamedSchemas) (whole : Schema) (doc : Json) (accepted : 
         below_reached f g t c = smaller_value s t reached (subst (λ (l : List Schema). Contains l t) (sym (below-is s o e f g)) c)
 
         parts_agree : (f : p.reference ≡ None) (g : without_values p.enum_values ≡ false) → (x : Level Json) → OfParts Agrees x
-            → PartsOf given p ((accepted s reached).parts_read o e f) (unrefused s o e f (accepted s reached).not_refused) j (written_smaller doc q) Next (smaller_admits definitions r) MeansNext no_truth truth_kept (smaller_schemas p.instance_type p) x
+            → PartsOf given p ((accepted s reached).parts_kept o e f) (unrefused s o e f (accepted s reached).not_refused) j (written_smaller doc q) Next (smaller_admits definitions r) MeansNext no_truth truth_kept (smaller_schemas p.instance_type p) x
         parts_agree f g Json-F.Null h = tt
         parts_agree f g (Json-F.Bool b) h = tt
         parts_agree f g (Json-F.Int i) h = tt
@@ -199,15 +199,15 @@ module _ (definitions : NamedSchemas) (whole : Schema) (doc : Json) (accepted : 
 
         by_parts_of : p.reference ≡ None → Agreement None
         by_parts_of f =
-            let read = (accepted s reached).parts_read o e f in
+            let kept = (accepted s reached).parts_kept o e f in
             let right = unrefused s o e f (accepted s reached).not_refused in
             ap (λ (text : Option (List ℕ)). written_admits doc (written_smaller doc q) Next j (out-Json j) (option_map_or reference_json text (object_of (annotations given p ++ entries_behind (level_of p))))) (sym f)
-            ∙ object_agrees given p read right j (written_smaller doc q) Next (smaller_admits definitions r) MeansNext no_truth truth_kept doc (out-Json j) refl f
+            ∙ object_agrees given p kept right j (written_smaller doc q) Next (smaller_admits definitions r) MeansNext no_truth truth_kept doc (out-Json j) refl f
             (λ g. record {
               agree = λ u h t c. next_agrees None t (beside_reached f g u t h c);
               empty = λ u t h i.
                   let l = beside_reached f g u t h (not_among u t i) in
-                  empty_meant definitions r n j t (some_left definitions n t (also t l)) (of_some IsEmpty u.not t i (of_some SubschemasAreRead p.subschemas u h read.subschemas_read).not_empty);
+                  empty_meant definitions r n j t (some_left definitions n t (also t l)) (of_some IsEmpty u.not t i (of_some SubschemasAreKept p.subschemas u h kept.subschemas_kept).not_empty);
               parts = parts_agree f g (out-Json j) below_j;
             })
 

@@ -44,9 +44,9 @@ null_form es =
     is_some_and (value_named (codes "type") es) (λ s. is_some_and (as_text (out-Json s)) (λ name. bytes_eq name (codes "string")))
     && is_some_and (value_named (codes "enum") es) (λ s. is_some_and (as_list (out-Json s)) is_null_alone)
 
--- the entries behind annotations are read, and none is a reference or `nullable`
-pub record AreBehind (es : List Entry) : Type 0 where
-  pub read : each_entry (λ name v. is_read (keyword_of name) v) es ≡ true
+-- whether the entries behind annotations are read, and that none is a reference or `nullable`
+pub record AreBehind (es : List Entry) (all_read : Bool) : Type 0 where
+  pub read : each_entry (λ name v. is_read (keyword_of name) v) es ≡ all_read
   pub no_reference : each_entry (λ name v. not (bytes_eq name (codes "$ref"))) es ≡ true
   pub no_null : value_named (codes "nullable") es ≡ None
 
@@ -115,15 +115,15 @@ module _ (given : Option (List ℕ)) (p : Parts) (es : List Entry) where
     abbrev pub entries_hold : List Entry → Bool
     entries_hold = each_entry (λ name v. row smaller next json j (members_of all_entries) (keyword_of name) v)
 
-    -- null is admitted beside `nullable`, and else what the entries behind the annotations admit
-    pub noted_admits : AreBehind es → schema_admits doc smaller next json j (object_of all_entries) ≡ (p.nullable && is_null j || (if null_form es then is_null j else entries_hold es))
-    noted_admits behind =
+    -- where all is read, null is admitted beside `nullable`, and else what the entries behind the annotations admit
+    pub noted_admits : {all_read : Bool} → AreBehind es all_read → schema_admits doc smaller next json j (object_of all_entries) ≡ (all_read && (p.nullable && is_null j || (if null_form es then is_null j else entries_hold es)))
+    noted_admits {all_read} behind =
         let schema = members_of all_entries in
         ap (λ (x : Level Json). is_some_and (as_object x) (members_admit doc smaller next json j)) (outs-Object schema)
         ∙ ap (λ (o : Option (List ℕ)). option_map_or (λ name. is_some_and (definition doc name) next) o (object_admits smaller next json j schema)) (no_reference behind.no_reference)
         ∙ ap (λ b. b && (is_set (codes "nullable") schema && is_null j || (if is_null_form schema then is_null j else members_hold smaller next json j schema)))
         (over_members (λ name v. is_read (keyword_of name) v) all_entries ∙ by_keyword is_read (λ v. refl) (λ v. refl) ∙ behind.read)
-        ∙ ap (λ b. b && is_null j || (if is_null_form schema then is_null j else members_hold smaller next json j schema)) (is_nullable behind.no_null)
-        ∙ ap (λ b. p.nullable && is_null j || (if b then is_null j else members_hold smaller next json j schema)) formed
-        ∙ ap (λ b. p.nullable && is_null j || (if null_form es then is_null j else b))
+        ∙ ap (λ b. all_read && (b && is_null j || (if is_null_form schema then is_null j else members_hold smaller next json j schema))) (is_nullable behind.no_null)
+        ∙ ap (λ b. all_read && (p.nullable && is_null j || (if b then is_null j else members_hold smaller next json j schema))) formed
+        ∙ ap (λ b. all_read && (p.nullable && is_null j || (if null_form es then is_null j else b)))
         (over_members (λ name v. row smaller next json j schema (keyword_of name) v) all_entries ∙ by_keyword (row smaller next json j schema) (λ v. refl) (λ v. refl))

@@ -29,8 +29,8 @@ use Rattle.openapi_values.specs.Objects.{Entry, object_of, reference_json}
 use Rattle.openapi_values.specs.Options.{is_none_or, is_some_and}
 use Rattle.openapi_values.specs.Refusal.{types_refusal, values_refusal}
 use Rattle.openapi_values.specs.SchemaJson.{annotations, const_values, values_of, values_json, nothing_entries, without_values, entries_behind, object_step, type_entries, type_name}
-use Rattle.schema_meaning.specs.Accepted.{AreRead, AsksOfNoForm}
-use Rattle.schema_meaning.specs.Asked.{is_of, is_of_types, format_holds, number_holds, length_holds, array_holds, object_holds, is_string, form_holds, subschemas_hold, parts_hold}
+use Rattle.schema_meaning.specs.Accepted.{AreKept, AsksOfNoForm}
+use Rattle.schema_meaning.specs.Asked.{is_of, is_of_types, format_holds, number_holds, length_holds, array_holds, object_holds, is_string, form_holds, subschemas_hold, all_of_is_read, parts_hold, parts_admit}
 use Rattle.schema_meaning.specs.Reached.{combined_schemas, smaller_schemas}
 use Rattle.schema_meaning.proofs.Behind.{both_behind, plain_behind, subschema_entries, subschemas_behind, no_subschema}
 use Rattle.schema_meaning.proofs.Combined.{Agree, rows, rows-append, subschemas_agree}
@@ -54,7 +54,7 @@ no_values-is None e = absurd (cc e)
 no_values-is (Some []) e = refl
 no_values-is (Some (v ∷ vs)) e = absurd (cc e)
 
-nothing_behind : AreBehind nothing_entries
+nothing_behind : AreBehind nothing_entries true
 unfolding is_annotation bound_or part_of
 nothing_behind = record {
   read = ap (λ (x : Level Json). is_some_and (as_object x) (λ ms. length ms == 0) && true) (json.outs-Object []);
@@ -62,16 +62,16 @@ nothing_behind = record {
   no_null = refl;
 }
 
-module _ (given : Option (List ℕ)) (p : Parts) (read : AreRead p) (right : Unrefused p) (value : Json) (smaller : Json → Json → Bool) (next : Json → Bool) (means : Json → Schema → Bool) (means_next : Schema → Bool)
+module _ (given : Option (List ℕ)) (p : Parts) (kept : AreKept p) (right : Unrefused p) (value : Json) (smaller : Json → Json → Bool) (next : Json → Bool) (means : Json → Schema → Bool) (means_next : Schema → Bool)
     (no_truth : (x : Json) (b : Bool) → smaller x (Truth b) ≡ false) (truth_kept : (x : Json) (s : Schema) (b : Bool) → out-Schema s ≡ Schema-F.Bool b → means x s ≡ b) where
   abbrev Entries : Option InstanceTypes → List Entry
-  Entries = entries_of given p read value smaller next means no_truth truth_kept
+  Entries = entries_of given p kept value smaller next means no_truth truth_kept
 
   abbrev Listed : Bool
-  Listed = listed given p read value smaller next means no_truth truth_kept
+  Listed = listed given p kept value smaller next means no_truth truth_kept
 
   abbrev pub PartsOf : List Schema → Level Json → Type 0
-  PartsOf = PartsMean given p read value smaller next means no_truth truth_kept
+  PartsOf = PartsMean given p kept value smaller next means no_truth truth_kept
 
   -- the values that are given are null alone
   abbrev Null_alone : Bool
@@ -80,9 +80,13 @@ module _ (given : Option (List ℕ)) (p : Parts) (read : AreRead p) (right : Unr
   abbrev Subschemas_hold : Bool
   Subschemas_hold = is_none_or p.subschemas (subschemas_hold means_next)
 
+  -- the subschemas are read
+  abbrev Subschemas_read : Bool
+  Subschemas_read = is_none_or p.subschemas all_of_is_read
+
   -- the rows of some entries of the whole object
   abbrev rows_in : Option InstanceTypes → Level Json → List Entry → Bool
-  rows_in t x = rows smaller next value x (members_for given p read value smaller next means no_truth truth_kept t)
+  rows_in t x = rows smaller next value x (members_for given p kept value smaller next means no_truth truth_kept t)
 
   abbrev null_or : Level Json → Bool → Bool
   null_or x b = p.nullable && is_null x || b
@@ -97,7 +101,7 @@ module _ (given : Option (List ℕ)) (p : Parts) (read : AreRead p) (right : Unr
   asked-is : (t : Option InstanceTypes) (x : Level Json) → p.instance_type ≡ t → parts_hold means means_next value x p ≡ null_or x (asked t x)
   asked-is t x e =
       ap (λ (t : Option InstanceTypes). null_or x (if is_string t && Null_alone then is_null x else (is_none_or t (is_of_types x) && (Listed && (is_none_or p.const_value (same_json value) && (form_holds means x p && Subschemas_hold)))))) e
-      ∙ ap (λ (o : Option Json). null_or x (if is_string t && Null_alone then is_null x else (is_none_or t (is_of_types x) && (Listed && (is_none_or o (same_json value) && (form_holds means x p && Subschemas_hold)))))) read.no_const
+      ∙ ap (λ (o : Option Json). null_or x (if is_string t && Null_alone then is_null x else (is_none_or t (is_of_types x) && (Listed && (is_none_or o (same_json value) && (form_holds means x p && Subschemas_hold)))))) kept.no_const
 
   -- the object as it is written admits what is asked
   abbrev Outcome : Option InstanceTypes → Level Json → Type 0
@@ -105,13 +109,13 @@ module _ (given : Option (List ℕ)) (p : Parts) (read : AreRead p) (right : Unr
 
   module _ (agree : (s : Subschemas) → p.subschemas ≡ Some s → Agree next means_next (combined_schemas s)) (empty : (s : Subschemas) (t : Schema) → p.subschemas ≡ Some s → s.not ≡ Some t → means_next t ≡ true) where
     subschemas_part : (t : Option InstanceTypes) (x : Level Json) → rows_in t x (subschema_entries p.subschemas) ≡ Subschemas_hold
-    subschemas_part t x = subschemas_agree smaller next value x (members_for given p read value smaller next means no_truth truth_kept t) means_next p.subschemas agree empty
+    subschemas_part t x = subschemas_agree smaller next value x (members_for given p kept value smaller next means no_truth truth_kept t) means_next p.subschemas agree empty
 
-    by_rows : (type : InstanceType) (x : Level Json) → null_form (Entries (Some (Single type))) ≡ false → (is_string (Some (Single type)) && Null_alone) ≡ false → TypeMeans given p read value smaller next means no_truth truth_kept type → PartsOf (smaller_schemas (Some (Single type)) p) x → Outcome (Some (Single type)) x
+    by_rows : (type : InstanceType) (x : Level Json) → null_form (Entries (Some (Single type))) ≡ false → (is_string (Some (Single type)) && Null_alone) ≡ false → TypeMeans given p kept value smaller next means no_truth truth_kept type → PartsOf (smaller_schemas (Some (Single type)) p) x → Outcome (Some (Single type)) x
     by_rows type x form other means_type parts =
         ap (λ b. null_or x (if b then is_null x else rows_in (Some (Single type)) x (Entries (Some (Single type))))) form
         ∙ ap (λ b. null_or x b)
-        (rows-append smaller next value x (members_for given p read value smaller next means no_truth truth_kept (Some (Single type))) (type_entries (Some (Single type)) (level_of p)) (subschema_entries p.subschemas)
+        (rows-append smaller next value x (members_for given p kept value smaller next means no_truth truth_kept (Some (Single type))) (type_entries (Some (Single type)) (level_of p)) (subschema_entries p.subschemas)
         ∙ ap₂ (λ (a b : Bool). a && b) (means_type x parts) (subschemas_part (Some (Single type)) x)
         ∙ regrouped (is_of x type) Listed (form_holds means x p) Subschemas_hold)
         ∙ ap (λ b. null_or x (if b then is_null x else each_part (Some (Single type)) x)) (sym other)
@@ -134,7 +138,7 @@ module _ (given : Option (List ℕ)) (p : Parts) (read : AreRead p) (right : Unr
         ap (λ (o : Option Json). null_or x (if (is_some_and o (λ s. is_some_and (as_text (out-Json s)) (λ name. bytes_eq name (codes "string"))) && is_some_and (value_named (codes "enum") (Entries None)) (λ s. is_some_and (as_list (out-Json s)) is_null_alone)) then is_null x else rows_in None x (Entries None)))
         (no_subschema (codes "type") p.subschemas refl refl refl refl)
         ∙ ap (λ b. null_or x b) (subschemas_part None x)
-        ∙ ap₂ (λ (a b : Bool). null_or x (a && (b && Subschemas_hold))) (sym (all_listed none)) (sym (form_true x e (read.typed e)))
+        ∙ ap₂ (λ (a b : Bool). null_or x (a && (b && Subschemas_hold))) (sym (all_listed none)) (sym (form_true x e (kept.typed e)))
 
     -- ---- a type whose name is not that of texts
 
@@ -156,7 +160,7 @@ module _ (given : Option (List ℕ)) (p : Parts) (read : AreRead p) (right : Unr
     null_formed : null_form (Entries (Some (Single Null))) ≡ true
     null_formed =
         string_form Null refl
-        ∙ ap (λ (o : Option Json). is_some_and (as_list (out-Json (ListOf (unwrap_or (const_values o) (NullJson ∷ []))))) is_null_alone) read.no_const
+        ∙ ap (λ (o : Option Json). is_some_and (as_list (out-Json (ListOf (unwrap_or (const_values o) (NullJson ∷ []))))) is_null_alone) kept.no_const
         ∙ alone
 
     nulls_listed : (o : Option (List Json)) → without_values o ≡ false → values_refusal (Some (Single Null)) (unwrap_or o []) ≡ None → value ≡ NullJson → is_none_or o (list_any (same_json value)) ≡ true
@@ -175,7 +179,7 @@ module _ (given : Option (List ℕ)) (p : Parts) (read : AreRead p) (right : Unr
     of_null : (x : Level Json) → out-Json value ≡ x → p.instance_type ≡ Some (Single Null) → without_values p.enum_values ≡ false → values_refusal (Some (Single Null)) (unwrap_or p.enum_values []) ≡ None → Outcome (Some (Single Null)) x
     of_null x e type some h =
         ap (λ b. null_or x (if b then is_null x else rows_in (Some (Single Null)) x (Entries (Some (Single Null))))) null_formed
-        ∙ ap (λ b. null_or x b) (null_asked x e (read.null_alone type) some h)
+        ∙ ap (λ b. null_or x b) (null_asked x e (kept.null_alone type) some h)
 
     -- ---- a text
 
@@ -188,14 +192,14 @@ module _ (given : Option (List ℕ)) (p : Parts) (read : AreRead p) (right : Unr
         string_form String refl
         ∙ ap (λ (o : Option Json). is_some_and o (λ s. is_some_and (as_list (out-Json s)) is_null_alone))
         (or_none (values_json (values_of p.const_value p.enum_values)) (value_named (codes "enum") (subschema_entries p.subschemas)) (no_subschema (codes "enum") p.subschemas refl refl refl refl)
-        ∙ ap values_json (values_are given p read value smaller next means no_truth truth_kept))
+        ∙ ap values_json (values_are given p kept value smaller next means no_truth truth_kept))
         ∙ values_form p.enum_values
 
     of_text : (x : Level Json) → PartsOf [] x → (b : Bool) → Null_alone ≡ b → Outcome (Some (Single String)) x
     of_text x parts true h =
         ap (λ b. null_or x (if b then is_null x else rows_in (Some (Single String)) x (Entries (Some (Single String))))) (texts_form ∙ h)
         ∙ ap (λ b. null_or x (if b then is_null x else each_part (Some (Single String)) x)) (sym h)
-    of_text x parts false h = by_rows String x (texts_form ∙ h) h (string_means given p read value smaller next means no_truth truth_kept) parts
+    of_text x parts false h = by_rows String x (texts_form ∙ h) h (string_means given p kept value smaller next means no_truth truth_kept) parts
 
     -- ---- each type
 
@@ -204,25 +208,25 @@ module _ (given : Option (List ℕ)) (p : Parts) (read : AreRead p) (right : Unr
     by_type (Some (Several types)) e x f some parts = absurd (let w : types_refusal (Some (Several types)) ≡ None = subst (λ (t : Option InstanceTypes). types_refusal t ≡ None) e right.one_type in cc w)
     by_type (Some (Single Number)) e x f some parts = absurd (let w : types_refusal (Some (Single Number)) ≡ None = subst (λ (t : Option InstanceTypes). types_refusal t ≡ None) e right.one_type in cc w)
     by_type (Some (Single Null)) e x f some parts = of_null x f e some (subst (λ (t : Option InstanceTypes). values_refusal t (unwrap_or p.enum_values []) ≡ None) e right.values_right)
-    by_type (Some (Single Boolean)) e x f some parts = by_rows Boolean x (other_form Boolean refl) refl (boolean_means given p read value smaller next means no_truth truth_kept) parts
+    by_type (Some (Single Boolean)) e x f some parts = by_rows Boolean x (other_form Boolean refl) refl (boolean_means given p kept value smaller next means no_truth truth_kept) parts
     by_type (Some (Single String)) e x f some parts = of_text x parts Null_alone refl
-    by_type (Some (Single Integer)) e x f some parts = by_rows Integer x (other_form Integer refl) refl (integer_means given p read value smaller next means no_truth truth_kept e right.bounds_right) parts
+    by_type (Some (Single Integer)) e x f some parts = by_rows Integer x (other_form Integer refl) refl (integer_means given p kept value smaller next means no_truth truth_kept e right.bounds_right) parts
     by_type (Some (Single Array)) e x f some parts =
         by_rows Array x (other_form Array refl) refl
-        (array_means given p read value smaller next means no_truth truth_kept (has_one p e right.has_items)
+        (array_means given p kept value smaller next means no_truth truth_kept (has_one p e right.has_items)
         (no_values (Some (Single Array)) p.enum_values of_array some (subst (λ (t : Option InstanceTypes). values_refusal t (unwrap_or p.enum_values []) ≡ None) e right.values_right)))
         parts
     by_type (Some (Single Object)) e x f some parts =
         by_rows Object x (other_form Object refl) refl
-        (object_means given p read value smaller next means no_truth truth_kept (no_values (Some (Single Object)) p.enum_values of_object some (subst (λ (t : Option InstanceTypes). values_refusal t (unwrap_or p.enum_values []) ≡ None) e right.values_right)))
+        (object_means given p kept value smaller next means no_truth truth_kept (no_values (Some (Single Object)) p.enum_values of_object some (subst (λ (t : Option InstanceTypes). values_refusal t (unwrap_or p.enum_values []) ≡ None) e right.values_right)))
         parts
 
   -- ---- the whole object
 
-  behind : (t : Option InstanceTypes) → AreBehind (Entries t)
+  behind : (t : Option InstanceTypes) → AreBehind (Entries t) Subschemas_read
   behind t =
       both_behind (type_entries t (level_of p)) (subschema_entries p.subschemas) (plain_behind (type_entries t (level_of p)) (type_plain t p))
-      (subschemas_behind p.subschemas read.subschemas_read)
+      (subschemas_behind p.subschemas kept.subschemas_kept)
 
   nothing_asked : (x : Level Json) → p.enum_values ≡ Some [] → asked p.instance_type x ≡ false
   nothing_asked x e =
@@ -240,7 +244,7 @@ module _ (given : Option (List ℕ)) (p : Parts) (read : AreRead p) (right : Unr
     abbrev admitted : List Entry → Bool
     admitted es = schema_admits doc smaller next value x (object_of (annotations given p ++ es))
 
-    by_values : (b : Bool) → without_values p.enum_values ≡ b → (b ≡ false → InsideAgrees x) → admitted (if b then nothing_entries else Entries p.instance_type) ≡ parts_hold means means_next value x p
+    by_values : (b : Bool) → without_values p.enum_values ≡ b → (b ≡ false → InsideAgrees x) → admitted (if b then nothing_entries else Entries p.instance_type) ≡ ((b || Subschemas_read) && parts_hold means means_next value x p)
     unfolding is_annotation bound_or part_of
     by_values true e inside =
         noted_admits given p nothing_entries doc smaller next value x nothing_behind
@@ -249,10 +253,9 @@ module _ (given : Option (List ℕ)) (p : Parts) (read : AreRead p) (right : Unr
     by_values false e inside =
         let agrees = inside refl in
         noted_admits given p (Entries p.instance_type) doc smaller next value x (behind p.instance_type)
-        ∙ by_type agrees.agree agrees.empty p.instance_type refl x is e agrees.parts
-        ∙ sym (asked-is p.instance_type x refl)
+        ∙ ap (λ b. Subschemas_read && b) (by_type agrees.agree agrees.empty p.instance_type refl x is e agrees.parts ∙ sym (asked-is p.instance_type x refl))
 
-    pub object_admits : p.reference ≡ None → (without_values p.enum_values ≡ false → InsideAgrees x) → schema_admits doc smaller next value x (object_step (level_of p) given) ≡ parts_hold means means_next value x p
+    pub object_admits : p.reference ≡ None → (without_values p.enum_values ≡ false → InsideAgrees x) → schema_admits doc smaller next value x (object_step (level_of p) given) ≡ parts_admit means means_next value x p
     object_admits none inside =
         ap (λ (r : Option (List ℕ)). schema_admits doc smaller next value x (option_map_or reference_json r (object_of (annotations given p ++ entries_behind (level_of p))))) none
         ∙ by_values (without_values p.enum_values) refl inside

@@ -28,7 +28,7 @@ use Rattle.schema_util.specs.Forms.{SchemaForm, truth, form_of, by_parts, is_lim
 use Rattle.schema_util.specs.References.{definitions_prefix, name_in, follow, follow_name, is_met, look_up, cycle, reference_in, reference_of, ComesTo, stays, breaks, goes_on, Names, Unresolved}
 use Rattle.schema_util.proofs.Steps.{followed}
 use Rattle.schema_meaning.specs.Accepted.{IsAccepted}
-use Rattle.schema_meaning.specs.Asked.{parts_hold}
+use Rattle.schema_meaning.specs.Asked.{parts_admit}
 use Rattle.schema_meaning.specs.Count.{room}
 use Rattle.schema_meaning.specs.Definitions.{NamedSchemas, schema_named}
 use Rattle.schema_meaning.specs.Forms.{SchemaLevel, level_by_form}
@@ -174,7 +174,7 @@ module _ (names : Names) (definitions : NamedSchemas) (same : HasTheSame names d
         let later = admits_within definitions r j k in
         admits-suc definitions r j k s
         ∙ ap (λ (z : SchemaLevel). level_by_form (λ b. b) (object_admits definitions smaller later j (out-Json j)) z) refers.of_object
-        ∙ ap (λ (o : Option (List ℕ)). option_map_or (λ text. is_some_and (option_and_then (schema_named definitions) (name_of (Some text))) later) o (parts_hold smaller later j (out-Json j) (out-SchemaObject refers.object))) refers.reference_is
+        ∙ ap (λ (o : Option (List ℕ)). option_map_or (λ text. is_some_and (option_and_then (schema_named definitions) (name_of (Some text))) later) o (parts_admit smaller later j (out-Json j) (out-SchemaObject refers.object))) refers.reference_is
         ∙ ap (λ (o : Option (List ℕ)). is_some_and (option_and_then (schema_named definitions) o) later) is
         ∙ ap (λ (o : Option Schema). is_some_and o later) found
 

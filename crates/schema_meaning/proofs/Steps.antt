@@ -21,7 +21,7 @@ use Rattle.schema_values.proofs.CallerLemmas.{made-out}
 use Rattle.openapi_values.specs.Levels.{Level, is_null, has_member}
 use Rattle.openapi_values.specs.Options.{is_some_and, is_none_or}
 use Rattle.openapi_values.proofs.Steps.{has_changed, all_same}
-use Rattle.schema_meaning.specs.Asked.{count_holds, places_hold, items_hold, array_holds, member_holds, object_holds, is_of_types, is_null_form, subschemas_hold, parts_hold}
+use Rattle.schema_meaning.specs.Asked.{count_holds, places_hold, items_hold, array_holds, member_holds, object_holds, is_of_types, is_null_form, subschemas_hold, object_is_read, parts_hold}
 use Rattle.schema_meaning.specs.Definitions.{NamedSchemas, schema_named}
 use Rattle.openapi_values.specs.Lookup.{name_in}
 use Rattle.schema_meaning.specs.Forms.{SchemaLevel, ItemsLevel, level_by_form, items_by_form}
@@ -95,7 +95,7 @@ same_schema definitions f smaller next json x s = by_level (out-Schema s)
     by_level : (z : SchemaLevel) → level_by_form (λ b. b) (object_admits definitions smaller next json (level_with f x)) z ≡ level_by_form (λ b. b) (object_admits definitions (λ y. smaller (beside_with f y)) next json x) z
     by_level (Schema-F.Bool b) = refl
     by_level (Schema-F.Object o) =
-        ap (option_map_or (λ text. is_some_and (option_and_then (schema_named definitions) (name_in (Some text))) next) (out-SchemaObject o).reference) (same_parts f smaller next json x (out-SchemaObject o))
+        ap (λ b. option_map_or (λ text. is_some_and (option_and_then (schema_named definitions) (name_in (Some text))) next) (out-SchemaObject o).reference (object_is_read (out-SchemaObject o) && b)) (same_parts f smaller next json x (out-SchemaObject o))
 
 -- one step of a schema
 pub admits-suc : (definitions : NamedSchemas) (room : ℕ) (j : Json) (n : ℕ) (s : Schema)

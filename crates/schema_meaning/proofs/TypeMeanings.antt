@@ -31,7 +31,7 @@ use Rattle.openapi_values.specs.Rows.{is_listed}
 use Rattle.openapi_values.specs.SchemaJson.{const_values, values_of, values_json, enum_entries, number_entries, text_entries, kind_entries, type_entries, type_name, array_written, object_parts_written}
 use Rattle.openapi_values.proofs.SchemaLevels.{object_parts-are}
 use Rattle.schema_meaning.specs.Asked.{is_of, format_holds, number_holds, array_holds, object_holds, form_holds}
-use Rattle.schema_meaning.specs.Accepted.{AreRead}
+use Rattle.schema_meaning.specs.Accepted.{AreKept}
 use Rattle.schema_meaning.specs.Forms.{ItemsLevel, items_by_form}
 use Rattle.schema_meaning.specs.Reached.{array_schemas, object_schemas, item_schemas, smaller_schemas}
 use Rattle.schema_values.proofs.CallerLemmas.{contains_first}
@@ -55,7 +55,7 @@ marked_by : (b : Bool) (o : Option Json) → o ≡ None → is_some_and (option_
 marked_by true o e = ap is_true (json.outs-Bool true)
 marked_by false o e = ap (λ (o : Option Json). is_some_and o (λ s. is_true (out-Json s))) e
 
-module _ (given : Option (List ℕ)) (p : Parts) (read : AreRead p) (value : Json) (smaller : Json → Json → Bool) (next : Json → Bool) (means : Json → Schema → Bool) (no_truth : (x : Json) (b : Bool) → smaller x (Truth b) ≡ false) (truth_kept : (x : Json) (s : Schema) (b : Bool) → out-Schema s ≡ Schema-F.Bool b → means x s ≡ b) where
+module _ (given : Option (List ℕ)) (p : Parts) (kept : AreKept p) (value : Json) (smaller : Json → Json → Bool) (next : Json → Bool) (means : Json → Schema → Bool) (no_truth : (x : Json) (b : Bool) → smaller x (Truth b) ≡ false) (truth_kept : (x : Json) (s : Schema) (b : Bool) → out-Schema s ≡ Schema-F.Bool b → means x s ≡ b) where
   -- the entries behind the annotations, and the whole object
   abbrev pub entries_of : Option InstanceTypes → List Entry
   entries_of t = type_entries t (level_of p) ++ subschema_entries p.subschemas
@@ -85,7 +85,7 @@ module _ (given : Option (List ℕ)) (p : Parts) (read : AreRead p) (value : Jso
   by_type type x = ap (λ b. b && rows_at type x (kind_entries type (level_of p))) (type_row smaller next value x (members_for (Some (Single type))) (type_name type))
 
   pub values_are : values_of p.const_value p.enum_values ≡ p.enum_values
-  values_are = ap (λ (o : Option Json). values_of o p.enum_values) read.no_const
+  values_are = ap (λ (o : Option Json). values_of o p.enum_values) kept.no_const
 
   pub boolean_means : TypeMeans Boolean
   unfolding is_annotation bound_or part_of
@@ -160,7 +160,7 @@ module _ (given : Option (List ℕ)) (p : Parts) (read : AreRead p) (value : Jso
 
   -- no const stands
   const_none : (type : InstanceType) (x : Level Json) (es : List Entry) → rows_at type x (enum_entries (const_values p.const_value) ++ es) ≡ rows_at type x es
-  const_none type x es = ap (λ (o : Option Json). rows_at type x (enum_entries (const_values o) ++ es)) read.no_const
+  const_none type x es = ap (λ (o : Option Json). rows_at type x (enum_entries (const_values o) ++ es)) kept.no_const
 
   all_listed : p.enum_values ≡ None → listed ≡ true
   all_listed none = ap (λ (o : Option (List Json)). is_none_or o (list_any (same_json value))) none
@@ -200,7 +200,7 @@ module _ (given : Option (List ℕ)) (p : Parts) (read : AreRead p) (value : Jso
   unfolding is_annotation
   properties_stand o e =
       named_among given p (entries_of (Some (Single Object))) (codes "properties") refl refl
-      ∙ ap₂ (λ (c : Option Json) (o : Option ObjectParts). value_named (codes "properties") (object_entries c o)) read.no_const e
+      ∙ ap₂ (λ (c : Option Json) (o : Option ObjectParts). value_named (codes "properties") (object_entries c o)) kept.no_const e
       ∙ ap (λ (es : List Entry). value_named (codes "properties") (es ++ subschema_entries p.subschemas)) (object_parts-are o)
       ∙ or_none (unless_empty (written_properties (out-ObjectParts o).properties)) (value_named (codes "properties") (subschema_entries p.subschemas)) (no_subschema (codes "properties") p.subschemas refl refl refl refl)
 

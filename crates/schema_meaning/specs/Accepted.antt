@@ -1,5 +1,5 @@
 -- The schemas whose meaning is kept where they are written (OpenAPI 3.0.3, Schema Object).
-use Rattle.std.specs.Prelude.{◌≡◌, ◌⊎◌, true, List, [], ◌∷◌, Some, None, IfSome}
+use Rattle.std.specs.Prelude.{◌≡◌, ◌≤◌, ◌⊎◌, true, List, length, Some, None, IfSome}
 use Rattle.schema_values.specs.declared.schema.InstanceType.TheVariants.{Null}
 use Rattle.schema_values.specs.declared.schema.InstanceTypes.TheVariants.{Single}
 use Rattle.schema_values.specs.declared.schema.Items.TheOpen.{Schema-F}
@@ -17,13 +17,13 @@ IsEmpty schema =
     (out-Schema schema ≡ Schema-F.Bool true)
     ⊎ ((object : SchemaObject) × (out-Schema schema ≡ Schema-F.Object object) × (out-SchemaObject object ≡ no_parts))
 
--- there is exactly one schema
-abbrev pub IsOne : List Schema → Type 0
-IsOne schemas = (schema : Schema) × (schemas ≡ schema ∷ [])
+-- there is one schema, or none
+abbrev pub AreAtMostOne : List Schema → Type 0
+AreAtMostOne schemas = length schemas ≤ 1
 
--- `all_of` has one schema, and `not` the empty one
-pub record SubschemasAreRead (subschemas : Subschemas) : Type 0 where
-  pub one_all : IfSome subschemas.all_of IsOne
+-- `all_of` has at most one schema, and `not` the empty one
+pub record SubschemasAreKept (subschemas : Subschemas) : Type 0 where
+  pub at_most_one_all : IfSome subschemas.all_of AreAtMostOne
   pub not_empty : IfSome subschemas.not IsEmpty
 
 -- no part stands that asks something of numbers, texts, lists or objects
@@ -33,25 +33,25 @@ pub record AsksOfNoForm (parts : Parts) : Type 0 where
   pub no_array : parts.array ≡ None
   pub no_object : parts.object ≡ None
 
--- the parts of a schema object that is no reference are those that are read where the schema is written
-pub record AreRead (parts : Parts) : Type 0 where
+-- the parts of a schema object that is no reference are those whose meaning is kept where the schema is written
+pub record AreKept (parts : Parts) : Type 0 where
   pub no_const : parts.const_value ≡ None
-  pub subschemas_read : IfSome parts.subschemas SubschemasAreRead
+  pub subschemas_kept : IfSome parts.subschemas SubschemasAreKept
   -- what is asked of one form of values stands beside a type
   pub typed : parts.instance_type ≡ None → AsksOfNoForm parts
   -- beside the type of null no subschemas stand
   pub null_alone : parts.instance_type ≡ Some (Single Null) → parts.subschemas ≡ None
 
--- what is asked of the parts of a schema: nothing of a truth value, or of a reference
-abbrev pub PartsAreRead : Schema → Type 0
-PartsAreRead schema = (object : SchemaObject) → out-Schema schema ≡ Schema-F.Object object → (out-SchemaObject object).reference ≡ None → AreRead (out-SchemaObject object)
+-- so are those of a schema, of which nothing is asked where it is a truth value or a reference
+abbrev pub PartsAreKept : Schema → Type 0
+PartsAreKept schema = (object : SchemaObject) → out-Schema schema ≡ Schema-F.Object object → (out-SchemaObject object).reference ≡ None → AreKept (out-SchemaObject object)
 
--- a schema is not refused, its parts are read, and no chain of references and subschemas comes back to it
-pub record IsReadable (definitions : NamedSchemas) (schema : Schema) : Type 0 where
+-- the meaning of a schema is kept: it is not refused, its parts are kept, and no chain of references and subschemas comes back to it
+pub record IsKept (definitions : NamedSchemas) (schema : Schema) : Type 0 where
   pub not_refused : refusal_of schema ≡ None
-  pub parts_read : PartsAreRead schema
+  pub parts_kept : PartsAreKept schema
   pub no_way_back : LeadsOnTo definitions schema schema → ⊥
 
--- the accepted subset: each schema that is reached, the schema itself among them, is readable
+-- the accepted subset: the meaning of each schema that is reached, the schema itself among them, is kept
 abbrev pub IsAccepted : NamedSchemas → Schema → Type 0
-IsAccepted definitions whole = (schema : Schema) → IsReached definitions whole schema → IsReadable definitions schema
+IsAccepted definitions whole = (schema : Schema) → IsReached definitions whole schema → IsKept definitions schema

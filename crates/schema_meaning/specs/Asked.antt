@@ -22,6 +22,7 @@ use Rattle.openapi_values.specs.Levels.{Named, Level, is_null, has_member}
 use Rattle.openapi_values.specs.Lookup.{is_null_alone}
 use Rattle.openapi_values.specs.Options.{is_none_or, is_some_and}
 use Rattle.openapi_values.specs.Rows.{in_format}
+use Rattle.openapi_values.specs.SchemaJson.{without_values}
 use Rattle.schema_meaning.specs.Forms.{by_items}
 
 -- whether a value is of a type; a whole number is of both types of numbers
@@ -117,6 +118,14 @@ subschemas_hold next subschemas =
     && (is_none_or subschemas.one_of (λ schemas. count_by next schemas == 1)
     && is_none_or subschemas.not (λ schema. not (next schema))))
 
+-- an `all_of` that is given has one schema at least, as JSON Schema asks; one of none is not read
+abbrev pub all_of_is_read : Subschemas → Bool
+all_of_is_read subschemas = is_none_or subschemas.all_of (λ schemas. nat_le 1 (length schemas))
+
+-- a schema object is read where its `all_of` is; beside values of which there are none, subschemas do not count
+abbrev pub object_is_read : Parts → Bool
+object_is_read parts = without_values parts.enum_values || is_none_or parts.subschemas all_of_is_read
+
 module _ {X : Type 0} (smaller : X → Schema → Bool) (next : Schema → Bool) (json : Json) where
   -- each part that stands holds
   abbrev pub each_holds : Level X → Parts → Bool
@@ -130,3 +139,7 @@ module _ {X : Type 0} (smaller : X → Schema → Bool) (next : Schema → Bool)
   -- `nullable` admits null whatever else is asked, and the null form null alone
   abbrev pub parts_hold : Level X → Parts → Bool
   parts_hold j parts = parts.nullable && is_null j || (if is_null_form parts then is_null j else each_holds j parts)
+
+  -- an object that is not read admits nothing, and any other that of which each part holds
+  abbrev pub parts_admit : Level X → Parts → Bool
+  parts_admit j parts = object_is_read parts && parts_hold j parts

@@ -7,18 +7,18 @@ use Rattle.schema_values.specs.declared.schema.SchemaObject.{SchemaObject, out-S
 use Rattle.schema_values.specs.Beside.{Beside, LevelBeside, made_of}
 use Rattle.openapi_values.specs.Levels.{Level}
 use Rattle.openapi_values.specs.Options.{is_some_and}
-use Rattle.schema_meaning.specs.Asked.{parts_hold}
+use Rattle.schema_meaning.specs.Asked.{parts_admit}
 use Rattle.schema_meaning.specs.Count.{room}
 use Rattle.schema_meaning.specs.Definitions.{NamedSchemas, schema_named}
 use Rattle.openapi_values.specs.Lookup.{name_in}
 use Rattle.schema_meaning.specs.Forms.{by_form}
 
--- a reference admits what the definition of its name does, and nothing where there is none; any other object that of which each part holds
+-- a reference admits what the definition of its name does, and nothing where there is none; any other object what its parts do
 abbrev pub object_admits : {X : Type 0} → NamedSchemas → (X → Schema → Bool) → (Schema → Bool) → Json → Level X → SchemaObject → Bool
 object_admits definitions smaller next json j object =
     option_map_or (λ text. is_some_and (option_and_then (schema_named definitions) (name_in (Some text))) next)
     (out-SchemaObject object).reference
-    (parts_hold smaller next json j (out-SchemaObject object))
+    (parts_admit smaller next json j (out-SchemaObject object))
 
 -- a truth value admits all or nothing
 abbrev pub schema_admits : {X : Type 0} → NamedSchemas → (X → Schema → Bool) → (Schema → Bool) → Json → Level X → Schema → Bool

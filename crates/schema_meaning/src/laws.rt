@@ -12,10 +12,11 @@ ghost use Rattle.schema_meaning.specs.Steps.{WrittenStepsSuffice, MeaningStepsSu
 ghost use Rattle.schema_meaning.specs.Written.{DefinesReached};
 
 /// An accepted schema means the same as what `j2oas_schema` writes for it, under any title: in a document
-/// with the written definitions, each under any title, it admits the same JSON values. Beyond a schema that
-/// is not refused this asks for an `all_of` of exactly one schema, since no other `allOf` of a document is
-/// read, and that the document has nothing under a name without a definition, since what stood there would
-/// be read as one.
+/// with the written definitions, each under any title, it admits the same JSON values. A schema whose
+/// `all_of` is empty admits nothing, as one with an empty `allOf` does in a document; beside an empty list of
+/// values `all_of` is not written, and does not count. Beyond a schema that is not refused this asks for an
+/// `all_of` of at most one schema, since a document's `allOf` of several is not read, and that the document
+/// has nothing under a name without a definition, since what stood there would be read as one.
 pub fn schemas_agree()
     ensures { (doc : JsonValue) (definitions : NamedSchemas) (schema : SchemaValue) (title : Option (List ℕ))
         → IsAccepted definitions schema → DefinesReached doc definitions schema → (json : JsonValue)
