@@ -1,11 +1,14 @@
 // Encoding under external and tagged enumerations.
-ghost use Rattle.std.specs.Prelude.{◌≡◌, ◌∷◌, [], IfOk};
+ghost use Rattle.std.specs.Prelude.{◌≡◌, ◌∷◌, [], IfOk, IfSome};
 ghost use Rattle.schema_values.specs.declared.json_value.Json.{Object, Text as Words};
 ghost use Rattle.schema_values.specs.Member.{member};
 ghost use Rattle.typed_values.specs.declared.tree.Tree.{out-Tree};
+ghost use Rattle.typed_values.specs.Definitions.{tagged_fields, tagged_name};
 ghost use Rattle.typed_values.specs.Encoding as meant;
 ghost use Rattle.typed_values.specs.Encoding.{written_under};
-ghost use Rattle.typed_values.specs.Rows.{ArePayloadsOf, AreVariantsOf};
+ghost use Rattle.typed_values.specs.Fits.{struct_of};
+ghost use Rattle.typed_values.specs.Parts.{IsPart};
+ghost use Rattle.typed_values.specs.Rows.{AreFieldsOf, ArePayloadsOf, AreVariantsOf};
 
 use crate::desc::{TaggedVariant, Variant};
 use crate::lists::only;
@@ -15,7 +18,6 @@ use schema_values::{Json, List, Member, Text};
 use std::alloc::{AllocError, Global};
 
 impl Scope<'_> {
-    /// The name of a variant, or an object of its name and its payload.
     #[cycle(encode)]
     pub(crate) fn encode_external(
         &self,
@@ -27,22 +29,36 @@ impl Scope<'_> {
         ensures { IfOk result (λ json. json ≡ meant.external_written
             (written_under self.now.table.now self.now.whole.now) variants.now (out-Tree tree.now)) }
     {
-        let Tree::Variant(place, tree) = tree else {
-            return Ok(Json::Null);
-        };
-        let Some(variant) = variants.get(*place as usize) else {
-            return Ok(Json::Null);
-        };
+        match tree {
+            Tree::Variant(place, tree) => match variants.get(*place as usize) {
+                Some(variant) => self.encode_variant(alloc, variant, tree.get()),
+                None => Ok(Json::Null),
+            },
+            _ => Ok(Json::Null),
+        }
+    }
+
+    /// The name of a variant, or an object of its name and its payload.
+    #[cycle(encode)]
+    fn encode_variant(
+        &self,
+        alloc: Global,
+        variant: &Variant,
+        tree: &Tree,
+    ) -> Result<Json, AllocError>
+        requires { IfSome variant.now.payload (IsPart self.now.table.now self.now.whole.now) }
+        ensures { IfOk result (λ json. json ≡ meant.variant_written
+            (written_under self.now.table.now self.now.whole.now tree.now) variant.now) }
+    {
         match &variant.payload {
             None => Ok(Json::Text(variant.name.copy(alloc)?)),
             Some(payload) => {
-                let value = self.encode_at(alloc, payload, tree.get())?;
+                let value = self.encode_at(alloc, payload, tree)?;
                 member_alone(alloc, &variant.name, value)
             }
         }
     }
 
-    /// The fields of a variant, behind the tag.
     #[cycle(encode)]
     pub(crate) fn encode_tagged(
         &self,
@@ -55,13 +71,29 @@ impl Scope<'_> {
         ensures { IfOk result (λ json. json ≡ meant.tagged_written
             (written_under self.now.table.now self.now.whole.now) tag.now variants.now (out-Tree tree.now)) }
     {
-        let Tree::Variant(place, tree) = tree else {
-            return Ok(Json::Null);
-        };
-        let Some(variant) = variants.get(*place as usize) else {
-            return Ok(Json::Null);
-        };
-        let Tree::Fields(trees) = tree.get() else {
+        match tree {
+            Tree::Variant(place, tree) => match variants.get(*place as usize) {
+                Some(variant) => self.encode_tagged_variant(alloc, tag, variant, tree.get()),
+                None => Ok(Json::Null),
+            },
+            _ => Ok(Json::Null),
+        }
+    }
+
+    /// The fields of a variant, behind the tag.
+    #[cycle(encode)]
+    fn encode_tagged_variant(
+        &self,
+        alloc: Global,
+        tag: &Text,
+        variant: &TaggedVariant,
+        tree: &Tree,
+    ) -> Result<Json, AllocError>
+        requires { AreFieldsOf self.now.table.now self.now.whole.now (tagged_fields variant.now) }
+        ensures { IfOk result (λ json. json ≡ meant.with_tag tag.now (tagged_name variant.now)
+            (written_under self.now.table.now self.now.whole.now tree.now (struct_of variant.now))) }
+    {
+        let Tree::Fields(trees) = tree else {
             return Ok(Json::Null);
         };
         let members = tag_alone(alloc, tag, &variant.name)?;

@@ -48,7 +48,7 @@ schemas::parts_of-returns-in_ok-other_members-in-Map t c =
 pub schemas::parts_of-returns-in_ok-properties-in-Struct : goal.schemas::parts_of-returns-in_ok-properties-in-Struct
 schemas::parts_of-returns-in_ok-properties-in-Struct t c =
     let table = c.args.table.now in
-    rw (struct_parts_are table c.args.desc.now c.in-Struct.fields c.in-Struct.deny_unknown c.in-Struct.is) (rw (c.in_ok-properties-in-Struct.ensures, c.new-in-Struct.ensures.items, c.as_slice-in-Struct.ensures) at (c.object_parts.ensures table))
+    rw (struct_parts_are table c.args.desc.now c.in-Struct.fields c.in-Struct.deny_unknown c.in-Struct.is) (rw (c.in_ok-properties-in-Struct.ensures, c.new-in-Struct.ensures.items, c.as_slice-fields.ensures) at (c.object_parts.ensures table))
 
 pub schemas::parts_of-returns-in-External : goal.schemas::parts_of-returns-in-External
 schemas::parts_of-returns-in-External t c =

@@ -1,4 +1,4 @@
-use Rattle.std.proofs.Common.{rules, suc, ◌≡◌, Some, None, IfSome, refl, sym, ◌∙◌, ap, subst, arith, length}
+use Rattle.std.proofs.Common.{rules, suc, ◌≡◌, ◌<◌, Some, None, IfSome, refl, sym, ◌∙◌, ap, subst, arith, length}
 use Rattle.std.proofs.lemmas.List.{length-append}
 use Rattle.std.proofs.lemmas.Option.{slice_get_read, slice_get_past}
 use Rattle.std.proofs.lemmas.Slice.Zip.{zip_turn, zip_end}
@@ -6,6 +6,7 @@ use denote.Param.Weighed.{most}
 use Rattle.schema_values.specs.Member.{member}
 use Rattle.typed_values.specs.declared.tree.Pair.{size-Pair}
 use Rattle.typed_values.specs.declared.tree.Tree.{size-Tree}
+use Rattle.typed_values.specs.Definitions.{tagged_name}
 use Rattle.typed_values.specs.Encoding.{written_under}
 use Rattle.typed_values.specs.Parts.{IsPart}
 use Rattle.typed_values.proofs.Arms.{definition_is_part}
@@ -109,14 +110,14 @@ encode_option-encode_at-requires t c =
 pub encode_list-encode_at-requires : goal.encode_list-encode_at-requires
 encode_list-encode_at-requires t c =
     let size : size-Tree c.args.tree.now ≡ suc (most size-Tree c.in-List.trees) = ap size-Tree c.in-List.is ∙ size_items c.in-List.trees in
-    let smaller : size-Tree c.tree-item.result < suc (most size-Tree c.in-List.trees) = rw (← c.as_slice.ensures) (tree_smaller c.as_slice.result.now c.loop-tree.tree-index c.tree-item.result (omega arith) c.tree-item.is) in
+    let smaller : size-Tree c.tree-item.result < suc (most size-Tree c.in-List.trees) = rw (← c.as_slice-tree-items.ensures) (tree_smaller c.as_slice-tree-items.result.now c.loop-tree.tree-index c.tree-item.result (omega arith) c.tree-item.is) in
     let less = at-lt-alone c.args.self.now.table.now c.args.self.now.whole.now (size-Tree c.tree-item.result) (size-Tree c.args.tree.now) c.args.item.now (omega arith) in
     (omega (arith, c.decreases, less), c.requires)
 
 pub encode_map-encode_at-requires : goal.encode_map-encode_at-requires
 encode_map-encode_at-requires t c =
     let size : size-Tree c.args.tree.now ≡ suc (most size-Pair c.in-Map.pairs) = ap size-Tree c.in-Map.is ∙ size_entries c.in-Map.pairs in
-    let smaller : size-Tree c.pair-item.result.value < most size-Pair c.in-Map.pairs = rw (← c.as_slice.ensures) (value_smaller c.as_slice.result.now c.loop-pair.pair-index c.pair-item.result (omega arith) c.pair-item.is) in
+    let smaller : size-Tree c.pair-item.result.value < most size-Pair c.in-Map.pairs = rw (← c.as_slice-pair-items.ensures) (value_smaller c.as_slice-pair-items.result.now c.loop-pair.pair-index c.pair-item.result (omega arith) c.pair-item.is) in
     let less = at-lt-alone c.args.self.now.table.now c.args.self.now.whole.now (size-Tree c.pair-item.result.value) (size-Tree c.args.tree.now) c.args.value.now (omega arith) in
     (omega (arith, c.decreases, less), c.requires)
 
@@ -127,8 +128,8 @@ encode_fields-encode_field-requires t c =
     let less = any-lt-alone c.args.self.now.table.now c.args.self.now.whole.now (size-Tree c.in-Some.tree.now) (suc (most size-Tree c.args.trees.now)) smaller in
     (omega (arith, c.decreases, less), c.requires c.in-Some.field.now (length c.loop-field.yielded, turn.0, sym (turn.2 c.in-Some.field.now)))
 
-pub encode_fields-loop-field-preserved-in-Continue-branch-3 : goal.encode_fields-loop-field-preserved-in-Continue-branch-3
-encode_fields-loop-field-preserved-in-Continue-branch-3 t c =
+pub encode_fields-loop-field-preserved-in-Continue-branch-2 : goal.encode_fields-loop-field-preserved-in-Continue-branch-2
+encode_fields-loop-field-preserved-in-Continue-branch-2 t c =
     let turn = zip_turn c.args.fields.now c.args.trees.now c.loop-field.yielded c.into_iter-field-iterator.result c.loop-field.field-iterator c.next.new.self c.next.result (search rules) (search rules) c.loop-field.yielded_by (c.in-Some.field, c.in-Some.tree) c.in-Some.is c.next.ensures.steps in
     members_kept is_none_tree (written_under c.args.self.now.table.now c.args.self.now.whole.now) c.args.fields.now c.args.trees.now (length c.loop-field.yielded) _ c.in-Some.field.now c.in-Some.tree.now (length-append c.loop-field.yielded _) turn.0 turn.1 (turn.2 c.in-Some.field.now) (turn.3 c.in-Some.tree.now) (sym c.is_left_out.ensures ∙ cc)
     _ c.loop-field.members c.push_member.new.members (member c.in-Some.field.now.name c.in_ok-value.value) (rw c.in_ok-value.ensures refl) c.in_ok-push_member.ensures c.loop-field.invariant
@@ -152,12 +153,11 @@ pub encode_field-returns-in-Skipped : goal.encode_field-returns-in-Skipped
 encode_field-returns-in-Skipped t c =
     rw (skipped_desc c.args.field.now c.in-Skipped.is, skipped_written c.args.self.now.table.now c.args.self.now.whole.now c.args.tree.now c.args.field.now.desc) c.encode_option.ensures
 
-pub encode_external-encode_at-requires : goal.encode_external-encode_at-requires
-encode_external-encode_at-requires t c =
+pub encode_external-encode_variant-requires : goal.encode_external-encode_variant-requires
+encode_external-encode_variant-requires t c =
     let size : size-Tree c.args.tree.now ≡ suc (size-Tree c.in-Variant.tree) = ap size-Tree c.in-Variant.is ∙ size_choice c.in-Variant.place c.in-Variant.tree in
-    let less = at-lt-alone c.args.self.now.table.now c.args.self.now.whole.now (size-Tree c.in-Variant.tree) (size-Tree c.args.tree.now) c.in-Some-2.payload (omega arith) in
-    let part = c.requires c.in-Some.variant.now (c.in-Variant.place, below_true _ _ c.in-Some.ensures.lookup.0, sym c.in-Some.ensures.lookup.1) in
-    rw c.get-2.ensures (omega (arith, c.decreases, less), subst (λ o. IfSome o (IsPart c.args.self.now.table.now c.args.self.now.whole.now)) c.in-Some-2.is part)
+    let less = any-lt-alone c.args.self.now.table.now c.args.self.now.whole.now (size-Tree c.in-Variant.tree) (size-Tree c.args.tree.now) (omega arith) in
+    rw c.get-in-Some.ensures (omega (arith, c.decreases, less), c.requires c.in-Some.variant.now (c.in-Variant.place, below_true _ _ c.in-Some.ensures.lookup.0, sym c.in-Some.ensures.lookup.1))
 
 pub encode_external-returns-in-Some : goal.encode_external-returns-in-Some
 encode_external-returns-in-Some t c =
@@ -167,13 +167,17 @@ pub encode_external-returns-in-None : goal.encode_external-returns-in-None
 encode_external-returns-in-None t c =
     rw (external_row (written_under c.args.self.now.table.now c.args.self.now.whole.now) c.args.variants.now c.args.tree.now c.in-Variant.place c.in-Variant.tree None c.in-Variant.is (slice_get_past c.args.variants.now c.in-Variant.place (below_false _ _ c.in-None.ensures.lookup.0))) refl
 
-pub encode_tagged-encode_fields-requires : goal.encode_tagged-encode_fields-requires
-encode_tagged-encode_fields-requires t c =
+pub encode_variant-encode_at-requires : goal.encode_variant-encode_at-requires
+encode_variant-encode_at-requires t c =
+    let less = at-lt-any c.args.self.now.table.now c.args.self.now.whole.now (size-Tree c.args.tree.now) c.in-Some.payload in
+    (omega (arith, c.decreases, less), subst (λ o. IfSome o (IsPart c.args.self.now.table.now c.args.self.now.whole.now)) c.in-Some.is c.requires)
+
+pub encode_tagged-encode_tagged_variant-requires : goal.encode_tagged-encode_tagged_variant-requires
+encode_tagged-encode_tagged_variant-requires t c =
     let size : size-Tree c.args.tree.now ≡ suc (size-Tree c.in-Variant.tree) = ap size-Tree c.in-Variant.is ∙ size_choice c.in-Variant.place c.in-Variant.tree in
-    let inner : size-Tree c.in-Variant.tree ≡ suc (most size-Tree c.in-Fields.trees) = ap size-Tree (sym c.get-2.ensures ∙ c.in-Fields.is) ∙ size_parts c.in-Fields.trees in
     let less = any-lt-alone c.args.self.now.table.now c.args.self.now.whole.now (size-Tree c.in-Variant.tree) (size-Tree c.args.tree.now) (omega arith) in
     let least = alone-lt-any c.args.self.now.table.now c.args.self.now.whole.now (size-Tree c.in-Variant.tree) in
-    rw (c.as_slice.ensures, c.as_slice-fields.ensures, ← inner) (omega (arith, c.decreases, less, least), c.requires c.in-Some.variant.now (c.in-Variant.place, below_true _ _ c.in-Some.ensures.lookup.0, sym c.in-Some.ensures.lookup.1))
+    rw c.get-in-Some.ensures (omega (arith, c.decreases, less, least), c.requires c.in-Some.variant.now (c.in-Variant.place, below_true _ _ c.in-Some.ensures.lookup.0, sym c.in-Some.ensures.lookup.1))
 
 pub encode_tagged-returns-in-Some : goal.encode_tagged-returns-in-Some
 encode_tagged-returns-in-Some t c =
@@ -183,9 +187,14 @@ pub encode_tagged-returns-in-None : goal.encode_tagged-returns-in-None
 encode_tagged-returns-in-None t c =
     rw (tagged_row (written_under c.args.self.now.table.now c.args.self.now.whole.now) c.args.tag.now c.args.variants.now c.args.tree.now c.in-Variant.place c.in-Variant.tree None c.in-Variant.is (slice_get_past c.args.variants.now c.in-Variant.place (below_false _ _ c.in-None.ensures.lookup.0))) refl
 
+pub encode_tagged_variant-encode_fields-requires : goal.encode_tagged_variant-encode_fields-requires
+encode_tagged_variant-encode_fields-requires t c =
+    let size : size-Tree c.args.tree.now ≡ suc (most size-Tree c.in-Fields.trees) = ap size-Tree c.in-Fields.is ∙ size_parts c.in-Fields.trees in
+    rw (c.as_slice.ensures, c.as_slice-fields.ensures, ← size) (omega (arith, c.decreases), c.requires)
+
 pub encode_tagged_variant-returns : goal.encode_tagged_variant-returns
 encode_tagged_variant-returns t c =
-    tagged_members c.args.self.now.table.now c.args.self.now.whole.now c.args.tree.now c.args.tag.now c.args.variant.now c.in-Fields.trees c.in-Fields.is c.in_ok-copy.field-0 c.in_ok-copy-2.field-0 _ _ _ _ c.in_ok-copy.ensures c.in_ok-copy-2.ensures
+    tagged_members c.args.self.now.table.now c.args.self.now.whole.now c.args.tree.now c.args.tag.now c.args.variant.now c.in-Fields.trees c.in-Fields.is c.args.tag.now (tagged_name c.args.variant.now) _ _ _ _ refl refl
     c.in_ok-members.ensures c.as_slice-fields.ensures c.as_slice.ensures c.in_ok-encode_fields.ensures
 
 pub encode_tagged_variant-returns-in_default : goal.encode_tagged_variant-returns-in_default

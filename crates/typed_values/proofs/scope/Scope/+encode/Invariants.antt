@@ -35,6 +35,12 @@ decreases-encode_external l = suc (size_alone l.self.now.table.now l.self.now.wh
 abbrev pub decreases-encode_tagged : goal.decreases-encode_tagged
 decreases-encode_tagged l = suc (size_alone l.self.now.table.now l.self.now.whole.now (size-Tree l.tree.now))
 
+abbrev pub decreases-encode_variant : goal.decreases-encode_variant
+decreases-encode_variant l = any_at_size l.self.now.table.now l.self.now.whole.now (size-Tree l.tree.now)
+
+abbrev pub decreases-encode_tagged_variant : goal.decreases-encode_tagged_variant
+decreases-encode_tagged_variant l = suc (size_alone l.self.now.table.now l.self.now.whole.now (size-Tree l.tree.now))
+
 abbrev pub invariant-encode_list-loop-tree : goal.invariant-encode_list-loop-tree
 invariant-encode_list-loop-tree l = l.items ≡ map (λ t. written_under l.self.table.now l.self.whole.now t l.item) (take l.tree-index l.tree-items)
 
