@@ -14,7 +14,8 @@ pub enum FaultKind {
     Unknown(Text),
     /// A value of another kind.
     WrongKind,
-    /// This text denotes no value of the kind with this name, or no value within its bounds.
+    /// This text denotes no value of the kind with this name, which is bool, char or one of i8 to u64, or a
+    /// number outside its bounds.
     BadText(Text, Text),
     /// A number outside its kind or its bounds.
     OutOfRange,
@@ -26,17 +27,18 @@ pub enum FaultKind {
     NoAlternative,
     /// Bytes that are no JSON.
     NotJson,
-    /// A header whose value has a byte that is no visible ASCII character.
+    /// A header whose value has a byte that is neither a visible ASCII character nor a space or a tab
+    /// (RFC 9110, section 5.5).
     HeaderBytes,
     /// A limit on the items of a page that is no whole number from 1 to 4294967295.
     BadLimit,
-    /// A page token that is longer than a token may be.
+    /// A page token of more than 512 bytes.
     TokenTooLarge,
-    /// A page token that is not written in base64.
+    /// A page token that is not in the URL-safe base64 with padding (RFC 4648, section 5).
     TokenNotBase64,
-    /// A page token whose bytes are not those of a token.
+    /// A page token whose bytes tell no place in the pages.
     TokenCorrupted,
-    /// A content type that has a byte that is no visible ASCII character.
+    /// A content type with a byte that is neither a visible ASCII character nor a space or a tab.
     ContentTypeBytes,
     /// This content type is none that a body may have.
     ContentTypeUnsupported(Text),

@@ -80,7 +80,7 @@ impl Stop {
         requires { IsTrue (all_ascii kind.now) }
         ensures { Tells (Err result) (refused (BadText text.now kind.now)) }
     {
-        match bad_text(alloc, text, kind) {
+        match unreadable(alloc, text, kind) {
             Ok(kind) => Stop::refused(alloc, kind),
             Err(_) => Stop::OutOfMemory,
         }
@@ -103,7 +103,8 @@ impl Stop {
     }
 }
 
-fn bad_text(alloc: Global, text: &Text, kind: &str) -> Result<FaultKind, AllocError>
+/// The kind of fault of a text that is no value of the kind with this name.
+fn unreadable(alloc: Global, text: &Text, kind: &str) -> Result<FaultKind, AllocError>
     requires { IsTrue (all_ascii kind.now) }
     ensures { IfOk result (λ fault. fault ≡ BadText text.now kind.now) }
 {
