@@ -18,10 +18,11 @@ use Rattle.typed_values.specs.Reached.{Mentions}
 use Rattle.openapi_values.specs.declared.document.OpenApi.{OpenApi}
 use Rattle.openapi_values.specs.declared.media.RequestBody.{RequestBody}
 use Rattle.openapi_values.specs.Admits.{Admits, operation_at as listed_at}
-use Rattle.openapi_values.specs.declared.request.WireRequest.{WireRequest}
+use Rattle.request_words.specs.declared.request.WireRequest.{WireRequest}
 use Rattle.openapi_values.specs.Find.{value_at, operation_in}
 use Rattle.openapi_values.specs.Operation.{operation_json}
-use Rattle.openapi_values.proofs.Stands.{definition-stands, bodies-admitted}
+use Rattle.openapi_values.proofs.JsonBodies.{json_bodies}
+use Rattle.openapi_values.proofs.Stands.{definition-stands}
 use Rattle.written_schemas.specs.Reached.{DefinesReached}
 use Rattle.written_schemas.specs.Written.{IsWritten}
 use Rattle.written_schemas.proofs.Whole.{titled_agrees}
@@ -113,10 +114,10 @@ module _ {X : Type 0} {F : X → Type 0} (m : Meanings X F) (e : ApiEndpoint X F
     -- the document admits a body exactly where it denotes a tree
     body_agrees : (body : List ℕ) (sent : WireRequest) → SendsJson sent body → Admits doc path method sent ↔ ((tree : Tree) × BodyDenotes table desc body tree)
     body_agrees body sent (typed, is) =
-        let admitted = bodies-admitted open_api path method (operation_of m e) (body_with e.body_content_type table desc name) (record { schema = schema }) sent listed has_body (under_json e.body_content_type table desc name) (no_bytes e.body_content_type table desc name) in
+        let admitted = json_bodies open_api path method (operation_of m e) (body_with e.body_content_type table desc name) (record { schema = schema }) sent listed refl refl has_body (under_json e.body_content_type table desc name) (no_bytes e.body_content_type table desc name) typed in
         let denoted = λ (json : Json) (reads : Reads body json). titled_agrees doc table desc written name json (reading_sound body json reads) in (
-          λ a. let read = admitted.0 a in let reads = subst (λ b. Reads b read.3) is read.4 in let tree = (denoted read.3 reads).0 read.5 in (tree.0, (read.3, reads, tree.1)),
-          λ d. let (json, reads, denotes) = d.1 in admitted.1 (refl, refl, typed, json, subst (λ b. Reads b json) (sym is) reads, (denoted json reads).1 (d.0, denotes)),
+          λ a. let read = admitted.0 a in let reads = subst (λ b. Reads b read.json) is read.reads in let tree = (denoted read.json reads).0 read.admitted in (tree.0, (read.json, reads, tree.1)),
+          λ d. let (json, reads, denotes) = d.1 in admitted.1 (record { has_type = typed; json = json; reads = subst (λ b. Reads b json) (sym is) reads; admitted = (denoted json reads).1 (d.0, denotes) }),
         )
 
 module _ {X : Type 0} {F : X → Type 0} (m : Meanings X F) (title : List ℕ) (version : Parts) (request : RequestParts) (body : List ℕ) (sent : WireRequest) (sends : SendsJson sent body) (asked : parts_of request.version ≡ version) where

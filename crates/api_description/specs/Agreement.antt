@@ -5,8 +5,8 @@ use Rattle.std.specs.declared.result.Result.TheVariants.{Ok, Err}
 use Rattle.std.specs.Str.{encode_utf8_all}
 use Rattle.schema_values.specs.declared.json_value.Json.{Json}
 use Rattle.openapi_values.specs.Admits.{operation_at as listed_at, Admits}
-use Rattle.openapi_values.specs.declared.request.WireRequest.{WireRequest}
-use Rattle.openapi_values.specs.MediaTypes.{HasJsonType}
+use Rattle.request_words.specs.declared.request.WireRequest.{WireRequest}
+use Rattle.request_words.specs.MediaTypes.{HasJsonType}
 use Rattle.openapi_values.specs.Operation.{operation_json}
 use Rattle.semver.specs.Identifiers.{parts_of}
 use Rattle.semver.specs.Parse.{Parts}

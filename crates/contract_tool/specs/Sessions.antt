@@ -7,7 +7,7 @@ use Rattle.line_session.specs.declared.serving.SessionEnd.{SessionEnd}
 use Rattle.line_session.specs.declared.serving.SessionEnd.TheVariants as ended
 use Rattle.semver.specs.Parse.{Parts}
 use Rattle.schema_values.specs.Sound.{IsSound}
-use Rattle.openapi_values.specs.declared.request.WireRequest.{WireRequest}
+use Rattle.request_words.specs.declared.request.WireRequest.{WireRequest}
 use Rattle.api_description.specs.declared.endpoint.ApiEndpoint.{ApiEndpoint}
 use Rattle.api_description.specs.Agreement.{IsAdmitted, IsAgreed, IsHandled, IsListed, SendsJson}
 use Rattle.api_description.specs.Documents.{document_of, document_text}

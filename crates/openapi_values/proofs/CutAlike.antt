@@ -6,11 +6,12 @@ use Rattle.std.proofs.lemmas.Bool.{leb-true, ltb-true, le-leb, lt-ltb}
 use Rattle.std.proofs.lemmas.Bool.Decides.{Decides-int_eq, same_from_decides}
 use Rattle.schema_values.specs.declared.json_value.Json.{Json, Int}
 use Rattle.schema_values.specs.Sound.{IsSound, IsWhole}
-use Rattle.openapi_values.specs.CutNumbers.{cut, cut_number_of}
+use Rattle.request_words.specs.CutNumbers.{cut, cut_number_of}
 use Rattle.openapi_values.specs.JsonAdmits.{JsonAdmits}
 use Rattle.openapi_values.specs.Options.{is_some_and}
 use Rattle.openapi_values.specs.Room.{room}
-use Rattle.openapi_values.specs.TextAdmits.{digits_number, has_minus, without_sign, signed, number_of, json_admitted}
+use Rattle.request_words.specs.Numbers.{digits_number, has_minus, without_sign, signed, number_of}
+use Rattle.openapi_values.specs.TextAdmits.{json_admitted}
 use Rattle.openapi_values.proofs.FarNumbers.{StandAlike, admitted_alike}
 
 neither : (x y : Bool) → (x ≡ true → ⊥) → (y ≡ true → ⊥) → x ≡ y

@@ -8,7 +8,7 @@ use Rattle.schema_values.specs.declared.json_value.Member.{Member}
 use Rattle.schema_values.specs.Member.{name_of}
 use Rattle.schema_values.specs.Sound.{AreDistinct}
 use Rattle.schema_values.specs.SoundMembers.{HasSoundValue}
-use Rattle.openapi_values.specs.Keywords.{after}
+use Rattle.request_words.specs.Prefixes.{after}
 use Rattle.openapi_values.specs.Objects.{Entry, members_of}
 use Rattle.openapi_values.specs.SchemaJson.{extension_entries, extension_entry, is_extension}
 use Rattle.openapi_values.proofs.Keyed.{IsKeyed, is_new, passed, put}

@@ -1,6 +1,4 @@
-pub mod After
 pub mod CutAlike
-pub mod DigitLemmas
 pub mod FarNumbers
 pub mod Measure
 pub mod ObjectLemmas
@@ -10,12 +8,15 @@ pub mod RoomLemmas
 pub mod SameText
 pub mod SchemaLevels
 pub mod Stands
+pub mod ParameterRead
+pub mod ListedOperations
+pub mod JsonBodies
 pub mod Steps
 pub mod SoundLevels
 pub mod StepsLeft
+pub mod ResolvedSteps
 pub mod TextSteps
 pub mod TextWithin
-pub mod Words
 pub mod SchemasOfDocument
 pub mod Keyed
 mod SoundObjects

@@ -1,5 +1,5 @@
 -- What is found in a written document.
-use Rattle.std.proofs.Common.{◌≡◌, ◌↔◌, ℕ, Bool, true, false, ◌&&◌, not, cond, List, [], ◌∷◌, map, Option, Some, None, IfSome, is_some, IsTrue, option_map, option_and_then, unwrap_or, bytes_eq, codes, refl, sym, ◌∙◌, ap, subst, inl, inr}
+use Rattle.std.proofs.Common.{◌≡◌, ℕ, Bool, true, false, ◌&&◌, not, cond, List, [], ◌∷◌, map, Option, Some, None, option_map, option_and_then, unwrap_or, bytes_eq, codes, refl, sym, ◌∙◌, ap}
 use Rattle.std.specs.List.{list_all}
 use Rattle.std.proofs.lemmas.Bool.{and_parts}
 use Rattle.std.proofs.lemmas.Slice.Eq.{bytes_eq-Decides}
@@ -7,24 +7,20 @@ use Rattle.schema_values.specs.declared.json_value.Json.{Json, Object, out-Json}
 use Rattle.schema_values.specs.declared.json_value.Json.TheVariants.{outs-List, outs-Object}
 use Rattle.schema_values.specs.declared.json_value.Member.{Member}
 use Rattle.schema_values.specs.Get.{get_of, first_named}
-use Rattle.schema_values.specs.Reading.{Reads}
 use Rattle.openapi_values.specs.declared.document.OpenApi.{OpenApi}
 use Rattle.openapi_values.specs.declared.media.MediaType.{MediaType}
 use Rattle.openapi_values.specs.declared.media.RequestBody.{RequestBody}
 use Rattle.openapi_values.specs.declared.operation.Operation.{Operation}
 use Rattle.openapi_values.specs.declared.operation.PathItem.{PathItem}
-use Rattle.openapi_values.specs.declared.request.WireRequest.{WireRequest}
-use Rattle.openapi_values.specs.Admits.{method_member, path_item_at, operation_at, parameters_of, media_in, IsJsonOf, BodyHolds, Admits}
+use Rattle.openapi_values.specs.Admits.{method_member, path_item_at, operation_at, parameters_of}
+use Rattle.openapi_values.specs.RequestBodies.{media_in}
 use Rattle.openapi_values.specs.Document.{components_entries, components_json, open_api_entries, open_api_json}
 use Rattle.openapi_values.specs.Find.{value_at, method_of, operation_in, definition_in}
-use Rattle.openapi_values.specs.JsonAdmits.{JsonAdmits}
 use Rattle.openapi_values.specs.Levels.{as_list}
 use Rattle.openapi_values.specs.Lookup.{member_in, definition}
-use Rattle.openapi_values.specs.MediaTypes.{HasJsonType}
 use Rattle.openapi_values.specs.Objects.{Entry, present, members_of, object_of, list_unless_empty, map_members, unless_empty}
 use Rattle.openapi_values.specs.Operation.{media_type_entries, media_type_json, request_body_entries, request_body_json, pagination_json, operation_entries, operation_json, path_item_entries, path_item_json}
 use Rattle.openapi_values.specs.Parameters.{parameter_json}
-use Rattle.openapi_values.specs.RequestParameters.{parameter_holds}
 
 pub get-object : (name : List ℕ) (ms : List Member) → get_of name (Object ms) ≡ first_named name ms
 get-object name ms = rw (outs-Object ms) refl
@@ -138,7 +134,7 @@ pub operation-stands : (document : OpenApi) (path method : List ℕ) → operati
 operation-stands document path method =
     ap (λ o. option_and_then (member_in o) (method_member method)) (paths_stand document path) ∙ under_item (value_at path document.paths) method
 
-body-stands : (operation : Operation) → get_of (codes "requestBody") (operation_json operation) ≡ option_map request_body_json operation.request_body
+pub body-stands : (operation : Operation) → get_of (codes "requestBody") (operation_json operation) ≡ option_map request_body_json operation.request_body
 unfolding operation_json
 body-stands operation = get-object_of (operation_entries operation) (codes "requestBody") refl
 
@@ -146,77 +142,21 @@ parameters_listed : (js : List Json) → unwrap_or (option_and_then (λ paramete
 parameters_listed [] = refl
 parameters_listed (j ∷ js) = rw (outs-List (j ∷ js)) refl
 
-parameters-stand : (operation : Operation) → parameters_of (operation_json operation) ≡ map parameter_json operation.parameters
+pub parameters-stand : (operation : Operation) → parameters_of (operation_json operation) ≡ map parameter_json operation.parameters
 unfolding operation_json
 parameters-stand operation = rw (get-object_of (operation_entries operation) (codes "parameters") refl) (parameters_listed (map parameter_json operation.parameters))
 
-pages-stand : (operation : Operation) → get_of (codes "x-dropshot-pagination") (operation_json operation) ≡ option_map pagination_json operation.pagination
+pub pages-stand : (operation : Operation) → get_of (codes "x-dropshot-pagination") (operation_json operation) ≡ option_map pagination_json operation.pagination
 unfolding operation_json
 pages-stand operation = get-object_of (operation_entries operation) (codes "x-dropshot-pagination") refl
 
-none_mapped : {X Y : Type 0} (f : X → Y) (o : Option X) → option_map f o ≡ None → o ≡ None
-none_mapped f None h = refl
-none_mapped f (Some x) h = absurd (cc h)
-
-schema_of : (o : Option MediaType) → member_in (option_map media_type_json o) (codes "schema") ≡ option_map (λ media. media.schema) o
+pub schema_of : (o : Option MediaType) → member_in (option_map media_type_json o) (codes "schema") ≡ option_map (λ media. media.schema) o
 schema_of None = refl
 schema_of (Some media) = get-object_of (media_type_entries media) (codes "schema") refl
 
-media-stands : (media : List ℕ) (body : RequestBody) → media_in media (request_body_json body) ≡ option_map media_type_json (value_at media body.content)
+pub media-stands : (media : List ℕ) (body : RequestBody) → media_in media (request_body_json body) ≡ option_map media_type_json (value_at media body.content)
 unfolding request_body_json
 media-stands media body =
     ap (λ o. member_in o media) (get-object_of (request_body_entries body) (codes "content") refl)
     ∙ under_unless_empty media (map_members media_type_json body.content)
     ∙ first_named-map_members media_type_json media body.content
-
--- a written document admits the bodies that the schema of the operation's body admits
-module _ (document : OpenApi) (path method : List ℕ) (operation : Operation) (body : RequestBody) (media : MediaType) (request : WireRequest)
-    (listed : operation_in document path method ≡ Some operation) (has_body : operation.request_body ≡ Some body) (under_json : value_at (codes "application/json") body.content ≡ Some media)
-    (no_bytes : value_at (codes "application/octet-stream") body.content ≡ None) where
-  abbrev doc : Json
-  doc = open_api_json document
-
-  abbrev HoldEach : List Json → Type 0
-  HoldEach parameters = IsTrue (list_all (parameter_holds doc request) parameters)
-
-  abbrev IsAdmitted : Type 0
-  IsAdmitted = (operation.pagination ≡ None) × HoldEach (map parameter_json operation.parameters) × HasJsonType request.headers × (json : Json) × Reads request.body json × JsonAdmits doc media.schema json
-
-  operation_is : operation_at doc path method ≡ Some (operation_json operation)
-  operation_is = operation-stands document path method ∙ ap (option_map operation_json) listed
-
-  body_is : get_of (codes "requestBody") (operation_json operation) ≡ Some (request_body_json body)
-  body_is = body-stands operation ∙ ap (option_map request_body_json) has_body
-
-  schema_is : member_in (media_in (codes "application/json") (request_body_json body)) (codes "schema") ≡ Some media.schema
-  schema_is = ap (λ o. member_in o (codes "schema")) (media-stands (codes "application/json") body) ∙ schema_of (value_at (codes "application/json") body.content) ∙ ap (option_map (λ m. m.schema)) under_json
-
-  bytes_are_none : media_in (codes "application/octet-stream") (request_body_json body) ≡ None
-  bytes_are_none = media-stands (codes "application/octet-stream") body ∙ ap (option_map media_type_json) no_bytes
-
-  body_admitted : BodyHolds doc request (request_body_json body) → IsJsonOf doc request media.schema
-  body_admitted (inl bytes) = let none : false ≡ true = ap is_some (sym bytes_are_none) ∙ bytes in absurd (cc none)
-  body_admitted (inr b) = let same : b.schema ≡ media.schema = cc (b.under_json, schema_is) in subst (IsJsonOf doc request) same b.is_json
-
-  pub bodies-admitted : Admits doc path method request ↔ IsAdmitted
-  bodies-admitted = (
-    λ a.
-        let same : a.operation ≡ operation_json operation = cc (a.stands, operation_is) in
-        let b = body_admitted (subst (λ (o : Option Json). IfSome o (BodyHolds doc request)) (ap (get_of (codes "requestBody")) same ∙ body_is) a.holds.body) in (
-          none_mapped pagination_json operation.pagination (sym (pages-stand operation) ∙ ap (get_of (codes "x-dropshot-pagination")) (sym same) ∙ a.holds.not_paged),
-          subst HoldEach (ap parameters_of same ∙ parameters-stand operation) a.holds.parameters,
-          b.has_type,
-          b.json,
-          b.reads,
-          b.admitted,
-        ),
-    λ h. record {
-      operation = operation_json operation;
-      stands = operation_is;
-      holds = record {
-        not_paged = pages-stand operation ∙ ap (option_map pagination_json) h.0;
-        parameters = subst HoldEach (sym (parameters-stand operation)) h.1;
-        body = subst (λ (o : Option Json). IfSome o (BodyHolds doc request)) (sym body_is) (inr (record { schema = media.schema; under_json = schema_is; is_json = record { has_type = h.2; json = h.3; reads = h.4; admitted = h.5 } }));
-      };
-    },
-  )

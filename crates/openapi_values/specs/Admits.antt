@@ -1,15 +1,16 @@
 -- Which requests a document admits, read from its JSON (OpenAPI 3.0.3, from Paths Object to Request Body Object).
-use Rattle.std.specs.Prelude.{◌≡◌, ◌⊎◌, ℕ, List, [], ◌∷◌, Option, Some, None, IfSome, IsSome, IsTrue, option_map, option_and_then, unwrap_or, find, bytes_eq, codes}
-use Rattle.std.specs.List.{list_all}
+use Rattle.std.specs.Prelude.{◌≡◌, ℕ, Bool, List, [], ◌∷◌, Option, Some, IfSome, IsTrue, is_some, option_map, option_and_then, unwrap_or, find, bytes_eq, codes}
+use Rattle.std.specs.List.{list_all, list_any}
 use Rattle.schema_values.specs.declared.json_value.Json.{Json, out-Json}
 use Rattle.schema_values.specs.Get.{get_of}
-use Rattle.schema_values.specs.Reading.{Reads}
-use Rattle.openapi_values.specs.declared.request.WireRequest.{WireRequest}
-use Rattle.openapi_values.specs.JsonAdmits.{JsonAdmits}
+use Rattle.request_words.specs.declared.request.WireRequest.{WireRequest}
+use Rattle.request_words.specs.Pairs.{query_pairs}
 use Rattle.openapi_values.specs.Levels.{as_list}
 use Rattle.openapi_values.specs.Lookup.{member_in}
-use Rattle.openapi_values.specs.MediaTypes.{HasJsonType}
-use Rattle.openapi_values.specs.RequestParameters.{parameter_holds}
+use Rattle.openapi_values.specs.Options.{is_none_or}
+use Rattle.openapi_values.specs.Pages.{query_rule, pages_hold, required_stand}
+use Rattle.openapi_values.specs.RequestBodies.{BodyHolds}
+use Rattle.openapi_values.specs.RequestParameters.{parameter_holds, is_query_named}
 
 -- each method, and the name under which a path has its operation
 abbrev pub methods : List (List ℕ × List ℕ)
@@ -40,36 +41,28 @@ operation_at doc path method = option_and_then (member_in (path_item_at doc path
 abbrev pub parameters_of : Json → List Json
 parameters_of operation = unwrap_or (option_and_then (λ parameters. as_list (out-Json parameters)) (get_of (codes "parameters") operation)) []
 
--- what stands under a media type in a body
-abbrev pub media_in : List ℕ → Json → Option Json
-media_in media body = member_in (get_of (codes "content") body) media
+-- the extension of an operation that answers in pages
+abbrev pub pagination_of : Json → Option Json
+pagination_of operation = get_of (codes "x-dropshot-pagination") operation
 
--- the request's media type is one of JSON, and its bytes are some JSON that a schema admits
-pub record IsJsonOf (doc : Json) (request : WireRequest) (schema : Json) : Type 0 where
-  pub has_type : HasJsonType request.headers
-  pub json : Json
-  pub reads : Reads request.body json
-  pub admitted : JsonAdmits doc schema json
+-- whether an operation lists a name of the query
+abbrev pub lists_query : Json → List ℕ → Bool
+lists_query operation name = list_any (is_query_named name) (parameters_of operation)
 
--- a body under `application/json` has a schema, and is JSON that it admits
-pub record IsJsonBody (doc : Json) (request : WireRequest) (body : Json) : Type 0 where
-  pub schema : Json
-  pub under_json : member_in (media_in (codes "application/json") body) (codes "schema") ≡ Some schema
-  pub is_json : IsJsonOf doc request schema
+-- the rule for the parameters of an operation's query
+abbrev pub query_rule_of : WireRequest → Json → (List ℕ → Bool) → Bool → List ℕ → Bool
+query_rule_of request operation = query_rule (is_some (pagination_of operation)) (query_pairs request.query)
 
--- a body under `application/octet-stream` may have any bytes
-abbrev pub IsBytesBody : Json → Type 0
-IsBytesBody body = IsSome (media_in (codes "application/octet-stream") body)
+-- what an operation in pages asks besides its parameters
+abbrev pub operation_pages_hold : WireRequest → Json → Json → Bool
+operation_pages_hold request operation pagination =
+    pages_hold (lists_query operation) (required_stand (query_pairs request.query) (get_of (codes "required") pagination)) (query_pairs request.query)
 
--- a body holds under one of its media types; under any but these it does not
-abbrev pub BodyHolds : Json → WireRequest → Json → Type 0
-BodyHolds doc request body = IsBytesBody body ⊎ IsJsonBody doc request body
-
--- an operation does not answer in pages, of which the queries are not read; each of its parameters holds, and its
--- request body does where it has one
+-- each parameter of an operation holds, its query has what pages ask where it answers in pages, and its request body
+-- holds where it has one
 pub record OperationHolds (doc : Json) (request : WireRequest) (operation : Json) : Type 0 where
-  pub not_paged : get_of (codes "x-dropshot-pagination") operation ≡ None
-  pub parameters : IsTrue (list_all (parameter_holds doc request) (parameters_of operation))
+  pub parameters : IsTrue (list_all (parameter_holds doc request (query_rule_of request operation)) (parameters_of operation))
+  pub pages : IsTrue (is_none_or (pagination_of operation) (operation_pages_hold request operation))
   pub body : IfSome (get_of (codes "requestBody") operation) (BodyHolds doc request)
 
 -- the operation stands in the document, and holds

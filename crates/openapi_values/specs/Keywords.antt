@@ -1,14 +1,9 @@
 -- The members of a schema object, by their names (OpenAPI 3.0.3, Schema Object and Specification Extensions).
-use Rattle.std.specs.Prelude.{ℕ, Bool, ◌||◌, List, [], ◌∷◌, Option, Some, None, if◌then◌else◌, is_some, bytes_eq, nat_eq, codes}
+use Rattle.std.specs.Prelude.{ℕ, Bool, ◌||◌, List, [], ◌∷◌, if◌then◌else◌, is_some, bytes_eq, codes}
 use Rattle.std.specs.List.{list_any}
+use Rattle.request_words.specs.Prefixes.{after}
 use Rattle.openapi_values.specs.declared.keywords.Keyword.{Keyword}
 use Rattle.openapi_values.specs.declared.keywords.Keyword.TheVariants.{Reference, Nullable, Annotation, OfType, Format, Enum, Minimum, Maximum, ExclusiveMinimum, ExclusiveMaximum, MinLength, MaxLength, Items, MinItems, MaxItems, Properties, Required, AdditionalProperties, MinProperties, MaxProperties, AllOf, AnyOf, OneOf, Not, Other}
-
--- what follows a prefix
-abbrev pub after : List ℕ → List ℕ → Option (List ℕ)
-after [] text = Some text
-after (c ∷ prefix) [] = None
-after (c ∷ prefix) (d ∷ text) = if nat_eq c d then after prefix text else None
 
 -- the names of members that are read as of no effect on what is admitted; `xml` and `externalDocs` are not
 abbrev pub annotation_names : List (List ℕ)

@@ -15,10 +15,13 @@ pub mod Objects
 pub mod Operation
 pub mod Document
 pub mod TextAdmits
-pub mod CutNumbers
-pub mod MediaTypes
 pub mod RequestParameters
+pub mod Pages
+pub mod FormAdmits
+pub mod RequestBodies
 pub mod Admits
+pub mod Listed
+pub mod Conforms
 pub mod Find
 pub mod SchemaJson
 pub mod Refusal

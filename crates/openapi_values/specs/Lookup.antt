@@ -3,7 +3,7 @@ use Rattle.std.specs.Prelude.{ℕ, Bool, false, ◌&&◌, List, [], ◌∷◌, O
 use Rattle.schema_values.specs.declared.json_value.Json.{Json, out-Json}
 use Rattle.schema_values.specs.declared.json_value.Member.{Member}
 use Rattle.schema_values.specs.Get.{get_of, first_named}
-use Rattle.openapi_values.specs.Keywords.{after}
+use Rattle.request_words.specs.Prefixes.{after}
 use Rattle.openapi_values.specs.Levels.{as_text, as_list, is_true, is_null}
 use Rattle.openapi_values.specs.Options.{is_some_and}
 

@@ -19,7 +19,7 @@ use Rattle.schema_values.specs.declared.schema.SchemaObject.{SchemaObject, Schem
 use Rattle.schema_values.specs.declared.schema.Subschemas.{Subschemas, Subschemas-F, fold-Subschemas}
 use Rattle.schema_values.specs.Get.{first_named}
 use Rattle.openapi_values.specs.IfTrue.{if_true}
-use Rattle.openapi_values.specs.Keywords.{after}
+use Rattle.request_words.specs.Prefixes.{after}
 use Rattle.openapi_values.specs.Objects.{Entry, list_unless_empty, pair_member, object_of, reference_json, unless_empty}
 
 -- what a schema is written as: a schema under a title, where one is given; beside it the truth value that it is

@@ -1,44 +1,18 @@
 -- What a schema admits of a text: of a variable of a path, or of a value in a query (OpenAPI 3.0.3, Parameter Object
 -- and Schema Object).
-use Rattle.std.specs.Prelude.{ℕ, zero, suc, ◌+◌, ◌*◌, ◌-◌, ℤ, pos, neg_ℤ, Bool, false, ◌&&◌, ◌||◌, not, IsTrue, List, [], ◌∷◌, Option, Some, None, option_map, unwrap_or, is_some, if◌then◌else◌, bytes_eq, codes}
-use Rattle.std.specs.Char.{is_ascii_digit}
+use Rattle.std.specs.Prelude.{ℕ, zero, suc, Bool, false, ◌&&◌, ◌||◌, not, IsTrue, List, [], ◌∷◌, is_some, if◌then◌else◌, bytes_eq, codes}
 use Rattle.std.specs.Option.{option_map_or}
 use Rattle.schema_values.specs.declared.json_value.Json.{Json, Int, Text, out-Json}
 use Rattle.schema_values.specs.declared.json_value.Member.{Member}
 use Rattle.schema_values.specs.Get.{first_named}
-use Rattle.openapi_values.specs.Keywords.{after}
+use Rattle.request_words.specs.Numbers.{has_minus, number_of}
+use Rattle.request_words.specs.Prefixes.{after}
 use Rattle.openapi_values.specs.Levels.{as_text, as_list, as_object}
 use Rattle.openapi_values.specs.Lookup.{definition, reference_in, is_of_type}
 use Rattle.openapi_values.specs.JsonAdmits.{admits_within}
 use Rattle.openapi_values.specs.Options.{is_some_and}
 use Rattle.openapi_values.specs.Room.{room}
 use Rattle.openapi_values.specs.Rows.{one_admits}
-
--- the number that decimal digits write, behind those of another number; nothing but digits writes one
-abbrev pub digits_after : ℕ → List ℕ → Option ℕ
-digits_after n [] = Some n
-digits_after n (c ∷ digits) = if is_ascii_digit c then digits_after (n * 10 + (c - 0x30)) digits else None
-
--- the number of one or more digits
-abbrev pub digits_number : List ℕ → Option ℕ
-digits_number [] = None
-digits_number (c ∷ digits) = digits_after 0 (c ∷ digits)
-
--- whether a text begins with a minus
-abbrev pub has_minus : List ℕ → Bool
-has_minus text = is_some (after (codes "-") text)
-
--- a text without the sign before it
-abbrev pub without_sign : List ℕ → List ℕ
-without_sign text = unwrap_or (after (codes "-") text) (unwrap_or (after (codes "+") text) text)
-
--- a number, less than none where it stands behind a minus
-abbrev pub signed : Bool → ℕ → ℤ
-signed minus n = if minus then neg_ℤ (pos n) else pos n
-
--- the number of an optional sign and digits
-abbrev pub number_of : List ℕ → Option ℤ
-number_of text = option_map (signed (has_minus text)) (digits_number (without_sign text))
 
 -- whether a schema has a format of numbers without a sign
 abbrev pub is_unsigned : List Member → Bool

@@ -5,7 +5,7 @@ ghost use Rattle.schema_values.specs.Get.{first_named, get_of};
 ghost use Rattle.openapi_values.specs.Levels.{has_member};
 ghost use Rattle.openapi_values.specs.Lookup.{definition, reference_in, is_set, is_of_type};
 
-use crate::keywords::{is_word, text_after};
+use request_words::{is_word, text_after};
 use schema_values::{Json, Member, Text};
 
 /// The value of the first member of a name.

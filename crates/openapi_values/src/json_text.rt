@@ -17,9 +17,10 @@ ghost use Rattle.openapi_values.specs.TextAdmitter.{smaller_of};
 ghost use Rattle.std.specs.Prelude.{bytes_eq};
 
 use crate::find::{definition_named, reference_of};
-use crate::keywords::{Keyword, is_word, keyword_named};
+use crate::keywords::{Keyword, keyword_named};
 use crate::room::{Steps, inside, of_items, of_members};
 use crate::rows;
+use request_words::is_word;
 use schema_values::{Json, Member};
 use std::slice;
 

@@ -1,8 +1,7 @@
-ghost use Rattle.std.specs.Prelude.{◌≡◌, IsTrue, bytes_eq, option_map};
-ghost use Rattle.std.specs.Str.{chars};
-ghost use Rattle.schema_values.specs.Ascii.{all_ascii};
-ghost use Rattle.openapi_values.specs.Keywords.{after, is_annotation, bound_or, part_of, keyword_of};
+ghost use Rattle.std.specs.Prelude.{◌≡◌};
+ghost use Rattle.openapi_values.specs.Keywords.{is_annotation, bound_or, part_of, keyword_of};
 
+use request_words::{is_word, text_after};
 use schema_values::Text;
 
 /// The members of a schema object, by their names (OpenAPI 3.0.3, Schema Object).
@@ -58,39 +57,6 @@ pub enum Keyword {
     Not,
     /// Any other name: a schema that has one admits nothing.
     Other,
-}
-
-/// Whether a text is an ASCII word.
-pub fn is_word(text: &Text, word: &str) -> bool
-    requires { IsTrue (all_ascii word.now) }
-    ensures { result ≡ bytes_eq text.now word.now }
-{
-    text.equals_str(word)
-}
-
-/// What follows an ASCII prefix.
-pub fn text_after<'a>(text: &'a Text, prefix: &str) -> Option<&'a str>
-    requires { IsTrue (all_ascii prefix.now) }
-    ensures { option_map (λ rest. chars rest.now) result ≡ after prefix.now text.now }
-{
-    str_after(text.as_str(), prefix)
-}
-
-/// What follows an ASCII prefix of a string.
-pub fn str_after<'a>(text: &'a str, prefix: &str) -> Option<&'a str>
-    requires { IsTrue (all_ascii prefix.now) }
-    ensures { option_map (λ rest. chars rest.now) result ≡ after prefix.now (chars text.now) }
-{
-    text.strip_prefix(prefix)
-}
-
-/// Whether a string is an ASCII word.
-#[tactic(auto, using(crate::proofs::DigitLemmas::word_in_bytes))]
-pub fn is_str_word(text: &str, word: &str) -> bool
-    requires { IsTrue (all_ascii word.now) }
-    ensures { result ≡ bytes_eq word.now (chars text.now) }
-{
-    text == word
 }
 
 #[tactic(auto, unfolding(crate::specs::Keywords::is_annotation))]

@@ -1,24 +1,17 @@
-ghost use Rattle.std.specs.Prelude.{◌≡◌, ◌↔◌, ℕ, suc, false, List, map, Option, Some, None, option_map};
-ghost use Rattle.std.specs.Prelude.{IsTrue, codes};
-ghost use Rattle.std.specs.List.{list_all};
+ghost use Rattle.std.specs.Prelude.{◌≡◌, ◌↔◌, ℕ, suc, false, List, Option, Some, option_map};
 ghost use Rattle.schema_values.specs.declared.json_value.Json.{Json as JsonValue, out-Json};
 ghost use Rattle.schema_values.specs.declared.schema.Schema.{Schema as SchemaValue};
-ghost use Rattle.schema_values.specs.Reading.{Reads};
 ghost use Rattle.schema_values.specs.Sound.{IsSound};
 ghost use Rattle.openapi_values.specs.declared.document.OpenApi.{OpenApi as Document};
-ghost use Rattle.openapi_values.specs.declared.media.MediaType.{MediaType as Media};
-ghost use Rattle.openapi_values.specs.declared.media.RequestBody.{RequestBody as Body};
 ghost use Rattle.openapi_values.specs.declared.operation.Operation.{Operation as Listed};
-ghost use Rattle.openapi_values.specs.declared.request.WireRequest.{WireRequest as Request};
+ghost use Rattle.request_words.specs.declared.request.WireRequest.{WireRequest as Request};
 ghost use Rattle.openapi_values.specs.Admits.{operation_at, Admits};
 ghost use Rattle.openapi_values.specs.Document.{open_api_json};
-ghost use Rattle.openapi_values.specs.Find.{value_at, operation_in, definition_in};
-ghost use Rattle.openapi_values.specs.JsonAdmits.{admits_within, schema_admits, JsonAdmits};
+ghost use Rattle.openapi_values.specs.Find.{operation_in, definition_in};
+ghost use Rattle.openapi_values.specs.JsonAdmits.{admits_within, schema_admits};
+ghost use Rattle.openapi_values.specs.Listed.{ListedHolds};
 ghost use Rattle.openapi_values.specs.Lookup.{definition};
-ghost use Rattle.openapi_values.specs.MediaTypes.{HasJsonType};
 ghost use Rattle.openapi_values.specs.Operation.{operation_json};
-ghost use Rattle.openapi_values.specs.Parameters.{parameter_json};
-ghost use Rattle.openapi_values.specs.RequestParameters.{parameter_holds};
 ghost use Rattle.openapi_values.specs.SchemaJson.{schema_json};
 ghost use Rattle.openapi_values.specs.Smaller.{smaller_admits};
 ghost use Rattle.openapi_values.specs.SoundContents.{HasSoundContents};
@@ -47,20 +40,14 @@ pub fn definitions_stand()
         → definition (open_api_json document) name ≡ definition_in document name }
 {}
 
-/// Where an operation of a written document takes a body under `application/json`, and none of bytes, it
-/// admits the requests with the media type of JSON whose body the schema there admits, and of which each
-/// parameter of the operation holds; it does not answer in pages.
-pub fn bodies_admitted()
-    ensures { (document : Document) (path method : List ℕ) (listed : Listed) (body : Body) (media : Media)
-        (request : Request) → operation_in document path method ≡ Some listed
-        → listed.request_body ≡ Some body → value_at (codes "application/json") body.content ≡ Some media
-        → value_at (codes "application/octet-stream") body.content ≡ None
+/// A written document admits a request to one of its operations exactly where the operation holds of it: each
+/// of its parameters does, its query has what pages ask where it answers in pages, and its body does where it
+/// has one.
+pub fn operations_admitted()
+    ensures { (document : Document) (path method : List ℕ) (listed : Listed) (request : Request)
+        → operation_in document path method ≡ Some listed
         → Admits (open_api_json document) path method request
-        ↔ ((listed.pagination ≡ None)
-        × IsTrue (list_all (parameter_holds (open_api_json document) request)
-        (map parameter_json listed.parameters))
-        × HasJsonType request.headers × (json : JsonValue) × Reads request.body json
-        × JsonAdmits (open_api_json document) media.schema json) }
+        ↔ ListedHolds (open_api_json document) request listed }
 {}
 
 /// A document of sound parts is written as sound JSON.

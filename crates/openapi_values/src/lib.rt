@@ -10,13 +10,12 @@ mod json_text;
 mod keywords;
 mod laws;
 mod media;
-mod numbers;
 mod objects;
 mod operation;
 mod parameter;
 mod part;
 mod refusal;
-mod request;
+mod resolved;
 mod room;
 mod rows;
 mod schema_parts;
@@ -26,17 +25,19 @@ mod written;
 
 pub use admits::json_admits;
 pub use document::{Components, OpenApi};
+pub use find::{find_word, get_word, has_type_named};
 pub use info::{Contact, Info, License};
 pub use j2oas::{J2oasError, j2oas_schema};
 pub use keywords::Keyword;
 pub use laws::{
-    admits_by_steps, bodies_admitted, contents_sound, definitions_stand, documents_sound,
+    admits_by_steps, contents_sound, definitions_stand, documents_sound, operations_admitted,
     operations_stand,
 };
 pub use media::{MediaType, RequestBody, ResponseObject};
 pub use operation::{Operation, PathItem};
 pub use parameter::{HeaderObject, Parameter};
 pub use part::Part;
-pub use request::{HeaderLine, WireRequest};
+pub use request_words::{HeaderLine, WireRequest};
+pub use resolved::resolved_schema;
 pub use tags::{ExternalDocs, TagObject};
 pub use texts::text_admits;

@@ -13,7 +13,8 @@ ghost use Rattle.openapi_values.specs.Rows.{is_enough, is_not_too_many, is_prope
 ghost use Rattle.openapi_values.specs.Rows.{in_subset, is_listed};
 
 use crate::find::{find_word, has_type_named, stands};
-use crate::keywords::{Keyword, is_word, keyword_named};
+use crate::keywords::{Keyword, keyword_named};
+use request_words::is_word;
 use schema_values::{Json, Member, Text};
 
 pub fn is_null_value(value: &Json) -> bool

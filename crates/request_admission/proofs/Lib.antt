@@ -1,8 +1,6 @@
-pub mod AfterPrefix
-pub mod BlankLemmas
+pub mod BodiesTold
 pub mod Found
 pub mod MethodLemmas
 pub mod OperationTold
-pub mod PlacedLemmas
 pub mod SoundOperations
 pub mod WordLemmas

@@ -1,19 +1,22 @@
 //! Whether a document admits a request.
 
-ghost use Rattle.std.specs.Prelude.{◌≡◌, ◌↔◌, IfOk, IsTrue, option_map, codes};
+ghost use Rattle.std.specs.Prelude.{◌≡◌, ◌↔◌, ◌&&◌, IfOk, IsTrue, option_map};
+ghost use Rattle.std.specs.List.{list_all};
 ghost use Rattle.std.specs.Str.{chars};
-ghost use Rattle.schema_values.specs.Ascii.{all_ascii};
 ghost use Rattle.schema_values.specs.Sound.{IsSound};
-ghost use Rattle.openapi_values.specs.Admits.{method_member, operation_at, media_in};
-ghost use Rattle.openapi_values.specs.Admits.{IsJsonOf, BodyHolds, OperationHolds, Admits};
-ghost use Rattle.openapi_values.specs.Lookup.{member_in};
+ghost use Rattle.request_words.specs.Pairs.{query_pairs};
+ghost use Rattle.openapi_values.specs.Admits.{method_member, operation_at, parameters_of, pagination_of};
+ghost use Rattle.openapi_values.specs.Admits.{query_rule_of, operation_pages_hold, OperationHolds, Admits};
+ghost use Rattle.openapi_values.specs.Options.{is_none_or};
+ghost use Rattle.openapi_values.specs.RequestParameters.{parameter_holds};
 
-use crate::content_type::has_json_type;
-use crate::members::get_word;
-use crate::parameters::parameters_hold;
-use crate::query::query_pairs;
-use openapi_values::{WireRequest, json_admits};
-use schema_values::{Json, ReadError};
+use crate::bodies::body_holds;
+use crate::pages::pages_hold;
+use crate::parameters::all_hold;
+use crate::query::Query;
+use openapi_values::{WireRequest, get_word};
+use request_words::{SortedPairs, query_pairs};
+use schema_values::Json;
 use std::alloc::{AllocError, Global};
 
 /// Whether a document admits a request for the operation of a path's template and a method. The document is
@@ -21,7 +24,8 @@ use std::alloc::{AllocError, Global};
 /// bodies and schemas are those of OpenAPI 3.0.3; the media type is read as RFC 9110, section 8.3, has it.
 /// Fails only for want of memory.
 ///
-/// It decodes the query once, looks through its pairs for each parameter of the query, and reads the body.
+/// It decodes the query once, puts its pairs in the order of their names, in which each parameter is looked up
+/// by halves, and reads the body; so it does with the pairs of a form. A header is looked for among all lines.
 /// Beside that it takes as much time as `json_admits` and `text_admits` of its schemas, where a reference is
 /// looked for among all names of `components.schemas`.
 pub fn check_admits(
@@ -76,11 +80,9 @@ fn operation_holds(
     requires operation { IsSound operation.now }
     ensures { IfOk result (λ holds. IsTrue holds ↔ OperationHolds doc.now request.now operation.now) }
 {
-    if get_word(operation, "x-dropshot-pagination").is_some() {
-        return Ok(false);
-    }
     let pairs = query_pairs(alloc, &request.query)?;
-    if !parameters_hold(doc, request, pairs.as_slice(), operation) {
+    let pairs = SortedPairs::new(alloc, pairs.as_slice())?;
+    if !parameters_hold(doc, request, &pairs, operation) {
         return Ok(false);
     }
     match get_word(operation, "requestBody") {
@@ -89,53 +91,32 @@ fn operation_holds(
     }
 }
 
-fn body_holds(
-    alloc: Global,
-    doc: &Json,
-    request: &WireRequest,
-    body: &Json,
-) -> Result<bool, AllocError>
-    ensures { IfOk result (λ holds. IsTrue holds ↔ BodyHolds doc.now request.now body.now) }
+// Whether the parameters of an operation hold, and what its pages ask where it answers in pages.
+fn parameters_hold(doc: &Json, request: &WireRequest, pairs: &SortedPairs, operation: &Json) -> bool
+    requires doc { IsSound doc.now }
+    requires operation { IsSound operation.now }
+    requires pairs { pairs.now.pairs.now ≡ query_pairs request.now.query }
+    ensures { result ≡ (list_all (parameter_holds doc.now request.now
+        (query_rule_of request.now operation.now)) (parameters_of operation.now)
+        && is_none_or (pagination_of operation.now) (operation_pages_hold request.now operation.now)) }
 {
-    if media_in(body, "application/octet-stream").is_some() {
-        return Ok(true);
+    let pagination = get_word(operation, "x-dropshot-pagination");
+    let query = Query::new(pairs, pagination.is_some());
+    let parameters = parameters_of(operation);
+    if !all_hold(doc, request, &query, parameters) {
+        return false;
     }
-    match json_schema(body) {
-        Some(schema) => json_body_holds(alloc, doc, request, schema),
-        None => Ok(false),
+    match pagination {
+        Some(pagination) => pages_hold(&query, parameters, get_word(pagination, "required")),
+        None => true,
     }
 }
 
-// What stands under a media type.
-fn media_in<'a>(body: &'a Json, media: &str) -> Option<&'a Json>
-    requires { IsTrue (all_ascii media.now) }
-    ensures { option_map (λ json. json.now) result ≡ media_in media.now body.now }
+fn parameters_of(operation: &Json) -> &[Json]
+    ensures { result.now ≡ parameters_of operation.now }
 {
-    get_word(get_word(body, "content")?, media)
-}
-
-// The schema under `application/json`.
-fn json_schema(body: &Json) -> Option<&Json>
-    ensures { option_map (λ json. json.now) result
-        ≡ member_in (media_in (codes "application/json") body.now) (codes "schema") }
-{
-    get_word(media_in(body, "application/json")?, "schema")
-}
-
-fn json_body_holds(
-    alloc: Global,
-    doc: &Json,
-    request: &WireRequest,
-    schema: &Json,
-) -> Result<bool, AllocError>
-    ensures { IfOk result (λ holds. IsTrue holds ↔ IsJsonOf doc.now request.now schema.now) }
-{
-    if !has_json_type(alloc, request.headers.as_slice())? {
-        return Ok(false);
-    }
-    match Json::read(alloc, request.body.as_slice()) {
-        Ok(json) => Ok(json_admits(doc, schema, &json)),
-        Err(ReadError::Unreadable) => Ok(false),
-        Err(ReadError::OutOfMemory) => Err(AllocError),
+    match get_word(operation, "parameters") {
+        Some(Json::List(parameters)) => parameters.as_slice(),
+        _ => &[],
     }
 }

@@ -1,10 +1,13 @@
-//! Whether an OpenAPI document admits a request: its parameters, its media type and its body.
+//! Whether an OpenAPI document admits a request: its parameters, its pages and its body.
 #![tactic(auto)]
 
+mod bodies;
 mod check;
-mod content_type;
+mod forms;
 mod members;
+mod pages;
 mod parameters;
 mod query;
+mod schema_in;
 
 pub use check::check_admits;

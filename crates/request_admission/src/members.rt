@@ -2,18 +2,10 @@
 
 ghost use Rattle.std.specs.Prelude.{◌≡◌, IsTrue, option_map};
 ghost use Rattle.schema_values.specs.Ascii.{all_ascii};
-ghost use Rattle.schema_values.specs.Get.{get_of};
 ghost use Rattle.openapi_values.specs.RequestParameters.{text_of, is_true_at};
 
+use openapi_values::get_word;
 use schema_values::{Json, Text};
-
-/// The value of a name that is an ASCII word.
-pub(crate) fn get_word<'a>(json: &'a Json, name: &str) -> Option<&'a Json>
-    requires { IsTrue (all_ascii name.now) }
-    ensures { option_map (λ json. json.now) result ≡ get_of name.now json.now }
-{
-    json.get(name)
-}
 
 /// The text that a member is.
 pub(crate) fn text_of<'a>(json: &'a Json, name: &str) -> Option<&'a Text>

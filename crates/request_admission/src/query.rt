@@ -1,46 +1,81 @@
-//! The pairs of a query.
+//! The query of a request, as an operation reads it.
 
-ghost use Rattle.std.specs.Prelude.{◌≡◌, ◌∷◌, [], IfOk};
-ghost use Rattle.std.specs.Option.{option_map_or};
-ghost use Rattle.openapi_values.specs.RequestParameters.{query_pairs, decoded, values_of};
+ghost use Rattle.std.specs.Prelude.{◌≡◌, false, map};
+ghost use Rattle.schema_values.specs.Sound.{IsSound};
+ghost use Rattle.openapi_values.specs.Pages.{has_token, page_query_holds, query_rule};
+ghost use Rattle.openapi_values.specs.RequestParameters.{stands_or_not, values_hold};
+ghost use Rattle.openapi_values.specs.TextAdmits.{text_admitted};
 
-use form_urlencoded::{decode, raw_pairs};
-use schema_values::{List, Text};
-use std::alloc::{AllocError, Global};
+use crate::schema_in::SchemaIn;
+use request_words::{NamedText, SortedPairs, has_pair, is_word};
+use schema_values::Text;
 
-/// The pairs of a query, in order. Fails only for want of memory.
-pub(crate) fn query_pairs(alloc: Global, query: &Text) -> Result<List<(Text, Text)>, AllocError>
-    ensures { IfOk result (λ pairs. pairs ≡ query_pairs query.now) }
-{
-    let mut pairs = List::new(alloc);
-    for (name, value) in raw_pairs(query.as_bytes()) {
-        let name = decoded(alloc, name)?;
-        let value = decoded(alloc, value)?;
-        pairs.push((name, value))?;
-    }
-    Ok(pairs)
+/// The pairs of a query, and whether the operation answers in pages.
+#[derive(Drop)]
+pub(crate) struct Query<'a> {
+    pub(crate) pairs: &'a SortedPairs<'a>,
+    pub(crate) in_pages: bool,
+    pub(crate) later_page: bool,
+    ghost told: { later_page ≡ has_token pairs.now.pairs.now },
 }
 
-fn decoded(alloc: Global, bytes: &[u8]) -> Result<Text, AllocError>
-    ensures { IfOk result (λ text. text ≡ decoded bytes.now) }
-{
-    Ok(Text::from_string(decode(alloc, bytes)?.into_owned(alloc)?))
-}
-
-/// The first value of a name, and the pairs behind it.
-pub(crate) fn first_value<'a>(
-    name: &Text,
-    pairs: &'a [(Text, Text)],
-) -> Option<(&'a Text, &'a [(Text, Text)])>
-    ensures { option_map_or (λ found. found.0.now ∷ values_of name.now found.1.now) result []
-        ≡ values_of name.now pairs.now }
-{
-    let mut pairs = pairs;
-    while let Some((pair, later)) = pairs.split_first() {
-        if name.equals(&pair.0) {
-            return Some((&pair.1, later));
+impl<'a> Query<'a> {
+    /// The query of an operation.
+    pub(crate) fn new(pairs: &'a SortedPairs<'a>, in_pages: bool) -> Query<'a>
+        ensures pairs { result.pairs.now ≡ pairs.now }
+        ensures in_pages { result.in_pages ≡ in_pages }
+    {
+        Query {
+            pairs,
+            in_pages,
+            later_page: has_pair(pairs.pairs, "page_token"),
         }
-        pairs = later;
     }
-    None
+
+    /// Whether a listed parameter of the query holds.
+    pub(crate) fn holds(&self, schema: &SchemaIn, required: bool, name: &Text) -> bool
+        requires doc { IsSound schema.now.doc.now }
+        requires schema { IsSound schema.now.schema.now }
+        ensures { result ≡ query_rule self.now.in_pages self.now.pairs.now.pairs.now
+            (text_admitted schema.now.doc.now schema.now.schema.now) required name.now }
+    {
+        if self.in_pages {
+            self.holds_in_pages(schema, name)
+        } else {
+            values_hold(schema, required, self.pairs.named(name))
+        }
+    }
+
+    // The same, where the operation answers in pages.
+    fn holds_in_pages(&self, schema: &SchemaIn, name: &Text) -> bool
+        requires doc { IsSound schema.now.doc.now }
+        requires schema { IsSound schema.now.schema.now }
+        ensures { result ≡ page_query_holds self.now.pairs.now.pairs.now
+            (text_admitted schema.now.doc.now schema.now.schema.now) false name.now }
+    {
+        if is_word(name, "limit") {
+            values_hold(schema, false, self.pairs.named(name))
+        } else if self.later_page && !is_word(name, "page_token") {
+            true
+        } else {
+            match self.pairs.last_value(name) {
+                Some(value) => schema.admits(value.as_str()),
+                None => true,
+            }
+        }
+    }
+}
+
+// At most one pair, whose value is admitted, and one where it is required.
+pub(crate) fn values_hold(schema: &SchemaIn, required: bool, pairs: &[&NamedText]) -> bool
+    requires doc { IsSound schema.now.doc.now }
+    requires schema { IsSound schema.now.schema.now }
+    ensures { result ≡ values_hold (text_admitted schema.now.doc.now schema.now.schema.now) required
+        (map (λ pair. pair.now.value) pairs.now) }
+{
+    match pairs {
+        [] => !required,
+        [pair] => schema.admits(pair.value.as_str()),
+        _ => false,
+    }
 }

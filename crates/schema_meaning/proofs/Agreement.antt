@@ -15,7 +15,8 @@ use Rattle.schema_values.specs.declared.schema.Schema.{Schema, out-Schema}
 use Rattle.schema_values.specs.declared.schema.SchemaObject.{SchemaObject, out-SchemaObject}
 use Rattle.schema_values.specs.declared.schema.Subschemas.{Subschemas}
 use Rattle.openapi_values.specs.JsonAdmits.{members_admit, object_admits as written_object_admits, schema_admits as written_admits, admits_within as written_within}
-use Rattle.openapi_values.specs.Keywords.{is_annotation, bound_or, part_of, after}
+use Rattle.request_words.specs.Prefixes.{after}
+use Rattle.openapi_values.specs.Keywords.{is_annotation, bound_or, part_of}
 use Rattle.openapi_values.specs.Levels.{Level, as_text, as_object}
 use Rattle.openapi_values.specs.Lookup.{definition, name_in}
 use Rattle.openapi_values.specs.Objects.{object_of, reference_json}

@@ -8,13 +8,14 @@ use Rattle.schema_values.specs.declared.json_value.Json.TheVariants as json
 use Rattle.schema_values.specs.declared.json_value.Member.{Member}
 use Rattle.schema_values.specs.Get.{first_named}
 use Rattle.schema_values.specs.Member.{member}
-use Rattle.openapi_values.specs.Keywords.{is_annotation, bound_or, part_of, after}
+use Rattle.request_words.specs.Prefixes.{after}
+use Rattle.openapi_values.specs.Keywords.{is_annotation, bound_or, part_of}
 use Rattle.openapi_values.specs.Levels.{Level, is_null, as_text, as_list, as_object, has_type}
 use Rattle.openapi_values.specs.Lookup.{definition}
 use Rattle.openapi_values.specs.Options.{is_some_and}
 use Rattle.openapi_values.specs.Rows.{in_subset}
 use Rattle.openapi_values.specs.JsonAdmits.{members_admit, object_admits, schema_admits}
-use Rattle.openapi_values.proofs.After.{after_prefix}
+use Rattle.request_words.proofs.After.{after_prefix}
 use Rattle.typed_values.specs.Bounds.{is_long_enough, is_short_enough, is_length_within}
 use Rattle.typed_values.specs.SchemaTable.{Remarks, annotations, of_type, if_count}
 use Rattle.written_schemas.proofs.Notes.{hold, noted_admits}

@@ -3,11 +3,11 @@ ghost use Rattle.schema_values.specs.declared.json_value.Json.{Json as JsonValue
 ghost use Rattle.schema_values.specs.Reading.{Reads};
 ghost use Rattle.schema_values.specs.Sound.{IsSound};
 ghost use Rattle.openapi_values.specs.declared.document.OpenApi.{OpenApi as Document};
-ghost use Rattle.openapi_values.specs.declared.request.WireRequest.{WireRequest as Request};
+ghost use Rattle.request_words.specs.declared.request.WireRequest.{WireRequest as Request};
 ghost use Rattle.openapi_values.specs.Admits.{Admits};
 ghost use Rattle.openapi_values.specs.Document.{open_api_json};
 ghost use Rattle.openapi_values.specs.JsonAdmits.{JsonAdmits};
-ghost use Rattle.openapi_values.specs.MediaTypes.{HasJsonType};
+ghost use Rattle.request_words.specs.MediaTypes.{HasJsonType};
 ghost use Rattle.openapi_values.specs.Refusal.{refusal_of};
 ghost use Rattle.openapi_values.specs.SchemaJson.{schema_json as json_written};
 ghost use Rattle.typed_values.specs.declared.desc.Desc.{Desc as Descriptor};

@@ -1,6 +1,0 @@
-use Rattle.std.proofs.Common.{◌≡◌, drop}
-use Rattle.openapi_values.specs.MediaTypes.{first_line}
-use Rattle.request_admission.proofs.content_type.first_line.Given as goal
-
-abbrev pub invariant-loop-line : goal.invariant-loop-line
-invariant-loop-line l = first_line l.name (drop l.line-index l.lines) ≡ first_line l.name l.fn.lines

@@ -1,7 +1,0 @@
-use Rattle.std.proofs.Common.{◌∙◌, ap}
-use Rattle.schema_values.specs.Get.{get_of}
-use Rattle.openapi_values.proofs.Words.{chars-word}
-use Rattle.request_admission.proofs.members.get_word.Goals as goal
-
-pub returns : goal.returns
-returns c = c.get.ensures ∙ ap (λ name. get_of name c.args.json.now) (chars-word c.args.name.now c.requires)

@@ -1,0 +1,9 @@
+pub mod After
+pub mod AfterPrefix
+pub mod BlankLemmas
+pub mod DigitLemmas
+pub mod LastLine
+pub mod Named
+pub mod OneMediaType
+pub mod ShownTexts
+pub mod WordLemmas
