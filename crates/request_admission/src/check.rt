@@ -24,10 +24,10 @@ use std::alloc::{AllocError, Global};
 /// bodies and schemas are those of OpenAPI 3.0.3; the media type is read as RFC 9110, section 8.3, has it.
 /// Fails only for want of memory.
 ///
-/// It decodes the query once, puts its pairs in the order of their names, in which each parameter is looked up
-/// by halves, and reads the body; so it does with the pairs of a form. A header is looked for among all lines.
-/// Beside that it takes as much time as `json_admits` and `text_admits` of its schemas, where a reference is
-/// looked for among all names of `components.schemas`.
+/// It decodes the query once, puts its pairs in the order of their names, in which each parameter is looked
+/// up by halves, and reads the body; so it does with the pairs of a form. A header is looked for among all
+/// lines. Beside that it takes as much time as `json_admits` and `text_admits` of its schemas, where a reference
+/// is looked for among all names of `components.schemas`.
 pub fn check_admits(
     alloc: Global,
     doc: &Json,
