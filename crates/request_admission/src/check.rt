@@ -26,8 +26,8 @@ use std::alloc::{AllocError, Global};
 ///
 /// It decodes the query once, puts its pairs in the order of their names, in which each parameter is looked
 /// up by halves, and reads the body; so it does with the pairs of a form. A header is looked for among all
-/// lines. Beside that it takes as much time as `json_admits` and `text_admits` of its schemas, where a reference
-/// is looked for among all names of `components.schemas`.
+/// lines. Beside that it takes as much time as `json_admits` and `text_admits` of its schemas, where a
+/// reference is looked for among all names of `components.schemas`.
 pub fn check_admits(
     alloc: Global,
     doc: &Json,
