@@ -1,4 +1,7 @@
 //! Errors, their status codes and the bodies of their responses.
+ghost use Rattle.std.specs.Prelude.{IfOk};
+ghost use Rattle.schema_values.specs.Sound.{IsSound};
+
 use crate::exchanges::outcome;
 use crate::members::text_at;
 use crate::responses::response_told;
@@ -8,7 +11,7 @@ use api_description::http_status::{
 };
 use api_types::{ApiType, TypeError, json_value, table_of, value_json};
 use case_notation::{CaseError, given, maybe_text, put, text_of, tree_noted};
-use schema_values::{Json, List, Text};
+use schema_values::{Json, List, ReadError, Text};
 use std::alloc::{AllocError, Global};
 use typed_values::DecodeError;
 
@@ -67,11 +70,21 @@ pub fn error_body(alloc: Global, case: &Json) -> Result<Json, CaseError> {
         Err(TypeError::OutOfMemory) => return Err(CaseError::OutOfMemory),
         Err(_) => return Err(CaseError::Expected("a type with a table")),
     };
-    let json = Json::read(alloc, text_of(given(case, "text")?)?.as_bytes())?;
+    let json = read(alloc, text_of(given(case, "text")?)?)?;
     match json_value(alloc, &table, &json) {
         Ok(body) => body_told(alloc, &body, &value_json(alloc, &table, &body)?),
         Err(DecodeError::OutOfMemory) => Err(CaseError::OutOfMemory),
         Err(DecodeError::Fault(_)) => Err(CaseError::Expected("the body of an error")),
+    }
+}
+
+fn read(alloc: Global, text: &Text) -> Result<Json, CaseError>
+    ensures { IfOk result IsSound }
+{
+    match Json::read(alloc, text.as_bytes()) {
+        Ok(json) => Ok(json),
+        Err(ReadError::Unreadable) => Err(CaseError::Expected("JSON")),
+        Err(ReadError::OutOfMemory) => Err(CaseError::OutOfMemory),
     }
 }
 

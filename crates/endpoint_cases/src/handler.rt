@@ -3,11 +3,12 @@
 //! errors of `HttpError`; `"context"`, which gives a text of what it is told besides its arguments;
 //! or `{"gives":TREE}`. A reply that does not fit the response is want of memory, which ends the
 //! program.
-ghost use Rattle.std.specs.Prelude.{◌≡◌, ⊤, IfOk, IsTrue, MatchOption};
+ghost use Rattle.std.specs.Prelude.{◌≡◌, ◌∷◌, [], ⊤, IfOk, IsTrue, MatchOption, Some, codes};
 ghost use Rattle.typed_values.specs.Checks.{TablePasses, DescPasses};
 ghost use Rattle.typed_values.specs.Fits.{Fits};
+ghost use Rattle.typed_values.specs.declared.desc.Desc.{Ref};
 ghost use Rattle.api_description.specs.Replies.{ContentFits, ContentPasses, ReplyFits, ShapePasses};
-ghost use Rattle.api_description.specs.Replies.{HasHttpErrors};
+ghost use Rattle.api_description.specs.Responses.{error_definition};
 
 use crate::shapes::{error_table, http_errors, response_of, shape_of, slots_of};
 use api_description::api_extract::{Arg, ArgList};
@@ -40,7 +41,10 @@ pub struct Replies {
     shape: HandlerShape,
     fails: bool,
     gives: Gives,
-    ghost errors: { IsTrue fails → HasHttpErrors shape },
+    ghost errors: { IsTrue fails → shape ≡ record shape {
+      table = error_definition ∷ [];
+      error = Some (record { desc = Ref (codes "Error"); name = codes "Error" });
+    } },
 }
 
 /// The handler that is noted.
@@ -93,7 +97,10 @@ fn gives_named(word: &str) -> Result<Gives, CaseError> {
 }
 
 fn failing_shape(alloc: Global, noted: &Json) -> Result<HandlerShape, CaseError>
-    ensures { IfOk result (λ shape. HasHttpErrors shape) }
+    ensures { IfOk result (λ shape. shape ≡ record shape {
+      table = error_definition ∷ [];
+      error = Some (record { desc = Ref (codes "Error"); name = codes "Error" });
+    }) }
 {
     Ok(HandlerShape {
         table: error_table(alloc)?,
@@ -145,7 +152,10 @@ impl RouteHandler for Replies {
 }
 
 fn failure(alloc: Global, shape: &HandlerShape) -> Result<Reply, AllocError>
-    requires { HasHttpErrors shape.now }
+    requires { shape.now ≡ record shape.now {
+      table = error_definition ∷ [];
+      error = Some (record { desc = Ref (codes "Error"); name = codes "Error" });
+    } }
     ensures { IfOk result (λ reply. ReplyFits shape.now reply) }
 {
     let message = Text::from_str(alloc, "for the log alone")?;
