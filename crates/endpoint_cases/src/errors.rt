@@ -10,7 +10,7 @@ use api_description::http_status::{
     ErrorStatusCode, HttpError, HttpErrorResponseBody, RequestId, RequestIdError, Response,
 };
 use api_types::{ApiType, TypeError, json_value, table_of, value_json};
-use case_notation::{CaseError, given, maybe_text, put, text_of, tree_noted};
+use case_notation::{CaseError, given, maybe_text, number_of, put, text_of, tree_noted};
 use schema_values::{Json, List, ReadError, Text};
 use std::alloc::{AllocError, Global};
 use typed_values::DecodeError;
@@ -54,7 +54,9 @@ fn response_of(
 /// What the status of a number is printed as: a code of errors and its number alone, or that it is
 /// none.
 pub fn status_code(alloc: Global, case: &Json) -> Result<Json, CaseError> {
-    let status = status_of(given(case, "number")?)?;
+    let Some(status) = status_of(number_of(given(case, "number")?)?) else {
+        return Err(CaseError::Expected("a status code"));
+    };
     let told = match ErrorStatusCode::from_status(status) {
         Ok(code) => format!(in alloc; "{code}; {code:?}")?,
         Err(error) => format!(in alloc; "{error}")?,

@@ -18,7 +18,7 @@ use api_description::api_respond::{
 use api_description::http_status::{HttpErrorResponseBody, error_definition};
 use api_types::ApiType;
 use case_notation::{
-    CaseError, check_names, define, definition_of, desc_of, given, items_of, number_of, text_of,
+    CaseError, check_names, define, definition_of, desc_of, given, items_of, text_of,
 };
 use http::StatusCode;
 use own_types::Point;
@@ -149,10 +149,10 @@ pub fn response_of(alloc: Global, noted: &Json) -> Result<ApiEndpointResponse, C
 }
 
 fn noted_response(alloc: Global, noted: &Json) -> Result<ApiEndpointResponse, CaseError> {
-    let success = success_of(noted)?;
+    let code = success_code(noted)?;
     Ok(ApiEndpointResponse {
-        success,
         description: text_or(alloc, noted, "description", "successful operation")?,
+        success: success_of(code),
         content: content_of(alloc, noted)?,
     })
 }
@@ -167,22 +167,28 @@ fn content_of(alloc: Global, noted: &Json) -> Result<ContentShape, CaseError> {
     Ok(ContentShape::Json(desc, name))
 }
 
-fn success_of(noted: &Json) -> Result<Option<StatusCode>, CaseError> {
+fn success_code(noted: &Json) -> Result<Option<i128>, CaseError> {
     match noted.get("success") {
-        None => Ok(Some(StatusCode::OK)),
+        None => Ok(Some(200)),
         Some(Json::Null) => Ok(None),
-        Some(number) => Ok(Some(status_of(number)?)),
+        Some(Json::Int(number)) if status_of(*number).is_some() => Ok(Some(*number)),
+        Some(_) => Err(CaseError::Expected("a status code or null")),
+    }
+}
+
+fn success_of(code: Option<i128>) -> Option<StatusCode> {
+    match code {
+        Some(number) => status_of(number),
+        None => None,
     }
 }
 
 /// The status of a number.
-pub fn status_of(noted: &Json) -> Result<StatusCode, CaseError> {
-    if let Ok(number) = u16::try_from(number_of(noted)?) {
-        if let Ok(status) = StatusCode::from_u16(number) {
-            return Ok(status);
-        }
+pub fn status_of(number: i128) -> Option<StatusCode> {
+    match StatusCode::from_u16(u16::try_from(number).ok()?) {
+        Ok(status) => Some(status),
+        Err(_) => None,
     }
-    Err(CaseError::Expected("a status code"))
 }
 
 fn errors_of(alloc: Global, noted: &Json) -> Result<Option<ApiEndpointErrorResponse>, CaseError> {
