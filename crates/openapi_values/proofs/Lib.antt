@@ -1,5 +1,6 @@
 pub mod CutAlike
 pub mod FarNumbers
+pub mod LevelLemmas
 pub mod Measure
 pub mod ObjectLemmas
 pub mod PartMaps
@@ -15,7 +16,6 @@ pub mod Steps
 pub mod SoundLevels
 pub mod StepsLeft
 pub mod ResolvedSteps
-pub mod TextSteps
 pub mod TextWithin
 pub mod SchemasOfDocument
 pub mod Keyed

@@ -6,10 +6,10 @@ pub mod Rows
 pub mod Room
 pub mod ValuesOfMembers
 pub mod Steps
-pub mod Admitter
 pub mod JsonAdmits
 pub mod Smaller
-pub mod TextAdmitter
+pub mod Asked
+pub mod Admitter
 pub mod IfTrue
 pub mod Objects
 pub mod Operation

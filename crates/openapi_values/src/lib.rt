@@ -2,11 +2,11 @@
 #![tactic(auto)]
 
 mod admits;
+mod asked;
 mod document;
 mod find;
 mod info;
 mod j2oas;
-mod json_text;
 mod keywords;
 mod laws;
 mod media;
