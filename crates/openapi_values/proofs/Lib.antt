@@ -11,6 +11,7 @@ pub mod SchemaLevels
 pub mod Stands
 pub mod ParameterRead
 pub mod ListedOperations
+pub mod ListedResponses
 pub mod JsonBodies
 pub mod Steps
 pub mod SoundLevels

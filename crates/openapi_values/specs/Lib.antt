@@ -23,6 +23,7 @@ pub mod Admits
 pub mod Listed
 pub mod Conforms
 pub mod Find
+pub mod ListedConforms
 pub mod SchemaJson
 pub mod Refusal
 pub mod Info
