@@ -12,6 +12,7 @@ pub mod Stands
 pub mod ParameterRead
 pub mod ListedOperations
 pub mod ListedResponses
+pub mod ConformingBodies
 pub mod JsonBodies
 pub mod Steps
 pub mod SoundLevels
@@ -27,3 +28,4 @@ mod KeyedEntries
 mod SoundWithin
 mod SoundBehind
 mod SoundSchemas
+pub mod CallerLemmas
