@@ -21,8 +21,7 @@ use Rattle.openapi_values.specs.Admits.{Admits, operation_at as listed_at}
 use Rattle.request_words.specs.declared.request.WireRequest.{WireRequest}
 use Rattle.openapi_values.specs.Find.{value_at, operation_in}
 use Rattle.openapi_values.specs.Operation.{operation_json}
-use Rattle.openapi_values.proofs.JsonBodies.{json_bodies}
-use Rattle.openapi_values.proofs.Stands.{definition-stands}
+use Rattle.openapi_values.proofs.CallerLemmas.{json_bodies, definition-stands}
 use Rattle.written_schemas.specs.Reached.{DefinesReached}
 use Rattle.written_schemas.specs.Written.{IsWritten}
 use Rattle.written_schemas.proofs.Whole.{titled_agrees}

@@ -8,7 +8,7 @@ use Rattle.std.proofs.lemmas.Slice.Eq.{bytes_eq-Decides}
 use Rattle.openapi_values.specs.declared.operation.Operation.{Operation}
 use Rattle.openapi_values.specs.Admits.{method_member}
 use Rattle.openapi_values.specs.Operation.{operation_json}
-use Rattle.openapi_values.proofs.Stands.{operation-stands}
+use Rattle.openapi_values.proofs.CallerLemmas.{operation-stands}
 use Rattle.openapi_values.specs.Find.{value_at, method_of, operation_in}
 use Rattle.request_words.proofs.WordLemmas.{same_test}
 use Rattle.semver.specs.Parse.{Parts}

@@ -10,7 +10,7 @@ use Rattle.schema_values.specs.Sound.{IsSound, AreDistinct}
 use Rattle.schema_values.proofs.CallerLemmas.{contains_first, contains_later, AreDistinct-sorted}
 use Rattle.openapi_values.specs.declared.operation.PathItem.{PathItem}
 use Rattle.openapi_values.specs.SoundParts.{IsSoundBody, IsSoundItem, IsSoundMap, IsSoundMedia, IsSoundOperation, IsSoundResponse, names_of_map}
-use Rattle.openapi_values.proofs.SoundDocuments.{document_sound}
+use Rattle.openapi_values.proofs.CallerLemmas.{document_sound}
 use Rattle.semver.specs.Parse.{Parts}
 use Rattle.typed_values.specs.declared.table.Definition.{Definition}
 use Rattle.typed_values.specs.Checks.{TablePasses}

@@ -1,5 +1,6 @@
 pub mod CutAlike
 pub mod FarNumbers
+pub mod LevelLemmas
 pub mod Measure
 pub mod ObjectLemmas
 pub mod PartMaps
@@ -10,12 +11,13 @@ pub mod SchemaLevels
 pub mod Stands
 pub mod ParameterRead
 pub mod ListedOperations
+pub mod ListedResponses
+pub mod ConformingBodies
 pub mod JsonBodies
 pub mod Steps
 pub mod SoundLevels
 pub mod StepsLeft
 pub mod ResolvedSteps
-pub mod TextSteps
 pub mod TextWithin
 pub mod SchemasOfDocument
 pub mod Keyed
@@ -26,3 +28,4 @@ mod KeyedEntries
 mod SoundWithin
 mod SoundBehind
 mod SoundSchemas
+pub mod CallerLemmas

@@ -35,7 +35,7 @@ use Rattle.openapi_values.proofs.Stands.{get-object_of, operation-stands, body-s
 text_at : (name : List ℕ) (json : Json) (t : List ℕ) → get_of name json ≡ Some (Text t) → text_of name json ≡ Some t
 text_at name json t e = ap (option_and_then (λ member. as_text (out-Json member))) e ∙ ap as_text (outs-Text t)
 
-flag_read : (b : Bool) (o : Option Json) → o ≡ if_true b → is_some_and o (λ member. is_true (out-Json member)) ≡ b
+pub flag_read : (b : Bool) (o : Option Json) → o ≡ if_true b → is_some_and o (λ member. is_true (out-Json member)) ≡ b
 flag_read true o e = ap (λ (o : Option Json). is_some_and o (λ member. is_true (out-Json member))) e ∙ ap is_true (outs-Bool true)
 flag_read false o e = ap (λ (o : Option Json). is_some_and o (λ member. is_true (out-Json member))) e
 
@@ -76,7 +76,7 @@ any_listed name (p ∷ ps) = ap₂ (λ a b. a || b) (query_named_is p name) (any
 
 -- ---- pages
 
-is_some_mapped : {X Y : Type 0} (f : X → Y) (o : Option X) → is_some (option_map f o) ≡ is_some o
+pub is_some_mapped : {X Y : Type 0} (f : X → Y) (o : Option X) → is_some (option_map f o) ≡ is_some o
 is_some_mapped f None = refl
 is_some_mapped f (Some x) = refl
 
@@ -118,15 +118,15 @@ module _ (doc : Json) (request : WireRequest) (o : Operation) where
 
 -- ---- bodies
 
-mapped_to : {X Y : Type 0} (f : X → Y) (P : Y → Type 0) (o : Option X) → IsSomeAnd (option_map f o) P → IsSomeAnd o (λ x. P (f x))
+pub mapped_to : {X Y : Type 0} (f : X → Y) (P : Y → Type 0) (o : Option X) → IsSomeAnd (option_map f o) P → IsSomeAnd o (λ x. P (f x))
 mapped_to f P None h = h
 mapped_to f P (Some x) h = h
 
-mapped_from : {X Y : Type 0} (f : X → Y) (P : Y → Type 0) (o : Option X) → IsSomeAnd o (λ x. P (f x)) → IsSomeAnd (option_map f o) P
+pub mapped_from : {X Y : Type 0} (f : X → Y) (P : Y → Type 0) (o : Option X) → IsSomeAnd o (λ x. P (f x)) → IsSomeAnd (option_map f o) P
 mapped_from f P None h = h
 mapped_from f P (Some x) h = h
 
-abbrev media_schema : MediaType → Json
+abbrev pub media_schema : MediaType → Json
 media_schema media = media.schema
 
 module _ (doc : Json) (request : WireRequest) (body : RequestBody) where

@@ -1,9 +1,11 @@
 -- Why the reading of a schema ends: the value gets smaller, or fewer steps are left at it.
-use Rattle.std.proofs.Common.{◌≡◌, ℕ, suc, ◌+◌, ◌*◌, ◌<◌, ◌≤◌, List, length, get_or, ◌∙◌, arith}
+use Rattle.std.proofs.Common.{◌≡◌, ℕ, suc, ◌+◌, ◌*◌, ◌<◌, ◌≤◌, List, length, get_or, Option, Some, option_map, Bor, sym, ap, ◌∙◌, arith}
 use denote.Param.Weighed.{most, at_most}
-use Rattle.schema_values.specs.declared.json_value.Json.{Json, List as ListOf, Object, size-Json}
+use Rattle.schema_values.specs.declared.json_value.Json.{Json, List as ListOf, Object, out-Json, size-Json}
 use Rattle.schema_values.specs.declared.json_value.Json.TheViews.{sized-List, sized-Object}
 use Rattle.schema_values.specs.declared.json_value.Member.{Member, size-Member, size_is-Member}
+use Rattle.openapi_values.specs.Levels.{as_list, as_object}
+use Rattle.openapi_values.proofs.LevelLemmas.{list_is, object_is}
 
 abbrev stride : ℕ → ℕ
 stride room = 8 * suc room
@@ -27,6 +29,9 @@ member_measure room m = size-Member m * stride room
 below_stride : (a b k r : ℕ) → a < b → r < k → a * k + r < b * k
 below_stride a b k r p q = grind arith
 
+now_is : {X : Type 0} (o : Option (Bor X)) (x : Bor X) (told : Option X) → option_map (λ y. y.now) o ≡ told → o ≡ Some x → told ≡ Some x.now
+now_is o x told e f = sym e ∙ ap (option_map (λ y. y.now)) f
+
 not_above : (a b k : ℕ) → a ≤ b → a * k ≤ b * k
 not_above a b k p = grind arith
 
@@ -39,13 +44,13 @@ size_object ms = sized-Object ms ∙ omega arith
 size_member : (m : Member) → size-Member m ≡ suc (size-Json m.value)
 size_member m = size_is-Member m ∙ omega arith
 
-pub items-lt : (room n : ℕ) (j : Json) (js : List Json) → j ≡ ListOf js → 0 < n → items_measure room js < at_measure room n j
+pub items-lt : (room n : ℕ) (j : Json) (o : Option (Bor (List Json))) (js : Bor (List Json)) → option_map (λ x. x.now) o ≡ as_list (out-Json j) → o ≡ Some js → 0 < n → items_measure room js.now < at_measure room n j
 unfolding weight items_measure
-items-lt room n j js e h = rw (e, size_list js) (omega arith)
+items-lt room n j o js told is h = rw (list_is j js.now (now_is o js (as_list (out-Json j)) told is), size_list js.now) (omega arith)
 
-pub members-lt : (room n : ℕ) (j : Json) (ms : List Member) → j ≡ Object ms → 1 < n → members_measure room ms + 1 < at_measure room n j
+pub members-lt : (room n : ℕ) (j : Json) (o : Option (Bor (List Member))) (ms : Bor (List Member)) → option_map (λ x. x.now) o ≡ as_object (out-Json j) → o ≡ Some ms → 1 < n → members_measure room ms.now + 1 < at_measure room n j
 unfolding weight members_measure
-members-lt room n j ms e h = rw (e, size_object ms) (omega arith)
+members-lt room n j o ms told is h = rw (object_is j ms.now (now_is o ms (as_object (out-Json j)) told is), size_object ms.now) (omega arith)
 
 -- an item, a member, a member's value
 pub item-lt : (room : ℕ) (js : List Json) (i : ℕ) (j : Json) → i < length js → j ≡ get_or js i j → at_measure room (8 * room) j < items_measure room js

@@ -1,9 +1,8 @@
 -- What a sound value holds, by its level.
 use Rattle.std.proofs.Common.{◌≡◌, ℕ, ℤ, cond, Bool, true, false, List, [], ◌∷◌, Option, Some, None, bytes_eq, codes, refl, sym, ◌∙◌, ap, subst}
 use Rattle.std.specs.List.{AllByRecursion}
-use Rattle.schema_values.specs.declared.json_value.Json.{Json, out-Json, roll-Json, roll-out-Json}
+use Rattle.schema_values.specs.declared.json_value.Json.{Json, out-Json}
 use Rattle.schema_values.specs.declared.json_value.Json.TheOpen.{Json-F}
-use Rattle.schema_values.specs.declared.json_value.Json.TheVariants.{rolls-Int, rolls-List, rolls-Object}
 use Rattle.schema_values.specs.declared.json_value.Member.{Member}
 use Rattle.schema_values.specs.Get.{first_named, get_of}
 use Rattle.schema_values.specs.Sound.{IsSound, IsWhole}
@@ -11,40 +10,17 @@ use Rattle.schema_values.specs.SoundMembers.{HasSoundValue}
 use Rattle.schema_values.proofs.CallerLemmas.{IsSound-List, IsSound-Object}
 use Rattle.openapi_values.specs.Levels.{Level, as_number, as_list, as_object}
 use Rattle.openapi_values.specs.Lookup.{member_in, definition}
-
-whole_at : (s : Json) → IsSound s → (x : Level Json) → out-Json s ≡ x → (k : ℤ) → as_number x ≡ Some k → IsWhole k
-whole_at s h (Json-F.Int n) e k f = let same : n ≡ k = cc f in subst IsWhole same (subst IsSound (sym (roll-out-Json s) ∙ ap roll-Json e ∙ rolls-Int n) h)
-whole_at s h Json-F.Null e k f = absurd (cc f)
-whole_at s h (Json-F.Bool b) e k f = absurd (cc f)
-whole_at s h (Json-F.Text t) e k f = absurd (cc f)
-whole_at s h (Json-F.List xs) e k f = absurd (cc f)
-whole_at s h (Json-F.Object ms) e k f = absurd (cc f)
-
-items_at : (s : Json) → IsSound s → (x : Level Json) → out-Json s ≡ x → (ys : List Json) → as_list x ≡ Some ys → AllByRecursion IsSound ys
-items_at s h (Json-F.List xs) e ys f = let same : xs ≡ ys = cc f in subst (AllByRecursion IsSound) same ((IsSound-List xs).0 (subst IsSound (sym (roll-out-Json s) ∙ ap roll-Json e ∙ rolls-List xs) h))
-items_at s h Json-F.Null e ys f = absurd (cc f)
-items_at s h (Json-F.Bool b) e ys f = absurd (cc f)
-items_at s h (Json-F.Int n) e ys f = absurd (cc f)
-items_at s h (Json-F.Text t) e ys f = absurd (cc f)
-items_at s h (Json-F.Object ms) e ys f = absurd (cc f)
-
-members_at : (s : Json) → IsSound s → (x : Level Json) → out-Json s ≡ x → (ns : List Member) → as_object x ≡ Some ns → AllByRecursion HasSoundValue ns
-members_at s h (Json-F.Object ms) e ns f = let same : ms ≡ ns = cc f in subst (AllByRecursion HasSoundValue) same ((IsSound-Object ms).0 (subst IsSound (sym (roll-out-Json s) ∙ ap roll-Json e ∙ rolls-Object ms) h)).0
-members_at s h Json-F.Null e ns f = absurd (cc f)
-members_at s h (Json-F.Bool b) e ns f = absurd (cc f)
-members_at s h (Json-F.Int n) e ns f = absurd (cc f)
-members_at s h (Json-F.Text t) e ns f = absurd (cc f)
-members_at s h (Json-F.List xs) e ns f = absurd (cc f)
+use Rattle.openapi_values.proofs.LevelLemmas.{number_is, list_is, object_is}
 
 -- the number that a sound value is, its items and its members
 pub number_whole : (s : Json) → IsSound s → (k : ℤ) → as_number (out-Json s) ≡ Some k → IsWhole k
-number_whole s h k f = whole_at s h (out-Json s) refl k f
+number_whole s h k f = subst IsSound (number_is s k f) h
 
 pub listed_sound : (s : Json) → IsSound s → (xs : List Json) → as_list (out-Json s) ≡ Some xs → AllByRecursion IsSound xs
-listed_sound s h xs f = items_at s h (out-Json s) refl xs f
+listed_sound s h xs f = (IsSound-List xs).0 (subst IsSound (list_is s xs f) h)
 
 pub values_sound : (s : Json) → IsSound s → (ms : List Member) → as_object (out-Json s) ≡ Some ms → AllByRecursion HasSoundValue ms
-values_sound s h ms f = members_at s h (out-Json s) refl ms f
+values_sound s h ms f = ((IsSound-Object ms).0 (subst IsSound (object_is s ms f) h)).0
 
 -- the value of a name among sound ones
 pub named_sound : (name : List ℕ) (ms : List Member) (json : Json) → AllByRecursion HasSoundValue ms → first_named name ms ≡ Some json → IsSound json
@@ -58,7 +34,7 @@ named_sound name (m ∷ ms) json h f = go (λ e. named_sound name ms json h.1 e)
 found_at : (name : List ℕ) (json found : Json) → IsSound json → (x : Level Json) → out-Json json ≡ x → get_of name json ≡ Some found → IsSound found
 found_at name json found h (Json-F.Object ms) e f =
     let same : get_of name json ≡ first_named name ms = rw e refl in
-    named_sound name ms found (members_at json h (Json-F.Object ms) e ms refl) (sym same ∙ f)
+    named_sound name ms found (values_sound json h ms (ap as_object e)) (sym same ∙ f)
 found_at name json found h Json-F.Null e f = let none : get_of name json ≡ None = rw e refl in absurd (cc (sym none ∙ f))
 found_at name json found h (Json-F.Bool b) e f = let none : get_of name json ≡ None = rw e refl in absurd (cc (sym none ∙ f))
 found_at name json found h (Json-F.Int n) e f = let none : get_of name json ≡ None = rw e refl in absurd (cc (sym none ∙ f))

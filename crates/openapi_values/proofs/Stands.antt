@@ -10,17 +10,19 @@ use Rattle.schema_values.specs.Get.{get_of, first_named}
 use Rattle.openapi_values.specs.declared.document.OpenApi.{OpenApi}
 use Rattle.openapi_values.specs.declared.media.MediaType.{MediaType}
 use Rattle.openapi_values.specs.declared.media.RequestBody.{RequestBody}
+use Rattle.openapi_values.specs.declared.media.ResponseObject.{ResponseObject}
 use Rattle.openapi_values.specs.declared.operation.Operation.{Operation}
 use Rattle.openapi_values.specs.declared.operation.PathItem.{PathItem}
 use Rattle.openapi_values.specs.Admits.{method_member, path_item_at, operation_at, parameters_of}
 use Rattle.openapi_values.specs.RequestBodies.{media_in}
+use Rattle.openapi_values.specs.Conforms.{response_named}
 use Rattle.openapi_values.specs.Document.{components_entries, components_json, open_api_entries, open_api_json}
-use Rattle.openapi_values.specs.Find.{value_at, method_of, operation_in, definition_in}
+use Rattle.openapi_values.specs.Find.{value_at, method_of, operation_in, definition_in, response_in}
 use Rattle.openapi_values.specs.Levels.{as_list}
 use Rattle.openapi_values.specs.Lookup.{member_in, definition}
 use Rattle.openapi_values.specs.Objects.{Entry, present, members_of, object_of, list_unless_empty, map_members, unless_empty}
-use Rattle.openapi_values.specs.Operation.{media_type_entries, media_type_json, request_body_entries, request_body_json, pagination_json, operation_entries, operation_json, path_item_entries, path_item_json}
-use Rattle.openapi_values.specs.Parameters.{parameter_json}
+use Rattle.openapi_values.specs.Operation.{media_type_entries, media_type_json, request_body_entries, request_body_json, content_json, described_entries, described_json, response_json, pagination_json, operation_entries, operation_json, path_item_entries, path_item_json}
+use Rattle.openapi_values.specs.Parameters.{parameter_json, header_json}
 
 pub get-object : (name : List ℕ) (ms : List Member) → get_of name (Object ms) ≡ first_named name ms
 get-object name ms = rw (outs-Object ms) refl
@@ -81,6 +83,10 @@ under_unless_empty : (name : List ℕ) (ms : List Member) → member_in (unless_
 under_unless_empty name [] = refl
 under_unless_empty name (m ∷ ms) = get-object name (m ∷ ms)
 
+-- a map of parts, left out where it is empty, has those of its names
+pub under_map : {X : Type 0} (json : X → Json) (name : List ℕ) (pairs : List (List ℕ × X)) → member_in (unless_empty (map_members json pairs)) name ≡ option_map json (value_at name pairs)
+under_map json name pairs = under_unless_empty name (map_members json pairs) ∙ first_named-map_members json name pairs
+
 same_option : {X : Type 0} (o : Option X) → option_map (λ x. x) o ≡ o
 same_option None = refl
 same_option (Some x) = refl
@@ -99,8 +105,7 @@ schemas_stand document = ap (λ o. member_in o (codes "schemas")) (get-object_of
 pub definition-stands : (document : OpenApi) (name : List ℕ) → definition (open_api_json document) name ≡ definition_in document name
 definition-stands document name =
     ap (λ o. member_in o name) (schemas_stand document)
-    ∙ under_unless_empty name _
-    ∙ first_named-map_members (λ schema. schema) name document.components.schemas
+    ∙ under_map (λ schema. schema) name document.components.schemas
     ∙ same_option (value_at name document.components.schemas)
 
 -- one method of the table
@@ -157,6 +162,27 @@ schema_of (Some media) = get-object_of (media_type_entries media) (codes "schema
 pub media-stands : (media : List ℕ) (body : RequestBody) → media_in media (request_body_json body) ≡ option_map media_type_json (value_at media body.content)
 unfolding request_body_json
 media-stands media body =
-    ap (λ o. member_in o media) (get-object_of (request_body_entries body) (codes "content") refl)
-    ∙ under_unless_empty media (map_members media_type_json body.content)
-    ∙ first_named-map_members media_type_json media body.content
+    ap (λ o. member_in o media) (get-object_of (request_body_entries body) (codes "content") refl) ∙ under_map media_type_json media body.content
+
+pub responses-stand : (operation : Operation) → get_of (codes "responses") (operation_json operation) ≡ unless_empty (map_members response_json operation.responses)
+unfolding operation_json
+responses-stand operation = get-object_of (operation_entries operation) (codes "responses") refl
+
+pub named-stands : (document : OpenApi) (name : List ℕ) → response_named (open_api_json document) name ≡ option_map response_json (response_in document name)
+unfolding open_api_json components_json
+named-stands document name =
+    ap (λ o. member_in (member_in o (codes "responses")) name) (get-object_of (open_api_entries document) (codes "components") refl)
+    ∙ ap (λ o. member_in o name) (get-object_of (components_entries document.components) (codes "responses") refl)
+    ∙ under_map response_json name document.components.responses
+
+pub described-reference : (response : ResponseObject) → get_of (codes "$ref") (described_json response) ≡ None
+unfolding described_json
+described-reference response = get-object_of (described_entries response) (codes "$ref") refl
+
+pub described-headers : (response : ResponseObject) → get_of (codes "headers") (described_json response) ≡ unless_empty (map_members header_json response.headers)
+unfolding described_json
+described-headers response = get-object_of (described_entries response) (codes "headers") refl
+
+pub described-content : (response : ResponseObject) → get_of (codes "content") (described_json response) ≡ content_json response.content
+unfolding described_json
+described-content response = get-object_of (described_entries response) (codes "content") refl

@@ -17,7 +17,6 @@ use Rattle.openapi_values.specs.JsonAdmits.{JsonAdmits}
 use Rattle.openapi_values.specs.Levels.{as_object}
 use Rattle.openapi_values.specs.Lookup.{member_in}
 use Rattle.openapi_values.specs.Options.{is_some_and, is_none_or}
-use Rattle.openapi_values.specs.RequestBodies.{media_in, schema_under}
 use Rattle.openapi_values.specs.RequestParameters.{text_of, is_true_at}
 
 -- a response as it goes out
@@ -34,13 +33,12 @@ class_of status =
     if nat_le 400 status && nat_lt status 500 then Some (codes "4XX") else
     (if nat_le 500 status && nat_lt status 600 then Some (codes "5XX") else None)
 
--- what stands under a status, else under its class, else under `default`
-abbrev pub listed_in : Option Json → ℕ → Option Json
-listed_in responses status =
-    option_or (member_in responses (decimal status)) (option_or (option_and_then (member_in responses) (class_of status)) (member_in responses (codes "default")))
+-- what is at a status, else at its class, else at `default`
+abbrev pub by_status : {X : Type 0} → (List ℕ → Option X) → ℕ → Option X
+by_status at status = option_or (at (decimal status)) (option_or (option_and_then at (class_of status)) (at (codes "default")))
 
 abbrev pub response_listed : Json → ℕ → Option Json
-response_listed operation status = listed_in (get_of (codes "responses") operation) status
+response_listed operation = by_status (member_in (get_of (codes "responses") operation))
 
 -- the response of a name in `components.responses` (OpenAPI 3.0.3, Components Object)
 abbrev pub response_named : Json → List ℕ → Option Json
@@ -58,8 +56,11 @@ pub data StandsFor (doc : Json) : Json → Json → Type 0 where
 -- ---- what a response object asks
 
 -- a line of a header that is required stands; its name is compared without case (OpenAPI 3.0.3, Header Object)
+abbrev pub line_stands : List HeaderLine → Bool → List ℕ → Bool
+line_stands lines required name = not required || is_some (first_line (encode_utf8_all name) lines)
+
 abbrev pub header_stands : List HeaderLine → Member → Bool
-header_stands lines header = not (is_true_at (codes "required") header.value) || is_some (first_line (encode_utf8_all header.name) lines)
+header_stands lines header = line_stands lines (is_true_at (codes "required") header.value) header.name
 
 abbrev pub headers_stand : List HeaderLine → Option Json → Bool
 headers_stand lines headers = is_none_or headers (λ listed. is_some_and (as_object (out-Json listed)) (list_all (header_stands lines)))
@@ -79,21 +80,17 @@ pub record IsJsonResponse (doc : Json) (response : SentResponse) (set : Bool) (s
   pub admitted : JsonAdmits doc schema json
   pub typed : IsTrue set ⊎ IsTypedJson response.headers
 
--- under `*/*` any content conforms, and under `application/json` JSON of the schema there (OpenAPI 3.0.3, Media Type Object)
-abbrev pub ContentConforms : Json → SentResponse → Bool → Json → Type 0
-ContentConforms doc response set listed = IsSome (media_in (codes "*/*") listed) ⊎ IsSomeAnd (schema_under (codes "application/json") listed) (IsJsonResponse doc response set)
-
--- without `content` the body is empty
-abbrev pub BodyConforms : Json → SentResponse → Bool → Json → Type 0
-BodyConforms doc response set listed = if_content (get_of (codes "content") listed) where
-  if_content : Option Json → Type 0
-  if_content None = response.body ≡ []
-  if_content (Some content) = ContentConforms doc response set listed
+-- without `content` the body is empty; under `*/*` any body conforms, and under `application/json` JSON of the schema there
+-- (OpenAPI 3.0.3, Media Type Object)
+abbrev pub BodyConforms : Json → SentResponse → Bool → Option Json → Type 0
+BodyConforms doc response set None = response.body ≡ []
+BodyConforms doc response set (Some content) =
+    IsSome (get_of (codes "*/*") content) ⊎ IsSomeAnd (member_in (get_of (codes "application/json") content) (codes "schema")) (IsJsonResponse doc response set)
 
 -- each required header stands, and the body is as the response object says
 pub record ResponseConforms (doc : Json) (response : SentResponse) (set : Bool) (listed : Json) : Type 0 where
   pub headers : IsTrue (headers_stand response.headers (get_of (codes "headers") listed))
-  pub body : BodyConforms doc response set listed
+  pub body : BodyConforms doc response set (get_of (codes "content") listed)
 
 -- a response of an operation conforms to the response object that is listed for its status; `set` says whether the reply
 -- gave a `content-type` of its own

@@ -1,6 +1,7 @@
 -- What a document's types hold, by names: the first of each name.
 use Rattle.std.specs.Prelude.{ℕ, List, Option, None, option_map, option_and_then, find, bytes_eq, codes, if◌then◌else◌}
 use Rattle.openapi_values.specs.declared.document.OpenApi.{OpenApi}
+use Rattle.openapi_values.specs.declared.media.ResponseObject.{ResponseObject}
 use Rattle.openapi_values.specs.declared.operation.Operation.{Operation}
 use Rattle.openapi_values.specs.declared.operation.PathItem.{PathItem}
 use Rattle.schema_values.specs.declared.json_value.Json.{Json}
@@ -29,3 +30,7 @@ operation_in document path method = option_and_then (method_of method) (value_at
 -- the schema of a name among the components
 abbrev pub definition_in : OpenApi → List ℕ → Option Json
 definition_in document name = value_at name document.components.schemas
+
+-- the response of a name among the components
+abbrev pub response_in : OpenApi → List ℕ → Option ResponseObject
+response_in document name = value_at name document.components.responses

@@ -6,10 +6,10 @@ pub mod Rows
 pub mod Room
 pub mod ValuesOfMembers
 pub mod Steps
-pub mod Admitter
 pub mod JsonAdmits
 pub mod Smaller
-pub mod TextAdmitter
+pub mod Asked
+pub mod Admitter
 pub mod IfTrue
 pub mod Objects
 pub mod Operation
@@ -23,6 +23,7 @@ pub mod Admits
 pub mod Listed
 pub mod Conforms
 pub mod Find
+pub mod ListedConforms
 pub mod SchemaJson
 pub mod Refusal
 pub mod Info

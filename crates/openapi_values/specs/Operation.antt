@@ -31,10 +31,14 @@ request_body_entries body = (codes "content", content_json body.content) ∷ (co
 unfoldable pub request_body_json : RequestBody → Json
 request_body_json body = object_of (request_body_entries body)
 
--- a response in full: its description, its headers and its contents, where it has them
+-- its description, its headers and its contents, where it has them
+abbrev pub described_entries : ResponseObject → List Entry
+described_entries response =
+    (codes "description", option_map Text response.description) ∷ (codes "headers", unless_empty (map_members header_json response.headers)) ∷ (codes "content", content_json response.content) ∷ []
+
+-- a response in full
 unfoldable pub described_json : ResponseObject → Json
-described_json response =
-    object_of ((codes "description", option_map Text response.description) ∷ (codes "headers", unless_empty (map_members header_json response.headers)) ∷ (codes "content", content_json response.content) ∷ [])
+described_json response = object_of (described_entries response)
 
 -- a reference stands alone
 abbrev pub response_json : ResponseObject → Json

@@ -1,4 +1,4 @@
-ghost use Rattle.std.specs.Prelude.{◌≡◌, ◌↔◌, ℕ, suc, false, List, Option, Some, option_map};
+ghost use Rattle.std.specs.Prelude.{◌≡◌, ◌↔◌, ℕ, suc, Bool, false, List, Option, Some, option_map};
 ghost use Rattle.schema_values.specs.declared.json_value.Json.{Json as JsonValue, out-Json};
 ghost use Rattle.schema_values.specs.declared.schema.Schema.{Schema as SchemaValue};
 ghost use Rattle.schema_values.specs.Sound.{IsSound};
@@ -6,10 +6,12 @@ ghost use Rattle.openapi_values.specs.declared.document.OpenApi.{OpenApi as Docu
 ghost use Rattle.openapi_values.specs.declared.operation.Operation.{Operation as Listed};
 ghost use Rattle.request_words.specs.declared.request.WireRequest.{WireRequest as Request};
 ghost use Rattle.openapi_values.specs.Admits.{operation_at, Admits};
+ghost use Rattle.openapi_values.specs.Conforms.{SentResponse, Conforms};
 ghost use Rattle.openapi_values.specs.Document.{open_api_json};
 ghost use Rattle.openapi_values.specs.Find.{operation_in, definition_in};
 ghost use Rattle.openapi_values.specs.JsonAdmits.{admits_within, schema_admits};
 ghost use Rattle.openapi_values.specs.Listed.{ListedHolds};
+ghost use Rattle.openapi_values.specs.ListedConforms.{ListedConforms};
 ghost use Rattle.openapi_values.specs.Lookup.{definition};
 ghost use Rattle.openapi_values.specs.Operation.{operation_json};
 ghost use Rattle.openapi_values.specs.SchemaJson.{schema_json};
@@ -48,6 +50,15 @@ pub fn operations_admitted()
         → operation_in document path method ≡ Some listed
         → Admits (open_api_json document) path method request
         ↔ ListedHolds (open_api_json document) request listed }
+{}
+
+/// A response conforms to a written document, under one of its operations, exactly where it conforms to what
+/// the operation lists for its status: each required header stands, and the body is as listed.
+pub fn responses_conform()
+    ensures { (document : Document) (path method : List ℕ) (listed : Listed) (response : SentResponse)
+        (set : Bool) → operation_in document path method ≡ Some listed
+        → Conforms (open_api_json document) path method response set
+        ↔ ListedConforms document listed response set }
 {}
 
 /// A document of sound parts is written as sound JSON.

@@ -2,11 +2,11 @@
 #![tactic(auto)]
 
 mod admits;
+mod asked;
 mod document;
 mod find;
 mod info;
 mod j2oas;
-mod json_text;
 mod keywords;
 mod laws;
 mod media;
@@ -31,7 +31,7 @@ pub use j2oas::{J2oasError, j2oas_schema};
 pub use keywords::Keyword;
 pub use laws::{
     admits_by_steps, contents_sound, definitions_stand, documents_sound, operations_admitted,
-    operations_stand,
+    operations_stand, responses_conform,
 };
 pub use media::{MediaType, RequestBody, ResponseObject};
 pub use operation::{Operation, PathItem};

@@ -19,8 +19,8 @@ ghost use Rattle.openapi_values.specs.Refusal.{object_parts_refusal as refusal_o
 ghost use Rattle.openapi_values.specs.Refusal.{property_refusal as refusal_of_property};
 ghost use Rattle.openapi_values.specs.Refusal.{object_refusal as refusal_of_object, subschemas_inner};
 
+use crate::asked::is_one_of;
 use crate::j2oas::J2oasError;
-use crate::rows::is_one_of;
 use schema_values::{
     ArrayParts, InstanceType, InstanceTypes, Items, Json, List, NumberBounds, ObjectParts,
     Property, Schema, SchemaObject, Subschemas,

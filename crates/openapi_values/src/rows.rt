@@ -1,30 +1,24 @@
 ghost use Rattle.std.specs.Prelude.{◌≡◌, length, ◌||◌, not, List, codes};
-ghost use Rattle.std.specs.List.{list_all, list_any};
+ghost use Rattle.std.specs.List.{list_all};
 ghost use Rattle.schema_values.specs.declared.json_value.Json.{Json as JsonValue, out-Json};
 ghost use Rattle.schema_values.specs.Get.{first_named};
-ghost use Rattle.schema_values.specs.Same.{same_json};
+ghost use Rattle.openapi_values.specs.Asked.{asked_json};
 ghost use Rattle.openapi_values.specs.Keywords.{keyword_of};
-ghost use Rattle.openapi_values.specs.Levels.{is_null, is_true, has_type, has_member, as_number, as_text};
+ghost use Rattle.openapi_values.specs.Levels.{is_true, has_member, as_number, as_text};
 ghost use Rattle.openapi_values.specs.Levels.{as_list, as_object};
 ghost use Rattle.openapi_values.specs.Lookup.{is_integer, is_null_alone, is_null_form};
 ghost use Rattle.openapi_values.specs.Options.{is_some_and, is_none_or};
 ghost use Rattle.openapi_values.specs.Rows.{in_format, is_between, is_under, is_least, is_greatest};
 ghost use Rattle.openapi_values.specs.Rows.{is_enough, is_not_too_many, is_property, names_stand, is_read};
-ghost use Rattle.openapi_values.specs.Rows.{in_subset, is_listed};
+ghost use Rattle.openapi_values.specs.Rows.{in_subset};
 
+use crate::asked::{
+    Asked, asked_items, asked_members, asked_number, asked_text, characters, is_null_value,
+};
 use crate::find::{find_word, has_type_named, stands};
 use crate::keywords::{Keyword, keyword_named};
 use request_words::is_word;
 use schema_values::{Json, Member, Text};
-
-pub fn is_null_value(value: &Json) -> bool
-    ensures { result ≡ is_null (out-Json value.now) }
-{
-    match value {
-        Json::Null => true,
-        _ => false,
-    }
-}
 
 pub fn is_true_value(value: &Json) -> bool
     ensures { result ≡ is_true (out-Json value.now) }
@@ -90,38 +84,15 @@ fn is_member_read(member: &Member) -> bool
     }
 }
 
-pub fn is_of_type(name: &Json, value: &Json) -> bool
-    ensures { result ≡ is_some_and (as_text (out-Json name.now))
-        (λ name. has_type name (out-Json value.now)) }
-{
-    match name {
-        Json::Text(name) => is_type(name, value),
-        _ => false,
-    }
-}
-
-fn is_type(name: &Text, value: &Json) -> bool
-    ensures { result ≡ has_type name.now (out-Json value.now) }
-{
-    match value {
-        Json::Null => false,
-        Json::Bool(_) => is_word(name, "boolean"),
-        Json::Int(_) => is_word(name, "integer"),
-        Json::Text(_) => is_word(name, "string"),
-        Json::List(_) => is_word(name, "array"),
-        Json::Object(_) => is_word(name, "object"),
-    }
-}
-
 /// Whether a number is of the format that stands beside the type integer.
-pub fn is_of_format(schema: &[Member], format: &Json, value: &Json) -> bool
-    ensures { result ≡ is_none_or (as_number (out-Json value.now))
+pub fn is_of_format(schema: &[Member], format: &Json, asked: &Asked) -> bool
+    ensures { result ≡ is_none_or (as_number (out-Json (asked_json asked.now)))
         (λ n. not (is_integer schema.now) || is_some_and (as_text (out-Json format.now))
         (λ name. in_format name n)) }
 {
-    match value {
-        Json::Int(number) => !has_type_named(schema, "integer") || is_in_format(format, number),
-        _ => true,
+    match asked_number(asked) {
+        Some(number) => !has_type_named(schema, "integer") || is_in_format(format, &number),
+        None => true,
     }
 }
 
@@ -169,46 +140,25 @@ fn lies_between(low: i128, high: i128, number: &i128) -> bool
     low <= *number && *number <= high
 }
 
-/// Whether a value is one of those in a list.
-pub fn is_in_list(values: &Json, value: &Json) -> bool
-    ensures { result ≡ is_listed value.now values.now }
-{
-    match values {
-        Json::List(values) => is_one_of(values.as_slice(), value),
-        _ => false,
-    }
-}
-
-/// Whether a value is one of some values.
-pub fn is_one_of(values: &[Json], value: &Json) -> bool
-    ensures { result ≡ list_any (same_json value.now) values.now }
-{
-    for listed in values {
-        if value.equals(listed) {
-            return true;
-        }
-    }
-    false
-}
-
 /// Whether a number is at least the least one, or above it.
-pub fn is_at_least(strictly: bool, least: &Json, value: &Json) -> bool
-    ensures { result ≡ is_none_or (as_number (out-Json value.now)) (λ n. is_least strictly n least.now) }
+pub fn is_at_least(strictly: bool, least: &Json, asked: &Asked) -> bool
+    ensures { result ≡ is_none_or (as_number (out-Json (asked_json asked.now)))
+        (λ n. is_least strictly n least.now) }
 {
-    match value {
-        Json::Int(number) => not_below(strictly, least, number),
-        _ => true,
+    match asked_number(asked) {
+        Some(number) => not_below(strictly, least, &number),
+        None => true,
     }
 }
 
 /// Whether a number is at most the greatest one, or below it.
-pub fn is_at_most(strictly: bool, greatest: &Json, value: &Json) -> bool
-    ensures { result ≡ is_none_or (as_number (out-Json value.now))
+pub fn is_at_most(strictly: bool, greatest: &Json, asked: &Asked) -> bool
+    ensures { result ≡ is_none_or (as_number (out-Json (asked_json asked.now)))
         (λ n. is_greatest strictly n greatest.now) }
 {
-    match value {
-        Json::Int(number) => not_above(strictly, greatest, number),
-        _ => true,
+    match asked_number(asked) {
+        Some(number) => not_above(strictly, greatest, &number),
+        None => true,
     }
 }
 
@@ -252,76 +202,73 @@ pub fn has_not_too_many(count: usize, greatest: &Json) -> bool
     not_above(false, greatest, &(count as i128))
 }
 
-fn characters(text: &Text) -> usize
-    ensures { result ≡ length text.now }
+pub fn is_long_enough(least: &Json, asked: &Asked) -> bool
+    ensures { result ≡ is_none_or (as_text (out-Json (asked_json asked.now)))
+        (λ t. is_enough (length t) least.now) }
 {
-    text.as_str().chars().count()
-}
-
-pub fn is_long_enough(least: &Json, value: &Json) -> bool
-    ensures { result ≡ is_none_or (as_text (out-Json value.now)) (λ t. is_enough (length t) least.now) }
-{
-    match value {
-        Json::Text(text) => has_enough(characters(text), least),
-        _ => true,
+    match asked_text(asked) {
+        Some(text) => has_enough(characters(text), least),
+        None => true,
     }
 }
 
-pub fn is_short_enough(greatest: &Json, value: &Json) -> bool
-    ensures { result ≡ is_none_or (as_text (out-Json value.now))
+pub fn is_short_enough(greatest: &Json, asked: &Asked) -> bool
+    ensures { result ≡ is_none_or (as_text (out-Json (asked_json asked.now)))
         (λ t. is_not_too_many (length t) greatest.now) }
 {
-    match value {
-        Json::Text(text) => has_not_too_many(characters(text), greatest),
-        _ => true,
+    match asked_text(asked) {
+        Some(text) => has_not_too_many(characters(text), greatest),
+        None => true,
     }
 }
 
-pub fn has_enough_items(least: &Json, value: &Json) -> bool
-    ensures { result ≡ is_none_or (as_list (out-Json value.now))
+pub fn has_enough_items(least: &Json, asked: &Asked) -> bool
+    ensures { result ≡ is_none_or (as_list (out-Json (asked_json asked.now)))
         (λ (xs : List JsonValue). is_enough (length xs) least.now) }
 {
-    match value {
-        Json::List(items) => has_enough(items.len(), least),
-        _ => true,
+    match asked_items(asked) {
+        Some(items) => has_enough(items.len(), least),
+        None => true,
     }
 }
 
-pub fn has_few_items(greatest: &Json, value: &Json) -> bool
-    ensures { result ≡ is_none_or (as_list (out-Json value.now))
+pub fn has_few_items(greatest: &Json, asked: &Asked) -> bool
+    ensures { result ≡ is_none_or (as_list (out-Json (asked_json asked.now)))
         (λ (xs : List JsonValue). is_not_too_many (length xs) greatest.now) }
 {
-    match value {
-        Json::List(items) => has_not_too_many(items.len(), greatest),
-        _ => true,
+    match asked_items(asked) {
+        Some(items) => has_not_too_many(items.len(), greatest),
+        None => true,
     }
 }
 
-pub fn has_enough_members(least: &Json, value: &Json) -> bool
-    ensures { result ≡ is_none_or (as_object (out-Json value.now)) (λ ms. is_enough (length ms) least.now) }
+pub fn has_enough_members(least: &Json, asked: &Asked) -> bool
+    ensures { result ≡ is_none_or (as_object (out-Json (asked_json asked.now)))
+        (λ ms. is_enough (length ms) least.now) }
 {
-    match value {
-        Json::Object(members) => has_enough(members.len(), least),
-        _ => true,
+    match asked_members(asked) {
+        Some(members) => has_enough(members.len(), least),
+        None => true,
     }
 }
 
-pub fn has_few_members(greatest: &Json, value: &Json) -> bool
-    ensures { result ≡ is_none_or (as_object (out-Json value.now))
+pub fn has_few_members(greatest: &Json, asked: &Asked) -> bool
+    ensures { result ≡ is_none_or (as_object (out-Json (asked_json asked.now)))
         (λ ms. is_not_too_many (length ms) greatest.now) }
 {
-    match value {
-        Json::Object(members) => has_not_too_many(members.len(), greatest),
-        _ => true,
+    match asked_members(asked) {
+        Some(members) => has_not_too_many(members.len(), greatest),
+        None => true,
     }
 }
 
-pub fn has_names(names: &Json, value: &Json) -> bool
-    ensures { result ≡ is_none_or (as_object (out-Json value.now)) (λ ms. names_stand names.now ms) }
+pub fn has_names(names: &Json, asked: &Asked) -> bool
+    ensures { result ≡ is_none_or (as_object (out-Json (asked_json asked.now)))
+        (λ ms. names_stand names.now ms) }
 {
-    match value {
-        Json::Object(members) => all_named(names, members.as_slice()),
-        _ => true,
+    match asked_members(asked) {
+        Some(members) => all_named(names, members),
+        None => true,
     }
 }
 

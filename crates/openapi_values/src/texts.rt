@@ -16,9 +16,8 @@ ghost use Rattle.openapi_values.specs.TextAdmits.{reference_or_form, text_step};
 ghost use Rattle.openapi_values.specs.Lookup.{definition};
 ghost use Rattle.openapi_values.specs.TextAdmits.{text_within, TextAdmits};
 
-use crate::admits::json_admits;
+use crate::admits::{json_admits, json_text_admits};
 use crate::find::{definition_named, find_word, has_type_named, reference_of};
-use crate::json_text::json_text_admits;
 use crate::room::{Steps, inside, of_items, of_members};
 use request_words::{cut_number, has_minus, is_str_word, text_after};
 use schema_values::{Json, Member};

@@ -11,7 +11,7 @@ use Rattle.openapi_values.specs.Admits.{method_member, path_item_at, operation_a
 use Rattle.openapi_values.specs.Levels.{as_list}
 use Rattle.openapi_values.specs.Lookup.{member_in}
 use Rattle.openapi_values.specs.RequestBodies.{media_in, schema_under}
-use Rattle.openapi_values.proofs.SoundLevels.{found_sound, under_sound, listed_sound, named_sound}
+use Rattle.openapi_values.proofs.CallerLemmas.{found_sound, under_sound, listed_sound, named_sound}
 
 pub operation_sound : (doc : Json) (path method : List ℕ) (operation : Json) → IsSound doc → operation_at doc path method ≡ Some operation → IsSound operation
 operation_sound doc path method operation sound is =

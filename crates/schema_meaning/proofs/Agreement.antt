@@ -23,7 +23,7 @@ use Rattle.openapi_values.specs.Objects.{object_of, reference_json}
 use Rattle.openapi_values.specs.Options.{is_some_and}
 use Rattle.openapi_values.specs.SchemaJson.{Written, truth_json, annotations, entries_behind, without_values, schema_json}
 use Rattle.openapi_values.specs.Smaller.{smaller_admits as written_smaller}
-use Rattle.openapi_values.proofs.Steps.{admits-zero as written-zero, admits-suc as written-suc}
+use Rattle.openapi_values.proofs.CallerLemmas.{admits-zero as written-zero, admits-suc as written-suc}
 use Rattle.schema_meaning.specs.Accepted.{IsEmpty, SubschemasAreKept, IsAccepted}
 use Rattle.schema_meaning.specs.Asked.{parts_admit}
 use Rattle.schema_meaning.specs.Definitions.{NamedSchemas, schema_named, name_referred}

@@ -13,7 +13,7 @@ use Rattle.openapi_values.specs.Keywords.{is_annotation, bound_or, part_of}
 use Rattle.openapi_values.specs.Options.{is_none_or}
 use Rattle.openapi_values.specs.Rows.{is_not_too_many}
 use Rattle.openapi_values.specs.SchemaJson.{items_written, array_written, count_json}
-use Rattle.openapi_values.proofs.SchemaLevels.{array-is}
+use Rattle.openapi_values.proofs.CallerLemmas.{array-is}
 use Rattle.schema_meaning.specs.Asked.{array_holds, items_hold, places_hold}
 use Rattle.schema_meaning.specs.Forms.{ItemsLevel, items_by_form}
 use Rattle.schema_meaning.proofs.Combined.{rows}

@@ -16,7 +16,7 @@ use Rattle.openapi_values.specs.Objects.{Entry}
 use Rattle.openapi_values.specs.Options.{is_none_or, is_some_and}
 use Rattle.openapi_values.specs.Rows.{is_read}
 use Rattle.openapi_values.specs.SchemaJson.{Written, untitled, schemas_json, object_step, schema_written, subschemas_written}
-use Rattle.openapi_values.proofs.SchemaLevels.{subschemas-are}
+use Rattle.openapi_values.proofs.CallerLemmas.{subschemas-are}
 use Rattle.schema_meaning.specs.Accepted.{IsEmpty, AreAtMostOne, SubschemasAreKept}
 use Rattle.schema_meaning.specs.Asked.{all_of_is_read}
 use Rattle.schema_meaning.proofs.Entries.{each_entry, value_named, none-append}

@@ -16,7 +16,7 @@ use Rattle.openapi_values.specs.Objects.{Entry}
 use Rattle.openapi_values.specs.Options.{is_none_or, is_some_and}
 use Rattle.openapi_values.specs.Rows.{row, every_admits, some_admits, one_admits}
 use Rattle.openapi_values.specs.SchemaJson.{untitled, schemas_json, schema_written, subschemas_written}
-use Rattle.openapi_values.proofs.SchemaLevels.{subschemas-are}
+use Rattle.openapi_values.proofs.CallerLemmas.{subschemas-are}
 use Rattle.schema_meaning.specs.Asked.{subschemas_hold}
 use Rattle.schema_meaning.specs.Reached.{combined_schemas, if_any}
 use Rattle.schema_meaning.proofs.Among.{among_left, among_right}

@@ -14,7 +14,7 @@ use Rattle.schema_values.specs.declared.schema.Schema.{Schema, out-Schema, fold_
 use Rattle.schema_values.specs.declared.schema.SchemaObject.{SchemaObject, out-SchemaObject, fold-SchemaObject, fold_out-SchemaObject}
 use Rattle.schema_values.specs.declared.schema.Subschemas.{Subschemas, fold-Subschemas, fold_out-Subschemas}
 use Rattle.schema_values.specs.Parts.{Parts}
-use Rattle.openapi_values.proofs.PartMaps.{items-map, additional-map, array-map, object-map, subschemas-map, all_of-map}
+use Rattle.openapi_values.proofs.CallerLemmas.{items-map, additional-map, array-map, object-map, subschemas-map, all_of-map}
 use Rattle.schema_meaning.specs.Count.{items_step, schema_step, array_step, object_parts_step, property_step, object_step, subschemas_step, schemas}
 use Rattle.schema_meaning.specs.Forms.{SchemaLevel, ItemsLevel, level_by_form, items_by_form}
 use Rattle.schema_meaning.specs.Reached.{if_any, combined_schemas, item_schemas, array_schemas, object_schemas, smaller_schemas, stands_alone, beside_in, below_in, beside, below}

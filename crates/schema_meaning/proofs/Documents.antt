@@ -9,7 +9,7 @@ use Rattle.openapi_values.specs.Find.{value_at}
 use Rattle.openapi_values.specs.Lookup.{definition}
 use Rattle.openapi_values.specs.Room.{values}
 use Rattle.openapi_values.specs.ValuesOfMembers.{member_values}
-use Rattle.openapi_values.proofs.SchemasOfDocument.{total, schemas_in, definition_found, schemas_fit}
+use Rattle.openapi_values.proofs.CallerLemmas.{total, schemas_in, definition_found, schemas_fit}
 use Rattle.schema_meaning.proofs.Sizes.{Sizes, summed}
 
 -- the number of values of each schema, under its name

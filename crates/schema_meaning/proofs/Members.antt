@@ -22,13 +22,12 @@ use Rattle.openapi_values.specs.Objects.{pair_member, object_of, reference_json,
 use Rattle.openapi_values.specs.Options.{is_none_or, is_some_and}
 use Rattle.openapi_values.specs.Rows.{is_property, names_stand, property_admitted, properties_admitted, other_admitted, is_not_too_many}
 use Rattle.openapi_values.specs.SchemaJson.{Written, untitled, additional_json, names_json, count_json, annotations, entries_behind, schema_written, property_written, object_parts_written}
-use Rattle.openapi_values.proofs.SchemaLevels.{property-is, object_parts-are}
+use Rattle.openapi_values.proofs.CallerLemmas.{property-is, object_parts-are, all_same}
 use Rattle.schema_meaning.specs.Asked.{property_named, member_holds, object_holds, count_holds}
 use Rattle.schema_meaning.specs.Forms.{SchemaLevel}
 use Rattle.schema_meaning.specs.Reached.{object_schemas, if_any}
 use Rattle.schema_meaning.proofs.Among.{among_left, among_right}
 use Rattle.schema_values.proofs.CallerLemmas.{contains_first, contains_later}
-use Rattle.openapi_values.proofs.Steps.{all_same}
 use Rattle.schema_meaning.proofs.Behind.{always}
 use Rattle.schema_meaning.proofs.Combined.{rows}
 use Rattle.schema_meaning.proofs.TypeEntries.{least_part, most_part}

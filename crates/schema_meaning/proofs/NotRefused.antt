@@ -18,7 +18,7 @@ use Rattle.schema_values.specs.declared.schema.SchemaObject.{SchemaObject, Schem
 use Rattle.schema_values.specs.Parts.{Parts}
 use Rattle.openapi_values.specs.Refusal.{Within, Level, object_step, is_level_of, is_value_of, values_refusal, types_refusal, own_items_refusal, bounds_refusal, items_of, own_refusal, inner_refusal, refusal_of, items_within, array_within, object_parts_refusal, subschemas_inner}
 use Rattle.openapi_values.specs.declared.j2oas.J2oasError.TheVariants.{TupleArray, BadEnumValue, BadBounds}
-use Rattle.openapi_values.proofs.RefusalLevels as levels
+use Rattle.openapi_values.proofs.CallerLemmas.{array-refusal, object-refusal, parts-refusal, tuple-refusal}
 use Rattle.openapi_values.specs.SchemaJson.{without_values}
 use Rattle.schema_meaning.specs.Forms.{ItemsLevel}
 use Rattle.schema_meaning.proofs.WrittenLevels.{is_object, are_tuple}
@@ -47,10 +47,10 @@ level_of p = record {
 }
 
 by_parts-is : (schema : Schema) (object : SchemaObject) → out-Schema schema ≡ Schema-F.Object object → refusal_of schema ≡ object_step (level_of (out-SchemaObject object))
-by_parts-is schema object e = ap refusal_of (is_object schema object e) ∙ levels.object-is object ∙ levels.parts-are object
+by_parts-is schema object e = ap refusal_of (is_object schema object e) ∙ object-refusal object ∙ parts-refusal object
 
 by_place-is : (items : Items) (schemas : List Schema) → out-Items items ≡ Items-F.Tuple schemas → (items_within items).by_place ≡ true
-by_place-is items schemas e = ap (λ (i : Items). (items_within i).by_place) (are_tuple items schemas e) ∙ ap (λ (w : Within). w.by_place) (levels.tuple-is schemas)
+by_place-is items schemas e = ap (λ (i : Items). (items_within i).by_place) (are_tuple items schemas e) ∙ ap (λ (w : Within). w.by_place) (tuple-refusal schemas)
 
 first_none : {A : Type 0} (o p : Option A) → option_or o p ≡ None → (o ≡ None) × (p ≡ None)
 first_none None p h = (refl, h)
@@ -103,7 +103,7 @@ has_one p e h = by_array p.array refl (ap (λ (t : Option InstanceTypes). own_it
 
     by_array : (o : Option ArrayParts) → p.array ≡ o → own_items_refusal (Some (Single Array)) (option_and_then (λ items. items) (option_map array_within o)) ≡ None → HasOne p
     by_array None f h = absurd (cc h)
-    by_array (Some a) f h = by_option a a.items f refl (ap (λ (o : Option Within). own_items_refusal (Some (Single Array)) o) (sym (levels.array-is a)) ∙ h)
+    by_array (Some a) f h = by_option a a.items f refl (ap (λ (o : Option Within). own_items_refusal (Some (Single Array)) o) (sym (array-refusal a)) ∙ h)
 
 -- ---- what its values and its bounds are
 

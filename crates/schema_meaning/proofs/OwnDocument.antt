@@ -7,7 +7,7 @@ use Rattle.schema_values.specs.declared.schema.Schema.{Schema}
 use Rattle.schema_values.specs.Get.{first_named}
 use Rattle.schema_values.specs.Member.{member}
 use Rattle.openapi_values.specs.Lookup.{member_in}
-use Rattle.openapi_values.proofs.Stands.{get-object}
+use Rattle.openapi_values.proofs.CallerLemmas.{get-object}
 use Rattle.schema_meaning.specs.Definitions.{NamedSchemas, schema_named}
 use Rattle.schema_meaning.specs.Written.{DefinesReached}
 use Rattle.schema_meaning.proofs.WrittenLevels.{json_of}

@@ -20,7 +20,7 @@ use Rattle.schema_values.specs.Same.{same_json}
 use Rattle.schema_values.proofs.CallerLemmas.{made-out}
 use Rattle.openapi_values.specs.Levels.{Level, is_null, has_member}
 use Rattle.openapi_values.specs.Options.{is_some_and, is_none_or}
-use Rattle.openapi_values.proofs.Steps.{has_changed, all_same}
+use Rattle.openapi_values.proofs.CallerLemmas.{has_changed, all_same}
 use Rattle.schema_meaning.specs.Asked.{count_holds, places_hold, items_hold, array_holds, member_holds, object_holds, is_of_types, is_null_form, subschemas_hold, object_is_read, parts_hold}
 use Rattle.schema_meaning.specs.Definitions.{NamedSchemas, schema_named}
 use Rattle.openapi_values.specs.Lookup.{name_in}

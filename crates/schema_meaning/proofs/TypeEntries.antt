@@ -19,7 +19,7 @@ use Rattle.openapi_values.specs.Levels.{Level, as_text, as_list, as_number, has_
 use Rattle.openapi_values.specs.Options.{is_none_or, is_some_and}
 use Rattle.openapi_values.specs.Rows.{row, is_listed, is_enough, is_not_too_many}
 use Rattle.openapi_values.specs.SchemaJson.{const_values, values_of, values_json, enum_entries, number_entries, bound_entries, count_json, type_entries, array_written, object_parts_written}
-use Rattle.openapi_values.proofs.SchemaLevels.{array-is, object_parts-are}
+use Rattle.openapi_values.proofs.CallerLemmas.{array-is, object_parts-are}
 use Rattle.schema_meaning.proofs.Behind.{ArePlain, both_plain}
 use Rattle.schema_meaning.proofs.WrittenLevels.{level_of}
 

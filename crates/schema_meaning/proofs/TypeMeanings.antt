@@ -29,7 +29,7 @@ use Rattle.openapi_values.specs.Options.{is_none_or, is_some_and}
 use Rattle.openapi_values.specs.Refusal.{bounds_refusal}
 use Rattle.openapi_values.specs.Rows.{is_listed}
 use Rattle.openapi_values.specs.SchemaJson.{const_values, values_of, values_json, enum_entries, number_entries, text_entries, kind_entries, type_entries, type_name, array_written, object_parts_written}
-use Rattle.openapi_values.proofs.SchemaLevels.{object_parts-are}
+use Rattle.openapi_values.proofs.CallerLemmas.{object_parts-are}
 use Rattle.schema_meaning.specs.Asked.{is_of, format_holds, number_holds, array_holds, object_holds, form_holds}
 use Rattle.schema_meaning.specs.Accepted.{AreKept}
 use Rattle.schema_meaning.specs.Forms.{ItemsLevel, items_by_form}

@@ -9,7 +9,7 @@ use Rattle.schema_values.specs.declared.schema.Schema.TheVariants.{rolls-Bool, r
 use Rattle.schema_values.specs.declared.schema.SchemaObject.{SchemaObject, SchemaObject-F, out-SchemaObject}
 use Rattle.schema_values.specs.Parts.{Parts}
 use Rattle.openapi_values.specs.SchemaJson.{Written, Level, untitled, truth_json, object_step, schema_written, items_written, array_written, object_parts_written, object_written, subschemas_written, schema_json}
-use Rattle.openapi_values.proofs.SchemaLevels as levels
+use Rattle.openapi_values.proofs.CallerLemmas.{item-is as item-written, object-is as object-written, object-under as under-written, truth-is as truth-written, tuple-is as tuple-written}
 
 -- a schema as it is written without a title
 abbrev pub json_of : Schema → Json
@@ -28,16 +28,16 @@ pub are_tuple : (items : Items) (schemas : List Schema) → out-Items items ≡ 
 are_tuple items schemas e = sym (roll-out-Items items) ∙ ap roll-Items e ∙ rolls-Tuple schemas
 
 pub truth-is : (schema : Schema) (truth : Bool) → out-Schema schema ≡ Schema-F.Bool truth → schema_written schema ≡ record { truth = Some truth; under = λ title. truth_json truth }
-truth-is schema truth e = ap schema_written (is_truth schema truth e) ∙ levels.truth-is truth
+truth-is schema truth e = ap schema_written (is_truth schema truth e) ∙ truth-written truth
 
 pub object-under : (schema : Schema) (object : SchemaObject) → out-Schema schema ≡ Schema-F.Object object → schema_written schema ≡ record { truth = None; under = object_written object }
-object-under schema object e = ap schema_written (is_object schema object e) ∙ levels.object-under object
+object-under schema object e = ap schema_written (is_object schema object e) ∙ under-written object
 
 pub one-is : (items : Items) (schema : Schema) → out-Items items ≡ Items-F.One schema → items_written items ≡ json_of schema
-one-is items schema e = ap items_written (are_one items schema e) ∙ levels.item-is schema
+one-is items schema e = ap items_written (are_one items schema e) ∙ item-written schema
 
 pub tuple-is : (items : Items) (schemas : List Schema) → out-Items items ≡ Items-F.Tuple schemas → items_written items ≡ ListOf (map untitled (map schema_written schemas))
-tuple-is items schemas e = ap items_written (are_tuple items schemas e) ∙ levels.tuple-is schemas
+tuple-is items schemas e = ap items_written (are_tuple items schemas e) ∙ tuple-written schemas
 
 -- parts in which each part with schemas stands as it is written
 abbrev pub level_of : Parts → Level SchemaObject-F
@@ -64,4 +64,4 @@ level_of p = record {
 
 -- a schema object by its parts
 pub by_parts-is : (schema : Schema) (object : SchemaObject) (given : Option (List ℕ)) → out-Schema schema ≡ Schema-F.Object object → schema_json given schema ≡ object_step (level_of (out-SchemaObject object)) given
-by_parts-is schema object given e = ap (λ (w : Written). w.under given) (object-under schema object e) ∙ levels.object-is object given
+by_parts-is schema object given e = ap (λ (w : Written). w.under given) (object-under schema object e) ∙ object-written object given

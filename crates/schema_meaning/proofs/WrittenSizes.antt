@@ -24,8 +24,7 @@ use Rattle.openapi_values.specs.Objects.{Entry, members_of as members_in, object
 use Rattle.openapi_values.specs.Room.{values}
 use Rattle.openapi_values.specs.SchemaJson.{Written, untitled, count_json, names_json, extension_entries, truth_json, additional_json, schemas_json, nothing_entries, annotations, const_values, enum_entries, type_entries, entries_behind, object_step, without_values, schema_written, items_written, property_written, array_written, object_parts_written, schema_json}
 use Rattle.openapi_values.specs.ValuesOfMembers.{member_values}
-use Rattle.openapi_values.proofs.RoomLemmas.{values_is, values_row}
-use Rattle.openapi_values.proofs.SchemaLevels.{array-is, property-is, subschemas-are, object_parts-are}
+use Rattle.openapi_values.proofs.CallerLemmas.{values_is, values_row, array-is, property-is, subschemas-are, object_parts-are}
 use Rattle.schema_meaning.specs.Forms.{SchemaLevel, ItemsLevel, level_by_form, items_by_form}
 use Rattle.schema_meaning.specs.Reached.{if_any, combined_schemas, item_schemas, array_schemas, object_schemas, smaller_schemas, stands_alone, beside_in, below_in, beside, below}
 use Rattle.schema_meaning.proofs.Among.{sum_append}

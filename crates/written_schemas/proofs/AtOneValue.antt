@@ -15,7 +15,7 @@ use Rattle.openapi_values.specs.Lookup.{definition as schema_of_name}
 use Rattle.openapi_values.specs.Options.{is_some_and}
 use Rattle.openapi_values.specs.JsonAdmits.{members_admit, schema_admits, admits_within}
 use Rattle.openapi_values.specs.Smaller.{smaller_admits}
-use Rattle.openapi_values.proofs.Steps.{admits-zero, admits-suc}
+use Rattle.openapi_values.proofs.CallerLemmas.{admits-zero, admits-suc}
 use Rattle.typed_values.specs.declared.desc.Desc.{Desc}
 use Rattle.typed_values.specs.declared.desc.Field.{Field}
 use Rattle.typed_values.specs.declared.desc.Named.{Named}

@@ -9,7 +9,7 @@ use Rattle.openapi_values.specs.declared.document.OpenApi.{OpenApi}
 use Rattle.openapi_values.specs.Admits.{Admits}
 use Rattle.openapi_values.specs.Document.{open_api_json}
 use Rattle.openapi_values.specs.JsonAdmits.{JsonAdmits}
-use Rattle.openapi_values.proofs.JsonBodies.{json_bodies}
+use Rattle.openapi_values.proofs.CallerLemmas.{json_bodies}
 use Rattle.typed_values.specs.declared.desc.Desc.{Desc}
 use Rattle.typed_values.specs.declared.table.Definition.{Definition}
 use Rattle.typed_values.specs.declared.tree.Tree.{Tree}

@@ -23,7 +23,7 @@ use Rattle.typed_values.proofs.CallerLemmas.{ok_below, ok_all, ok_struct, other_
 use Rattle.written_schemas.proofs.Counted.{none_of}
 use Rattle.written_schemas.proofs.Enumerations.{is_named, turned}
 use Rattle.written_schemas.proofs.FoundByName.{any_same, ok_found, ok_chosen}
-use Rattle.openapi_values.proofs.Steps.{all_same}
+use Rattle.openapi_values.proofs.CallerLemmas.{all_same}
 use Rattle.written_schemas.proofs.VariantForms.{required_of}
 
 module _ (table : List Definition) where

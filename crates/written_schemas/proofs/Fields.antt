@@ -24,7 +24,7 @@ use Rattle.schema_values.specs.Order.{sorted_by, same_name}
 use Rattle.typed_values.specs.Rows.{value_denotes, told_field, told_fields, told_struct}
 use Rattle.schema_values.proofs.CallerLemmas.{contains_first, contains_later}
 use Rattle.typed_values.proofs.CallerLemmas.{ok_below, ok_just, ok_all, ok_struct, other_name}
-use Rattle.openapi_values.proofs.Steps.{all_same}
+use Rattle.openapi_values.proofs.CallerLemmas.{all_same}
 use Rattle.written_schemas.proofs.Forms.{field_property, names_required}
 use Rattle.written_schemas.proofs.Structs.{is_struct_of, other_passes}
 use Rattle.written_schemas.proofs.Sorted.{all_sorted, any_sorted, first_sorted, absent, and_swapped}

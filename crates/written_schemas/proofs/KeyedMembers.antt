@@ -11,7 +11,7 @@ use Rattle.schema_values.specs.SoundMembers.{HasSoundMembers}
 use Rattle.schema_values.proofs.CallerLemmas.{IsSound-List, IsSound-Object}
 use Rattle.typed_values.specs.SchemaTable.{Drawn, Remarks, annotated, annotations, described, defaulted, drawn_json, if_count, if_denied, if_members, if_names, if_number, if_text, if_true, if_value}
 use Rattle.openapi_values.specs.SoundContents.{IsCount}
-use Rattle.openapi_values.proofs.Keyed.{IsKeyed, is_new, none_keyed, passed, put}
+use Rattle.openapi_values.proofs.CallerLemmas.{IsKeyed, is_new, none_keyed, passed, put}
 
 -- texts are sound
 pub texts_sound : (texts : List (List ℕ)) → AllByRecursion IsSound (map Words texts)

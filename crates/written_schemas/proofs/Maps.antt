@@ -14,7 +14,7 @@ use Rattle.openapi_values.specs.JsonAdmits.{schema_admits}
 use Rattle.typed_values.specs.SchemaTable.{Remarks, annotations, of_type}
 use Rattle.written_schemas.proofs.Notes.{notes_passed, hold, noted_admits}
 use Rattle.written_schemas.proofs.Scalars.{no_form_of, type_row}
-use Rattle.openapi_values.proofs.Steps.{all_same}
+use Rattle.openapi_values.proofs.CallerLemmas.{all_same}
 
 -- an object of which each value passes a test
 abbrev pub is_map_of : {X : Type 0} → (X → Bool) → Level X → Bool

@@ -16,7 +16,7 @@ use Rattle.schema_values.specs.declared.schema.SchemaObject.{SchemaObject-F, rol
 use Rattle.schema_values.specs.declared.schema.Subschemas.{Subschemas, roll-Subschemas}
 use Rattle.openapi_values.specs.declared.j2oas.J2oasError.TheVariants.{BadEnumValue, BadSubschema}
 use Rattle.openapi_values.specs.Refusal.{Refusal, Within, Level, first_of, own_items_refusal, is_value_of, values_refusal, bounds_refusal, object_step, refusal_of, array_within, object_parts_refusal, property_refusal, subschemas_inner}
-use Rattle.openapi_values.proofs.RefusalLevels.{truth-is, object-is, item-is, property-is, array-is, object_parts-are, one_kind-is, inner-is, parts-are}
+use Rattle.openapi_values.proofs.CallerLemmas.{truth-refusal, object-refusal, item-refusal, property-refusal, array-refusal, object_parts-refusal, one_kind-refusal, inner-refusal, parts-refusal}
 use Rattle.typed_values.specs.declared.desc.Desc.{Desc}
 use Rattle.typed_values.specs.declared.desc.Desc.TheOpen.{Desc-F}
 use Rattle.typed_values.specs.declared.desc.Desc.TheViews.{out-roll-Desc}
@@ -60,7 +60,7 @@ level_of p = record {
 }
 
 by_parts : (p : Parts) → refusal_of (object_of p) ≡ object_step (level_of p)
-by_parts p = object-is (roll-SchemaObject p) ∙ parts-are (roll-SchemaObject p) ∙ ap (λ (q : Parts). object_step (level_of q)) (out-roll-SchemaObject p)
+by_parts p = object-refusal (roll-SchemaObject p) ∙ parts-refusal (roll-SchemaObject p) ∙ ap (λ (q : Parts). object_step (level_of q)) (out-roll-SchemaObject p)
 
 abbrev Taken : Parts → Type 0
 Taken p = refusal_of (object_of p) ≡ None
@@ -80,7 +80,7 @@ one_kind_taken s one none =
     ∙ none
 
 all_of_taken : (p : Parts) → Taken p → Taken (of_subschemas (in_all_of p))
-all_of_taken p h = one_kind_taken (in_all_of p) (one_kind-is (in_all_of p)) (inner-is (in_all_of p) ∙ ap (λ (r : Refusal). option_or (option_or r None) None) h)
+all_of_taken p h = one_kind_taken (in_all_of p) (one_kind-refusal (in_all_of p)) (inner-refusal (in_all_of p) ∙ ap (λ (r : Refusal). option_or (option_or r None) None) h)
 
 annotatable_taken_by : (p : Parts) (r : Option (List ℕ)) → p.reference ≡ r → Taken p → Taken (annotatable p)
 annotatable_taken_by p None e h = subst Taken (sym (kept p e)) h
@@ -107,24 +107,24 @@ list_taken p min max h =
     let array = roll-ArrayParts (record { items = Some (One (object_of p)); min = min; max = max }) in
     by_parts (list_of (object_of p) min max)
     ∙ ap (λ (items : Option Within). option_or (first_of (own_items_refusal (Some (Single Array)) items ∷ [])) (option_or (option_and_then (λ items. items.refusal) items) None))
-    (array-is array ∙ ap (λ (items : Within). Some items) (item-is (object_of p) ∙ ap (λ (r : Refusal). record { by_place = false; refusal = r }) h))
+    (array-refusal array ∙ ap (λ (items : Within). Some items) (item-refusal (object_of p) ∙ ap (λ (r : Refusal). record { by_place = false; refusal = r }) h))
 
 -- an object of which neither a property nor the schema of other members is refused
 object_taken : (o : StructParts) → AllByRecursion (λ (p : Property). property_refusal p ≡ None) o.properties → unwrap_or (option_map refusal_of o.additional) None ≡ None
     → Taken (record (of_single Object) { object = Some (roll-ObjectParts o) })
 object_taken o properties additional =
     by_parts (record (of_single Object) { object = Some (roll-ObjectParts o) })
-    ∙ ap (λ (r : Refusal). option_or r None) (object_parts-are (roll-ObjectParts o)
+    ∙ ap (λ (r : Refusal). option_or r None) (object_parts-refusal (roll-ObjectParts o)
     ∙ ap (λ (q : StructParts). option_or (first_of (map property_refusal q.properties)) (unwrap_or (option_map refusal_of q.additional) None)) (out-roll-ObjectParts o)
     ∙ ap (λ (r : Refusal). option_or r (unwrap_or (option_map refusal_of o.additional) None)) (all_none property_refusal o.properties properties)
     ∙ additional)
 
 nothing_more_taken : (deny : Bool) → unwrap_or (option_map refusal_of (nothing_more deny)) None ≡ None
-nothing_more_taken true = truth-is false
+nothing_more_taken true = truth-refusal false
 nothing_more_taken false = refl
 
 truth_or_taken : (truth : Option Bool) (p : Parts) → Taken p → refusal_of (option_map_or Truth truth (object_of p)) ≡ None
-truth_or_taken (Some truth) p h = truth-is truth
+truth_or_taken (Some truth) p h = truth-refusal truth
 truth_or_taken None p h = h
 
 map_taken : (s : Sketch) → Taken s.parts → Taken (map_of (other_members s))
@@ -136,17 +136,17 @@ AreTaken = AllByRecursion (λ (s : Schema). refusal_of s ≡ None)
 choice_taken : (schemas : List Schema) → AreTaken schemas → Taken (choice_of schemas)
 choice_taken schemas h =
     let chosen = roll-Subschemas (record no_subschemas { any_of = Some schemas }) in
-    one_kind_taken chosen (one_kind-is chosen) (inner-is chosen ∙ ap (λ (r : Refusal). option_or r None) (all_none refusal_of schemas h))
+    one_kind_taken chosen (one_kind-refusal chosen) (inner-refusal chosen ∙ ap (λ (r : Refusal). option_or r None) (all_none refusal_of schemas h))
 
 one_of_taken : (schemas : List Schema) → AreTaken schemas → Taken (one_of schemas)
 one_of_taken schemas h =
     let chosen = roll-Subschemas (record no_subschemas { one_of = Some schemas }) in
-    one_kind_taken chosen (one_kind-is chosen) (inner-is chosen ∙ ap (λ (r : Refusal). option_or r None) (all_none refusal_of schemas h))
+    one_kind_taken chosen (one_kind-refusal chosen) (inner-refusal chosen ∙ ap (λ (r : Refusal). option_or r None) (all_none refusal_of schemas h))
 
 nothing_taken : Taken (all_or_none false).parts
 nothing_taken =
     let none = roll-Subschemas (record no_subschemas { not = Some (Truth true) }) in
-    one_kind_taken none (one_kind-is none) (inner-is none ∙ truth-is true)
+    one_kind_taken none (one_kind-refusal none) (inner-refusal none ∙ truth-refusal true)
 
 -- each bound stands in one form
 bounds_taken : (low high : Option ℤ) → bounds_refusal (number_bounds low high) ≡ None
@@ -192,7 +192,7 @@ abbrev AreTakenProperties : List Property → Type 0
 AreTakenProperties = AllByRecursion (λ (p : Property). property_refusal p ≡ None)
 
 property_taken : (name : List ℕ) (p : Parts) → Taken p → property_refusal (property name p) ≡ None
-property_taken name p h = property-is (property name p) ∙ h
+property_taken name p h = property-refusal (property name p) ∙ h
 
 struct_taken : (ps : List Property) (names : List (List ℕ)) (deny : Bool) → AreTakenProperties ps → Taken (struct_parts ps names deny)
 struct_taken ps names deny h =

@@ -20,7 +20,7 @@ use Rattle.typed_values.specs.Reached.{IsReached}
 use Rattle.typed_values.specs.Levels.{DescLevel}
 use Rattle.schema_values.proofs.CallerLemmas.{contains_first, contains_later}
 use Rattle.typed_values.proofs.CallerLemmas.{definition_is, entry_name, same_or_not, IsNeeded, of_whole, of_reached, entry_inside, option_needed, alternative_needed, reference_reached, reference_needed, through_option, through_alternative}
-use Rattle.openapi_values.proofs.SchemasOfDocument.{total, schemas_in, definition_found, schemas_fit}
+use Rattle.openapi_values.proofs.CallerLemmas.{total, schemas_in, definition_found, schemas_fit}
 use Rattle.written_schemas.specs.Reached.{DefinesReached}
 use Rattle.written_schemas.proofs.Costs.{cost_after, cost_by, cost}
 use Rattle.written_schemas.proofs.Sizes.{bare, top_cost, top_at}

@@ -11,8 +11,7 @@ use Rattle.schema_values.specs.declared.json_value.Member.{Member}
 use Rattle.schema_values.specs.Member.{name_of, member}
 use Rattle.openapi_values.specs.Room.{values}
 use Rattle.openapi_values.specs.ValuesOfMembers.{member_values}
-use Rattle.openapi_values.proofs.RoomLemmas.{values_is, values_row}
-use Rattle.openapi_values.proofs.SchemasOfDocument.{total, total_cons}
+use Rattle.openapi_values.proofs.CallerLemmas.{values_is, values_row, total, total_cons}
 use Rattle.typed_values.specs.declared.desc.Desc.{Desc, out-Desc}
 use Rattle.typed_values.specs.declared.desc.Desc.TheFolds.{fold-Desc, fold-Field, fold-TaggedVariant, fold-Variant, fold_out-Desc, map-Desc}
 use Rattle.typed_values.specs.declared.desc.Desc.TheOpen.{Desc-F}

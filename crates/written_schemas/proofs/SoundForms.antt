@@ -18,7 +18,7 @@ use Rattle.typed_values.specs.SchemaTable.{Drawn, plain, all_or_none, reference,
 use Rattle.typed_values.specs.Definitions.{listed_name}
 use Rattle.typed_values.proofs.CallerLemmas.{sorted_ascends}
 use Rattle.openapi_values.specs.SoundContents.{IsCount}
-use Rattle.openapi_values.proofs.Keyed.{IsKeyed, is_new, none_keyed, put}
+use Rattle.openapi_values.proofs.CallerLemmas.{IsKeyed, is_new, none_keyed, put}
 use Rattle.written_schemas.proofs.KeyedMembers.{IsSoundlyDrawn, notes, count_keyed, denied_keyed, described_sound, drawn_sound, members_keyed, names_keyed, number_keyed, text_keyed, texts_sound}
 
 -- in order, members are as sound

@@ -12,7 +12,7 @@ use Rattle.openapi_values.specs.Levels.{Named, Level, is_null, is_true, as_text,
 use Rattle.openapi_values.specs.Options.{is_some_and}
 use Rattle.openapi_values.specs.Rows.{in_subset, is_property, property_admitted, other_admitted}
 use Rattle.openapi_values.specs.JsonAdmits.{schema_admits}
-use Rattle.openapi_values.proofs.Steps.{all_same}
+use Rattle.openapi_values.proofs.CallerLemmas.{all_same}
 use Rattle.typed_values.specs.SchemaTable.{Remarks, annotations, of_type, if_members, if_names, if_denied}
 use Rattle.written_schemas.proofs.Notes.{notes_passed, hold, noted_admits}
 use Rattle.written_schemas.proofs.Scalars.{no_form_of, type_row}

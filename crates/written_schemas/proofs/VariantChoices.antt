@@ -10,7 +10,7 @@ use Rattle.schema_values.specs.Member.{member}
 use Rattle.schema_values.specs.Sound.{AreDistinct}
 use Rattle.openapi_values.specs.JsonAdmits.{admits_within}
 use Rattle.openapi_values.specs.Smaller.{smaller_admits}
-use Rattle.openapi_values.proofs.Steps.{admits-suc}
+use Rattle.openapi_values.proofs.CallerLemmas.{admits-suc}
 use Rattle.typed_values.specs.declared.desc.Desc.{Desc, Enumeration}
 use Rattle.typed_values.specs.declared.desc.Field.{Field}
 use Rattle.typed_values.specs.declared.desc.TaggedVariant.{TaggedVariant}

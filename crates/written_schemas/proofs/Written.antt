@@ -10,7 +10,7 @@ use Rattle.schema_values.specs.declared.json_value.Member.{Member}
 use Rattle.schema_values.specs.declared.schema.Property.{Property}
 use Rattle.schema_values.specs.declared.schema.Schema.{Schema}
 use Rattle.openapi_values.specs.SchemaJson.{schema_json, schema_written, additional_json}
-use Rattle.openapi_values.proofs.SchemaLevels.{property-is}
+use Rattle.openapi_values.proofs.CallerLemmas.{property-is}
 use Rattle.typed_values.specs.declared.desc.Desc.{Desc, out-Desc}
 use Rattle.typed_values.specs.declared.desc.Desc.TheOpen.{Desc-F}
 use Rattle.typed_values.specs.declared.desc.Desc.TheViews.{out-roll-Desc, roll-Desc}

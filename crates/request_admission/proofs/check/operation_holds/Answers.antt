@@ -2,7 +2,7 @@ use Rattle.std.proofs.Common.{◌↔◌, IsTrue, codes, sym, ◌∙◌}
 use Rattle.std.proofs.lemmas.Result.{IfOk-weaker}
 use Rattle.openapi_values.specs.Admits.{OperationHolds}
 use Rattle.openapi_values.specs.RequestBodies.{BodyHolds}
-use Rattle.openapi_values.proofs.SoundLevels.{found_sound}
+use Rattle.openapi_values.proofs.CallerLemmas.{found_sound}
 use Rattle.request_admission.proofs.Found.{found}
 use Rattle.request_admission.proofs.OperationTold.{body_told}
 use Rattle.request_admission.proofs.check.operation_holds.Goals as goal

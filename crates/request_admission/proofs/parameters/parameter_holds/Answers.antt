@@ -2,8 +2,7 @@ use Rattle.std.proofs.Common.{codes, ap, ◌∙◌}
 use Rattle.openapi_values.specs.Pages.{query_rule}
 use Rattle.openapi_values.specs.RequestParameters.{placed_holds}
 use Rattle.openapi_values.specs.TextAdmits.{text_admitted}
-use Rattle.openapi_values.proofs.ParameterRead.{parameter_read}
-use Rattle.openapi_values.proofs.SoundLevels.{found_sound}
+use Rattle.openapi_values.proofs.CallerLemmas.{parameter_read, found_sound}
 use Rattle.request_admission.proofs.Found.{found}
 use Rattle.request_admission.proofs.parameters.parameter_holds.Goals as goal
 

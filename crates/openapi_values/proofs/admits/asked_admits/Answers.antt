@@ -1,9 +1,10 @@
-use Rattle.std.proofs.Common.{◌≡◌, ◌∙◌, ℕ, suc, IsTrue, sym, ap, subst, arith}
+use Rattle.std.proofs.Common.{◌≡◌, ◌∙◌, ℕ, suc, ap, arith}
+use Rattle.openapi_values.specs.Asked.{asked_json}
 use Rattle.openapi_values.specs.JsonAdmits.{admits_within}
 use Rattle.openapi_values.specs.Room.{room}
 use Rattle.openapi_values.specs.Steps.{left}
 use Rattle.openapi_values.proofs.StepsLeft.{left_end, of_one}
-use Rattle.openapi_values.proofs.admits.json_admits.Goals as goal
+use Rattle.openapi_values.proofs.admits.asked_admits.Goals as goal
 
 pub returns : goal.returns
 returns c =
@@ -12,5 +13,4 @@ returns c =
     let of_schema = of_one schema _ _ _ c.from_ref.ensures.value c.of_items-of_schema.ensures in
     let of_both = of_one doc _ _ _ c.from_ref-2.ensures.value c.of_items-of_both.ensures in
     let whole : suc (left c.of_items-of_both.result) ≡ room doc schema = omega (arith, of_schema, of_both, left_end) in
-    let same = c.admits_anew.ensures ∙ ap (λ (n : ℕ). admits_within doc n c.args.value.now n schema) whole in
-    (subst IsTrue same, subst IsTrue (sym same))
+    c.admits_anew.ensures ∙ ap (λ (n : ℕ). admits_within doc n (asked_json c.args.asked.now) n schema) whole
