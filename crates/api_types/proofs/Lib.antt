@@ -8,6 +8,6 @@ pub mod Entries
 pub mod AddedInOrder
 pub mod Names
 pub mod References
+pub mod Options
 pub mod Structs
-pub mod Admitted
 pub mod Refusing

@@ -1,4 +1,4 @@
-//! What a Rust type is in a document and on the wire.
+//! What a Rust type is: its name, its descriptor, the definitions behind it, and the trees of its values.
 #![tactic(auto)]
 
 mod additions;
@@ -13,10 +13,8 @@ mod text;
 mod truth;
 mod type_table;
 mod unsigned;
-mod wire;
 
 pub use additions::add_all;
 pub use any_value::AnyValue;
 pub use api_type::ApiType;
 pub use type_table::{Flaw, TypeError, table_of};
-pub use wire::{json_value, value_json};
