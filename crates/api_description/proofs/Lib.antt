@@ -17,7 +17,6 @@ mod Components
 pub mod Agreed
 pub mod Followed
 pub mod CloneLemmas
-mod Options
 pub mod ErrorBodies
 mod OrderedNames
 pub mod SoundOpenApi

@@ -29,7 +29,7 @@ found_by true x d o p more f = f
 found_by false x d o p more f = more f
 
 -- what a name stands for stays, whatever is put behind
-entry_stays : (es : List Definition) (e : Definition) (name : List ℕ) (d : Definition) → entry_of es name ≡ Some d → entry_of (es ++ e ∷ []) name ≡ Some d
+pub entry_stays : (es : List Definition) (e : Definition) (name : List ℕ) (d : Definition) → entry_of es name ≡ Some d → entry_of (es ++ e ∷ []) name ≡ Some d
 entry_stays [] e name d f = absurd (cc f)
 entry_stays (x ∷ es) e name d f = found_by (bytes_eq x.name name) x d (entry_of es name) (entry_of (es ++ e ∷ []) name) (entry_stays es e name d) f
 

@@ -8,6 +8,10 @@ pub mod Entries
 pub mod AddedInOrder
 pub mod Names
 pub mod References
+pub mod OwnReferences
+pub mod Options
 pub mod Structs
-pub mod Admitted
+pub mod Added
+pub mod StructTypes
 pub mod Refusing
+pub mod CallerLemmas

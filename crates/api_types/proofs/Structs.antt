@@ -7,22 +7,26 @@ use Rattle.typed_values.specs.declared.desc.Desc.{Desc, out-Desc}
 use Rattle.typed_values.specs.declared.desc.Desc.TheOpen.{Desc-F}
 use Rattle.typed_values.specs.declared.desc.Desc.TheVariants as descs
 use Rattle.typed_values.specs.declared.desc.Field.{Field}
+use Rattle.typed_values.specs.declared.desc.Presence.{Presence}
+use Rattle.typed_values.specs.declared.desc.Presence.TheVariants.{Required, Nullable, Skipped, Default}
 use Rattle.typed_values.specs.declared.table.Definition.{Definition}
 use Rattle.typed_values.specs.declared.tree.Tree.{Tree, out-Tree}
 use Rattle.typed_values.specs.declared.tree.Tree.TheOpen.{Tree-F}
 use Rattle.typed_values.specs.declared.tree.Tree.TheVariants as trees
 use Rattle.typed_values.specs.declared.tree.Tree.TheViews.{roll-Tree, roll-out-Tree}
+use Rattle.typed_values.specs.Checks.{TakesNull, of_struct, null_twice}
 use Rattle.typed_values.specs.Definitions.{definition_name}
-use Rattle.typed_values.specs.Fits.{field_desc, fields_fit, parts_fit, fits_under}
+use Rattle.typed_values.specs.Fits.{field_desc, option_fits, fields_fit, parts_fit, fits_under}
 use Rattle.typed_values.specs.Levels.{TreeOf}
-use Rattle.typed_values.specs.Parts.{the_whole, in_field, IsPart, of_whole}
+use Rattle.typed_values.specs.Parts.{the_whole, in_option, in_field, IsPart, of_whole}
 use Rattle.typed_values.specs.Reached.{Mentions, IsReached, directly, through}
 use Rattle.schema_values.proofs.CallerLemmas.{contains_first, contains_later, contains_cases}
-use Rattle.typed_values.proofs.CallerLemmas.{fits_struct, parts_at}
+use Rattle.typed_values.proofs.CallerLemmas.{fits_option, fits_struct, skipped_row, parts_at, inner_passes, same_fits}
 use Rattle.api_types.specs.Structs.{Part, definitions_in, fields_in, AreParts, FieldsFitEach, FieldsFitOne}
 use Rattle.api_types.specs.Types.{HoldsAll, IsTableOf, FitsEach, FitsOne, ReachesExactly}
 use Rattle.api_types.proofs.Forms.{both}
 use Rattle.api_types.proofs.Inner.{part_each, part_one}
+use Rattle.api_types.proofs.Options.{option_passes}
 use Rattle.api_types.proofs.Reaching.{rests, reached_by}
 
 -- a name is reached by one of some fields
@@ -60,7 +64,7 @@ module _ (ds es : List Definition) (f : Field) (fs : List Field) where
 
 fields_reach : (ps : List Part) → AreParts ps → FieldsReach (definitions_in ps) (fields_in ps)
 fields_reach [] right = λ table held name. (λ r. absurd (omega (arith, r.1.1)), λ c. absurd (omega (arith, c.1)))
-fields_reach (p ∷ ps) right = one_more p.0 (definitions_in ps) p.1 (fields_in ps) right.0.1 (fields_reach ps right.1)
+fields_reach (p ∷ ps) right = one_more p.0 (definitions_in ps) p.1 (fields_in ps) right.0 (fields_reach ps right.1)
 
 module _ (fs : List Field) (deny : Bool) where
   abbrev struct_desc : Desc
@@ -74,6 +78,23 @@ module _ (fs : List Field) (deny : Bool) where
   by_some : {table : List Definition} (name : List ℕ) → IsReached table struct_desc name → SomeReaches table fs name
   by_some _ (directly name m) = let (f, c, inside) = (mentions name).0 m in (f, c, directly name inside)
   by_some _ (through other name e r found m) = let (f, c, inside) = by_some other r in (f, c, through other name e inside found m)
+
+-- a field's tree is one of its descriptor, or the field may be left out
+kept_or_skipped : (f : Field) → (field_desc f ≡ f.desc) ⊎ (f.presence ≡ Skipped)
+kept_or_skipped f = under f.presence refl where
+  under : (p : Presence) → f.presence ≡ p → (field_desc f ≡ f.desc) ⊎ (f.presence ≡ Skipped)
+  under Required e = inl (rw e refl)
+  under Nullable e = inl (rw e refl)
+  under Skipped e = inr e
+  under (Default tree) e = inl (rw e refl)
+
+skipped_is : (f : Field) → f.presence ≡ Skipped → field_desc f ≡ descs.Option f.desc
+skipped_is f e = rw e refl
+
+option_same : (f g : Tree → Bool) → ((t : Tree) → f t ≡ g t) → (x : TreeOf Tree) → option_fits f x ≡ option_fits g x
+option_same f g same (Tree-F.Some t) = same t
+option_same f g same Tree-F.None = refl
+option_same f g same _ = refl
 
 module _ (whole : List Part) (deny : Bool) where
   abbrev ds : List Definition
@@ -97,28 +118,73 @@ module _ (whole : List Part) (deny : Bool) where
     abbrev fewer : (e : Definition) → Contains p.0 e → Contains ds e
     fewer = λ e c. inside.definitions e (Contains-append_left p.0 (definitions_in ps) e c)
 
+    is_field : Contains (fields_in whole) p.1
+    is_field = inside.fields p.1 (contains_first p.1 (fields_in ps))
+
     stands_there : (table : List Definition) → IsTableOf ds desc table → IsPart table desc p.1.desc
-    stands_there table is = of_whole (in_field (fields_in whole) deny p.1 the_whole (descs.outs-Struct (fields_in whole) deny) (inside.fields p.1 (contains_first p.1 (fields_in ps))))
+    stands_there table is = of_whole (in_field (fields_in whole) deny p.1 the_whole (descs.outs-Struct (fields_in whole) deny) is_field)
 
-    first_each : (t : Tree) → FitsEach p.0 p.1.desc t → (table : List Definition) → IsTableOf ds desc table → fits_under table desc t p.1.desc ≡ true
-    first_each = part_each ds p.0 desc p.1.desc fewer stands_there
+    module _ (skipped : p.1.presence ≡ Skipped) (table : List Definition) (is : IsTableOf ds desc table) where
+      abbrev option : Desc
+      option = descs.Option p.1.desc
 
-    first_one : (t : Tree) (table : List Definition) → IsTableOf ds desc table → fits_under table desc t p.1.desc ≡ true → FitsOne p.0 p.1.desc t
-    first_one = part_one ds p.0 desc p.1.desc fewer stands_there
+      -- a field that may be left out does not take null
+      no_null : TakesNull table p.1.desc → ⊥
+      no_null takes = (is.desc_passes desc the_whole).presences (p.1, of_struct (fields_in whole) deny (descs.outs-Struct (fields_in whole) deny) is_field, null_twice skipped takes)
 
-  each_part : (ps : List Part) → Inside ps → AreParts ps → (ts : List Tree) → FieldsFitEach ps ts → (table : List Definition) → IsTableOf ds desc table → fields_fit (fits_under table desc) (fields_in ps) ts ≡ true
-  each_part [] inside right [] fit table is = refl
-  each_part [] inside right (t ∷ ts) fit table is = absurd fit
-  each_part (p ∷ ps) inside right [] fit table is = absurd fit
-  each_part (p ∷ ps) inside right (t ∷ ts) fit table is = rw (right.0.0, first_each p ps inside t fit.0 table is) (each_part ps (rest_inside p ps inside) right.1 ts fit.1 table is)
+      option_table : IsTableOf p.0 option table
+      option_table = record {
+        holds = λ e c. is.holds e (fewer e c);
+        table_passes = is.table_passes;
+        desc_passes = option_passes p.1.desc table no_null (inner_passes table desc p.1.desc (stands_there table is) is.table_passes is.desc_passes);
+      }
 
-  one_part : (ps : List Part) → Inside ps → AreParts ps → (ts : List Tree) (table : List Definition) → IsTableOf ds desc table → fields_fit (fits_under table desc) (fields_in ps) ts ≡ true → FieldsFitOne ps ts
-  one_part [] inside right [] table is fit = tt
-  one_part [] inside right (t ∷ ts) table is fit = absurd (cc fit)
-  one_part (p ∷ ps) inside right [] table is fit = absurd (cc fit)
-  one_part (p ∷ ps) inside right (t ∷ ts) table is fit =
+      in_both : (t : Tree) → fits_under table desc t p.1.desc ≡ fits_under table option t p.1.desc
+      in_both t =
+          same_fits table desc p.1.desc (stands_there table is) is.table_passes.guarded t
+          ∙ sym (same_fits table option p.1.desc (of_whole (in_option p.1.desc the_whole (descs.outs-Option p.1.desc))) is.table_passes.guarded t)
+
+      same_option : (t : Tree) → fits_under table desc t option ≡ fits_under table option t option
+      same_option t =
+          skipped_row table desc t p.1.desc
+          ∙ option_same (λ s. fits_under table desc s p.1.desc) (λ s. fits_under table option s p.1.desc) in_both (out-Tree t)
+          ∙ sym (fits_option table option t option (rests option_table) p.1.desc refl)
+
+    first_each : (t : Tree) → FitsEach p.0 (field_desc p.1) t → (table : List Definition) → IsTableOf ds desc table → fits_under table desc t (field_desc p.1) ≡ true
+    first_each t each table is =
+        elim (kept_or_skipped p.1) [
+          | inl kept ↦
+              subst (λ (d : Desc). fits_under table desc t d ≡ true) (sym kept)
+              (part_each ds p.0 desc p.1.desc fewer stands_there t (subst (λ (d : Desc). FitsEach p.0 d t) kept each) table is)
+          | inr skipped ↦
+              subst (λ (d : Desc). fits_under table desc t d ≡ true) (sym (skipped_is p.1 skipped))
+              (same_option skipped table is t ∙ subst (λ (d : Desc). FitsEach p.0 d t) (skipped_is p.1 skipped) each table (option_table skipped table is))
+        ]
+
+    first_one : (t : Tree) (table : List Definition) → IsTableOf ds desc table → fits_under table desc t (field_desc p.1) ≡ true → FitsOne p.0 (field_desc p.1) t
+    first_one t table is fit =
+        elim (kept_or_skipped p.1) [
+          | inl kept ↦
+              subst (λ (d : Desc). FitsOne p.0 d t) (sym kept)
+              (part_one ds p.0 desc p.1.desc fewer stands_there t table is (subst (λ (d : Desc). fits_under table desc t d ≡ true) kept fit))
+          | inr skipped ↦
+              subst (λ (d : Desc). FitsOne p.0 d t) (sym (skipped_is p.1 skipped))
+              (table, option_table skipped table is, sym (same_option skipped table is t) ∙ subst (λ (d : Desc). fits_under table desc t d ≡ true) (skipped_is p.1 skipped) fit)
+        ]
+
+  each_part : (ps : List Part) → Inside ps → (ts : List Tree) → FieldsFitEach ps ts → (table : List Definition) → IsTableOf ds desc table → fields_fit (fits_under table desc) (fields_in ps) ts ≡ true
+  each_part [] inside [] fit table is = refl
+  each_part [] inside (t ∷ ts) fit table is = absurd fit
+  each_part (p ∷ ps) inside [] fit table is = absurd fit
+  each_part (p ∷ ps) inside (t ∷ ts) fit table is = rw (first_each p ps inside t fit.0 table is) (each_part ps (rest_inside p ps inside) ts fit.1 table is)
+
+  one_part : (ps : List Part) → Inside ps → (ts : List Tree) (table : List Definition) → IsTableOf ds desc table → fields_fit (fits_under table desc) (fields_in ps) ts ≡ true → FieldsFitOne ps ts
+  one_part [] inside [] table is fit = tt
+  one_part [] inside (t ∷ ts) table is fit = absurd (cc fit)
+  one_part (p ∷ ps) inside [] table is fit = absurd (cc fit)
+  one_part (p ∷ ps) inside (t ∷ ts) table is fit =
       let (first, rest) = both (fits_under table desc t (field_desc p.1)) (fields_fit (fits_under table desc) (fields_in ps) ts) fit in
-      (first_one p ps inside t table is (ap (fits_under table desc t) (sym right.0.0) ∙ first), one_part ps (rest_inside p ps inside) right.1 ts table is rest)
+      (first_one p ps inside t table is first, one_part ps (rest_inside p ps inside) ts table is rest)
 
   pub struct_reaches : AreParts whole → ReachesExactly ds desc
   struct_reaches right table held name =
@@ -127,11 +193,11 @@ module _ (whole : List Part) (deny : Bool) where
         λ c. let (f, inside, r) = each.1 c in reached_by (λ n m. (mentions (fields_in whole) deny n).1 (f, inside, m)) name r,
       )
 
-  pub struct_each : AreParts whole → (ts : List Tree) → FieldsFitEach whole ts → FitsEach ds desc (trees.Fields ts)
-  struct_each right ts fit table is =
+  pub struct_each : (ts : List Tree) → FieldsFitEach whole ts → FitsEach ds desc (trees.Fields ts)
+  struct_each ts fit table is =
       fits_struct table desc (trees.Fields ts) desc (rests is) (fields_in whole) deny refl
       ∙ ap (parts_fit (fits_under table desc) (fields_in whole)) (trees.outs-Fields ts)
-      ∙ each_part whole all_inside right ts fit table is
+      ∙ each_part whole all_inside ts fit table is
 
   fields_form : (t : Tree) (fits : Tree → Desc → Bool) (x : TreeOf Tree) → roll-Tree x ≡ t → parts_fit fits (fields_in whole) x ≡ true → (ts : List Tree) × (t ≡ trees.Fields ts)
   fields_form t fits (Tree-F.Fields ts) is fit = (ts, sym is ∙ trees.rolls-Fields ts)
@@ -140,7 +206,7 @@ module _ (whole : List Part) (deny : Bool) where
   pub struct_one : (t : Tree) → FitsOne ds desc t → (ts : List Tree) × (t ≡ trees.Fields ts)
   struct_one t (table, is, fit) = fields_form t (fits_under table desc) (out-Tree t) (roll-out-Tree t) (sym (fits_struct table desc t desc (rests is) (fields_in whole) deny refl) ∙ fit)
 
-  pub struct_at : AreParts whole → (t : Tree) (ts : List Tree) → FitsOne ds desc t → t ≡ trees.Fields ts → FieldsFitOne whole ts
-  struct_at right t ts (table, is, fit) e =
-      one_part whole all_inside right ts table is
+  pub struct_at : (t : Tree) (ts : List Tree) → FitsOne ds desc t → t ≡ trees.Fields ts → FieldsFitOne whole ts
+  struct_at t ts (table, is, fit) e =
+      one_part whole all_inside ts table is
       (sym (ap (parts_fit (fits_under table desc) (fields_in whole)) (ap out-Tree e ∙ trees.outs-Fields ts)) ∙ sym (fits_struct table desc t desc (rests is) (fields_in whole) deny refl) ∙ fit)

@@ -4,3 +4,7 @@ pub mod Options
 pub mod Maps
 pub mod Structs
 pub mod TypeTables
+pub mod Adds
+pub mod Kinds
+pub mod Heads
+pub mod StructTypes

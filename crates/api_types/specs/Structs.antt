@@ -1,5 +1,5 @@
 -- Structs, field by field.
-use Rattle.std.specs.Prelude.{◌≡◌, ◌++◌, ⊤, List, [], ◌∷◌}
+use Rattle.std.specs.Prelude.{◌++◌, ⊤, List, [], ◌∷◌}
 use Rattle.std.specs.List.{AllByRecursion}
 use Rattle.typed_values.specs.declared.desc.Field.{Field}
 use Rattle.typed_values.specs.declared.table.Definition.{Definition}
@@ -21,20 +21,20 @@ abbrev pub fields_in : List Part → List Field
 fields_in [] = []
 fields_in (p ∷ ps) = p.1 ∷ fields_in ps
 
--- each field reaches the definitions before it, and may not be skipped
+-- each field reaches the definitions before it
 abbrev pub AreParts : List Part → Type 0
-AreParts ps = AllByRecursion (λ p. (field_desc p.1 ≡ p.1.desc) × ReachesExactly p.0 p.1.desc) ps
+AreParts ps = AllByRecursion (λ p. ReachesExactly p.0 p.1.desc) ps
 
--- one tree for each field, which is a value of its descriptor in each table that has its definitions
+-- one tree for each field, of an option where the field may be left out, which fits in each table that has its definitions
 abbrev pub FieldsFitEach : List Part → List Tree → Type 0
 FieldsFitEach [] [] = ⊤
 FieldsFitEach [] (t ∷ ts) = ⊥
 FieldsFitEach (p ∷ ps) [] = ⊥
-FieldsFitEach (p ∷ ps) (t ∷ ts) = FitsEach p.0 p.1.desc t × FieldsFitEach ps ts
+FieldsFitEach (p ∷ ps) (t ∷ ts) = FitsEach p.0 (field_desc p.1) t × FieldsFitEach ps ts
 
--- one tree for each field, which is a value of its descriptor in one such table
+-- one tree for each field, which fits in one such table
 abbrev pub FieldsFitOne : List Part → List Tree → Type 0
 FieldsFitOne [] [] = ⊤
 FieldsFitOne [] (t ∷ ts) = ⊥
 FieldsFitOne (p ∷ ps) [] = ⊥
-FieldsFitOne (p ∷ ps) (t ∷ ts) = FitsOne p.0 p.1.desc t × FieldsFitOne ps ts
+FieldsFitOne (p ∷ ps) (t ∷ ts) = FitsOne p.0 (field_desc p.1) t × FieldsFitOne ps ts

@@ -78,12 +78,18 @@ impl ApiType for AnyValue {
         Ok(Desc::Any)
     }
 
+    fn reach() {}
+
     fn add_definitions(_alloc: Global, _table: &mut DescTable) -> Result<(), AddError> {
         Ok(())
     }
 
     fn to_tree(&self, alloc: Global) -> Result<Tree, AllocError> {
         Ok(Tree::Any(self.json().copy(alloc)?))
+    }
+
+    fn fits(&self) {
+        let _ = self.json();
     }
 
     fn from_tree(alloc: Global, tree: &Tree) -> Result<AnyValue, AllocError> {

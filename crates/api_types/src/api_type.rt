@@ -31,8 +31,11 @@ pub trait ApiType: Sized + Drop {
 
     /// The descriptor of the type's values.
     fn descriptor(alloc: Global) -> Result<Desc, AllocError>
-        ensures desc { IfOk result (λ desc. desc ≡ desc_of) }
-        ensures reached { ReachesExactly definitions_of desc_of };
+        ensures { IfOk result (λ desc. desc ≡ desc_of) };
+
+    /// Does nothing. It shows that the descriptor reaches these definitions and no other.
+    fn reach()
+        ensures { ReachesExactly definitions_of desc_of };
 
     /// Adds the definitions that the descriptor reaches: all of them, or none where one clashes. The first
     /// clash is told.
@@ -44,8 +47,11 @@ pub trait ApiType: Sized + Drop {
 
     /// The tree of a value.
     fn to_tree(&self, alloc: Global) -> Result<Tree, AllocError>
-        ensures tree { IfOk result (λ tree. tree ≡ tree_of self.now) }
-        ensures fits { IfOk result (FitsEach definitions_of desc_of) };
+        ensures { IfOk result (λ tree. tree ≡ tree_of self.now) };
+
+    /// Does nothing. It shows that the tree of this value fits, whether or not there is memory for it.
+    fn fits(&self)
+        ensures { FitsEach definitions_of desc_of (tree_of self.now) };
 
     /// The value of a tree that fits.
     fn from_tree(alloc: Global, tree: &Tree) -> Result<Self, AllocError>

@@ -32,12 +32,20 @@ impl<T: ApiType> ApiType for List<T> {
         })
     }
 
+    fn reach() {
+        T::reach();
+    }
+
     fn add_definitions(alloc: Global, table: &mut DescTable) -> Result<(), AddError> {
         T::add_definitions(alloc, table)
     }
 
     fn to_tree(&self, alloc: Global) -> Result<Tree, AllocError> {
         Ok(Tree::List(trees_of(alloc, self.as_slice())?))
+    }
+
+    fn fits(&self) {
+        all_fit(self.as_slice());
     }
 
     fn from_tree(alloc: Global, tree: &Tree) -> Result<List<T>, AllocError> {
@@ -49,14 +57,21 @@ impl<T: ApiType> ApiType for List<T> {
 }
 
 fn trees_of<T: ApiType>(alloc: Global, values: &[T]) -> Result<List<Tree>, AllocError>
-    ensures trees { IfOk result (λ trees. trees ≡ map T.tree_of values.now) }
-    ensures fit { IfOk result (AllByRecursion (FitsEach T.definitions_of T.desc_of)) }
+    ensures { IfOk result (λ trees. trees ≡ map T.tree_of values.now) }
 {
     let mut trees = List::new(alloc);
     for value in values {
         trees.push(value.to_tree(alloc)?)?;
     }
     Ok(trees)
+}
+
+fn all_fit<T: ApiType>(values: &[T])
+    ensures { AllByRecursion (FitsEach T.definitions_of T.desc_of) (map T.tree_of values.now) }
+{
+    for value in values {
+        value.fits();
+    }
 }
 
 fn values_of<T: ApiType>(alloc: Global, trees: &[Tree]) -> Result<List<T>, AllocError>

@@ -31,12 +31,20 @@ impl<T: ApiType> ApiType for BTreeMap<Text, T> {
         Ok(Desc::Map(Boxed::new(alloc, T::descriptor(alloc)?)?))
     }
 
+    fn reach() {
+        T::reach();
+    }
+
     fn add_definitions(alloc: Global, table: &mut DescTable) -> Result<(), AddError> {
         T::add_definitions(alloc, table)
     }
 
     fn to_tree(&self, alloc: Global) -> Result<Tree, AllocError> {
         Ok(Tree::Map(pairs_of(alloc, self)?))
+    }
+
+    fn fits(&self) {
+        all_fit(self);
     }
 
     fn from_tree(alloc: Global, tree: &Tree) -> Result<BTreeMap<Text, T>, AllocError> {
@@ -48,10 +56,7 @@ impl<T: ApiType> ApiType for BTreeMap<Text, T> {
 }
 
 fn pairs_of<T: ApiType>(alloc: Global, values: &BTreeMap<Text, T>) -> Result<List<Pair>, AllocError>
-    ensures pairs { IfOk result (λ pairs. pairs ≡ map (pair_of T.tree_of) values.now.entries) }
-    ensures ascending { IfOk result (λ pairs. IsTrue (are_ascending (map key_of pairs))) }
-    ensures fit { IfOk result
-        (AllByRecursion (λ pair. FitsEach T.definitions_of T.desc_of (value_of pair))) }
+    ensures { IfOk result (λ pairs. pairs ≡ map (pair_of T.tree_of) values.now.entries) }
 {
     let mut pairs = List::new(alloc);
     for (key, value) in values.iter() {
@@ -60,6 +65,17 @@ fn pairs_of<T: ApiType>(alloc: Global, values: &BTreeMap<Text, T>) -> Result<Lis
         pairs.push(Pair { key, value })?;
     }
     Ok(pairs)
+}
+
+fn all_fit<T: ApiType>(values: &BTreeMap<Text, T>)
+    ensures ascending { IsTrue (are_ascending (map key_of (map (pair_of T.tree_of) values.now.entries))) }
+    ensures fit { AllByRecursion (λ pair. FitsEach T.definitions_of T.desc_of (value_of pair))
+        (map (pair_of T.tree_of) values.now.entries) }
+{
+    for (key, value) in values.iter() {
+        let _ = key;
+        value.fits();
+    }
 }
 
 fn map_of<T: ApiType>(alloc: Global, pairs: &[Pair]) -> Result<BTreeMap<Text, T>, AllocError>

@@ -8,8 +8,7 @@ use typed_values::{Desc, IntKind, Tree};
 
 /// The descriptor of all numbers of a kind.
 pub(crate) fn number_desc(kind: IntKind) -> Desc
-    ensures desc { result ≡ descs.Int kind None None }
-    ensures reached { ReachesExactly [] (descs.Int kind None None) }
+    ensures { result ≡ descs.Int kind None None }
 {
     Desc::Int {
         kind,
@@ -18,15 +17,21 @@ pub(crate) fn number_desc(kind: IntKind) -> Desc
     }
 }
 
-/// The tree of a number of a kind.
-pub(crate) fn number_tree(kind: IntKind, number: i128) -> Tree
-    requires least { least_of kind ≤ℤ number }
-    requires greatest { number ≤ℤ greatest_of kind }
-    ensures tree { result ≡ trees.Int number }
-    ensures fits { FitsEach [] (descs.Int kind None None) (trees.Int number) }
+/// Does nothing. It shows that the numbers of a kind reach no definition.
+pub(crate) fn number_reach(kind: IntKind)
+    ensures { ReachesExactly [] (descs.Int kind None None) }
 {
     let _ = kind;
-    Tree::Int(number)
+}
+
+/// Does nothing. It shows that the tree of a number of a kind fits.
+pub(crate) fn number_fits(kind: IntKind, number: i128)
+    requires least { least_of kind ≤ℤ number }
+    requires greatest { number ≤ℤ greatest_of kind }
+    ensures { FitsEach [] (descs.Int kind None None) (trees.Int number) }
+{
+    let _ = kind;
+    let _ = number;
 }
 
 /// The number of a tree that fits a kind.

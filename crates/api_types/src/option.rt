@@ -26,6 +26,10 @@ impl<T: ApiType> ApiType for Option<T> {
         Ok(Desc::Option(Boxed::new(alloc, T::descriptor(alloc)?)?))
     }
 
+    fn reach() {
+        T::reach();
+    }
+
     fn add_definitions(alloc: Global, table: &mut DescTable) -> Result<(), AddError> {
         T::add_definitions(alloc, table)
     }
@@ -34,6 +38,13 @@ impl<T: ApiType> ApiType for Option<T> {
         match self {
             Some(value) => Ok(Tree::Some(Boxed::new(alloc, value.to_tree(alloc)?)?)),
             None => Ok(Tree::None),
+        }
+    }
+
+    fn fits(&self) {
+        match self {
+            Some(value) => value.fits(),
+            None => {}
         }
     }
 

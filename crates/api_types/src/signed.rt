@@ -4,7 +4,7 @@ ghost use Rattle.typed_values.specs.declared.desc.IntKind.TheVariants as kinds;
 ghost use Rattle.typed_values.specs.declared.tree.Tree.TheVariants as trees;
 
 use crate::api_type::ApiType;
-use crate::number::{number_desc, number_in, number_tree};
+use crate::number::{number_desc, number_fits, number_in, number_reach};
 use schema_values::Text;
 use std::alloc::{AllocError, Global};
 use typed_values::{AddError, Desc, DescTable, IntKind, Tree};
@@ -26,12 +26,20 @@ impl ApiType for i8 {
         Ok(number_desc(IntKind::I8))
     }
 
+    fn reach() {
+        number_reach(IntKind::I8);
+    }
+
     fn add_definitions(_alloc: Global, _table: &mut DescTable) -> Result<(), AddError> {
         Ok(())
     }
 
     fn to_tree(&self, _alloc: Global) -> Result<Tree, AllocError> {
-        Ok(number_tree(IntKind::I8, i128::from(*self)))
+        Ok(Tree::Int(i128::from(*self)))
+    }
+
+    fn fits(&self) {
+        number_fits(IntKind::I8, i128::from(*self));
     }
 
     fn from_tree(_alloc: Global, tree: &Tree) -> Result<i8, AllocError> {
@@ -56,12 +64,20 @@ impl ApiType for i16 {
         Ok(number_desc(IntKind::I16))
     }
 
+    fn reach() {
+        number_reach(IntKind::I16);
+    }
+
     fn add_definitions(_alloc: Global, _table: &mut DescTable) -> Result<(), AddError> {
         Ok(())
     }
 
     fn to_tree(&self, _alloc: Global) -> Result<Tree, AllocError> {
-        Ok(number_tree(IntKind::I16, i128::from(*self)))
+        Ok(Tree::Int(i128::from(*self)))
+    }
+
+    fn fits(&self) {
+        number_fits(IntKind::I16, i128::from(*self));
     }
 
     fn from_tree(_alloc: Global, tree: &Tree) -> Result<i16, AllocError> {
@@ -86,12 +102,20 @@ impl ApiType for i32 {
         Ok(number_desc(IntKind::I32))
     }
 
+    fn reach() {
+        number_reach(IntKind::I32);
+    }
+
     fn add_definitions(_alloc: Global, _table: &mut DescTable) -> Result<(), AddError> {
         Ok(())
     }
 
     fn to_tree(&self, _alloc: Global) -> Result<Tree, AllocError> {
-        Ok(number_tree(IntKind::I32, i128::from(*self)))
+        Ok(Tree::Int(i128::from(*self)))
+    }
+
+    fn fits(&self) {
+        number_fits(IntKind::I32, i128::from(*self));
     }
 
     fn from_tree(_alloc: Global, tree: &Tree) -> Result<i32, AllocError> {
@@ -116,12 +140,20 @@ impl ApiType for i64 {
         Ok(number_desc(IntKind::I64))
     }
 
+    fn reach() {
+        number_reach(IntKind::I64);
+    }
+
     fn add_definitions(_alloc: Global, _table: &mut DescTable) -> Result<(), AddError> {
         Ok(())
     }
 
     fn to_tree(&self, _alloc: Global) -> Result<Tree, AllocError> {
-        Ok(number_tree(IntKind::I64, i128::from(*self)))
+        Ok(Tree::Int(i128::from(*self)))
+    }
+
+    fn fits(&self) {
+        number_fits(IntKind::I64, i128::from(*self));
     }
 
     fn from_tree(_alloc: Global, tree: &Tree) -> Result<i64, AllocError> {

@@ -29,6 +29,8 @@ impl ApiType for Text {
         })
     }
 
+    fn reach() {}
+
     fn add_definitions(_alloc: Global, _table: &mut DescTable) -> Result<(), AddError> {
         Ok(())
     }
@@ -36,6 +38,8 @@ impl ApiType for Text {
     fn to_tree(&self, alloc: Global) -> Result<Tree, AllocError> {
         Ok(Tree::Text(self.copy(alloc)?))
     }
+
+    fn fits(&self) {}
 
     fn from_tree(alloc: Global, tree: &Tree) -> Result<Text, AllocError> {
         text_in(tree).copy(alloc)
@@ -69,6 +73,8 @@ impl ApiType for char {
         Ok(Desc::Char)
     }
 
+    fn reach() {}
+
     fn add_definitions(_alloc: Global, _table: &mut DescTable) -> Result<(), AddError> {
         Ok(())
     }
@@ -78,6 +84,8 @@ impl ApiType for char {
         text.push(*self)?;
         Ok(Tree::Text(text))
     }
+
+    fn fits(&self) {}
 
     fn from_tree(_alloc: Global, tree: &Tree) -> Result<char, AllocError> {
         Ok(character_in(tree))

@@ -29,6 +29,8 @@ impl ApiType for bool {
         Ok(Desc::Bool)
     }
 
+    fn reach() {}
+
     fn add_definitions(_alloc: Global, _table: &mut DescTable) -> Result<(), AddError> {
         Ok(())
     }
@@ -36,6 +38,8 @@ impl ApiType for bool {
     fn to_tree(&self, _alloc: Global) -> Result<Tree, AllocError> {
         Ok(Tree::Bool(*self))
     }
+
+    fn fits(&self) {}
 
     fn from_tree(_alloc: Global, tree: &Tree) -> Result<bool, AllocError> {
         Ok(truth_in(tree))

@@ -92,7 +92,7 @@ impl Flaw {
     }
 }
 
-/// The table of a type's definitions, with which `value_json` and `json_value` take the type's values.
+/// The table of a type's definitions, beside which the type's values are read and written.
 pub fn table_of<T: ApiType>(alloc: Global) -> Result<DescTable, TypeError>
     ensures ok { IfOk result (IsTableOf T.definitions_of T.desc_of) }
     ensures made { IfOk result (λ table. table ≡ with_all [] T.definitions_of) }

@@ -4,7 +4,7 @@ ghost use Rattle.typed_values.specs.declared.desc.IntKind.TheVariants as kinds;
 ghost use Rattle.typed_values.specs.declared.tree.Tree.TheVariants as trees;
 
 use crate::api_type::ApiType;
-use crate::number::{number_desc, number_in, number_tree};
+use crate::number::{number_desc, number_fits, number_in, number_reach};
 use schema_values::Text;
 use std::alloc::{AllocError, Global};
 use typed_values::{AddError, Desc, DescTable, IntKind, Tree};
@@ -26,12 +26,20 @@ impl ApiType for u8 {
         Ok(number_desc(IntKind::U8))
     }
 
+    fn reach() {
+        number_reach(IntKind::U8);
+    }
+
     fn add_definitions(_alloc: Global, _table: &mut DescTable) -> Result<(), AddError> {
         Ok(())
     }
 
     fn to_tree(&self, _alloc: Global) -> Result<Tree, AllocError> {
-        Ok(number_tree(IntKind::U8, i128::from(*self)))
+        Ok(Tree::Int(i128::from(*self)))
+    }
+
+    fn fits(&self) {
+        number_fits(IntKind::U8, i128::from(*self));
     }
 
     fn from_tree(_alloc: Global, tree: &Tree) -> Result<u8, AllocError> {
@@ -56,12 +64,20 @@ impl ApiType for u16 {
         Ok(number_desc(IntKind::U16))
     }
 
+    fn reach() {
+        number_reach(IntKind::U16);
+    }
+
     fn add_definitions(_alloc: Global, _table: &mut DescTable) -> Result<(), AddError> {
         Ok(())
     }
 
     fn to_tree(&self, _alloc: Global) -> Result<Tree, AllocError> {
-        Ok(number_tree(IntKind::U16, i128::from(*self)))
+        Ok(Tree::Int(i128::from(*self)))
+    }
+
+    fn fits(&self) {
+        number_fits(IntKind::U16, i128::from(*self));
     }
 
     fn from_tree(_alloc: Global, tree: &Tree) -> Result<u16, AllocError> {
@@ -86,12 +102,20 @@ impl ApiType for u32 {
         Ok(number_desc(IntKind::U32))
     }
 
+    fn reach() {
+        number_reach(IntKind::U32);
+    }
+
     fn add_definitions(_alloc: Global, _table: &mut DescTable) -> Result<(), AddError> {
         Ok(())
     }
 
     fn to_tree(&self, _alloc: Global) -> Result<Tree, AllocError> {
-        Ok(number_tree(IntKind::U32, i128::from(*self)))
+        Ok(Tree::Int(i128::from(*self)))
+    }
+
+    fn fits(&self) {
+        number_fits(IntKind::U32, i128::from(*self));
     }
 
     fn from_tree(_alloc: Global, tree: &Tree) -> Result<u32, AllocError> {
@@ -116,12 +140,20 @@ impl ApiType for u64 {
         Ok(number_desc(IntKind::U64))
     }
 
+    fn reach() {
+        number_reach(IntKind::U64);
+    }
+
     fn add_definitions(_alloc: Global, _table: &mut DescTable) -> Result<(), AddError> {
         Ok(())
     }
 
     fn to_tree(&self, _alloc: Global) -> Result<Tree, AllocError> {
-        Ok(number_tree(IntKind::U64, i128::from(*self)))
+        Ok(Tree::Int(i128::from(*self)))
+    }
+
+    fn fits(&self) {
+        number_fits(IntKind::U64, i128::from(*self));
     }
 
     fn from_tree(_alloc: Global, tree: &Tree) -> Result<u64, AllocError> {

@@ -1,9 +1,10 @@
 //! Values of types of one's own, as Rust has them.
-use api_types::{ApiType, json_value, table_of};
+use api_types::{ApiType, table_of};
 use own_types::{Color, Point};
 use schema_values::{Boxed, Json};
 use std::alloc::Global;
 use std::test::Fail;
+use type_wire::json_value;
 use typed_values::Tree;
 
 /// The value that a text of JSON is read as.

@@ -49,12 +49,18 @@ impl ApiType for Color {
         Ok(Desc::Ref(Text::from_ascii(alloc, "Color")?))
     }
 
+    fn reach() {}
+
     fn add_definitions(alloc: Global, table: &mut DescTable) -> Result<(), AddError> {
         add_all(alloc, table, &[definition(alloc)?])
     }
 
     fn to_tree(&self, alloc: Global) -> Result<Tree, AllocError> {
         Ok(Tree::Variant(self.place(), Boxed::new(alloc, Tree::Unit)?))
+    }
+
+    fn fits(&self) {
+        let _ = self.place();
     }
 
     fn from_tree(_alloc: Global, tree: &Tree) -> Result<Color, AllocError> {

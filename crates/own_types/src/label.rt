@@ -69,12 +69,18 @@ impl ApiType for Label {
         })
     }
 
+    fn reach() {}
+
     fn add_definitions(_alloc: Global, _table: &mut DescTable) -> Result<(), AddError> {
         Ok(())
     }
 
     fn to_tree(&self, alloc: Global) -> Result<Tree, AllocError> {
         Ok(Tree::Text(self.text().copy(alloc)?))
+    }
+
+    fn fits(&self) {
+        let _ = self.text();
     }
 
     fn from_tree(alloc: Global, tree: &Tree) -> Result<Label, AllocError> {

@@ -40,6 +40,8 @@ impl ApiType for Point {
         Ok(Desc::Ref(Text::from_ascii(alloc, "Point")?))
     }
 
+    fn reach() {}
+
     fn add_definitions(alloc: Global, table: &mut DescTable) -> Result<(), AddError> {
         add_all(
             alloc,
@@ -54,6 +56,12 @@ impl ApiType for Point {
         trees.push(self.color.to_tree(alloc)?)?;
         trees.push(self.n.to_tree(alloc)?)?;
         Ok(Tree::Fields(trees))
+    }
+
+    fn fits(&self) {
+        self.label.fits();
+        self.color.fits();
+        self.n.fits();
     }
 
     fn from_tree(alloc: Global, tree: &Tree) -> Result<Point, AllocError> {

@@ -1,12 +1,13 @@
 //! Calls on the types that a document describes.
 ghost use Rattle.api_types.specs.Types.{IsTableOf};
 
-use api_types::{AnyValue, ApiType, Flaw, TypeError, json_value, table_of, value_json};
+use api_types::{AnyValue, ApiType, Flaw, TypeError, table_of};
 use case_notation::{CaseError, form, given, put, text_of, tree_noted};
 use own_types::{Color, Label, Point};
 use schema_values::{Json, List, Member, Text};
 use std::alloc::{AllocError, Global};
 use std::collections::BTreeMap;
+use type_wire::{json_value, value_json};
 use typed_values::{DecodeError, DescTable, Fault};
 
 /// What is told of the JSON of a case as a value of the type of this name.

@@ -70,6 +70,8 @@ impl ApiType for HttpErrorResponseBody {
         Ok(Desc::Ref(Text::from_ascii(alloc, "Error")?))
     }
 
+    fn reach() {}
+
     fn add_definitions(alloc: Global, table: &mut DescTable) -> Result<(), AddError> {
         add_all(alloc, table, &[error_definition(alloc)?])
     }
@@ -81,6 +83,8 @@ impl ApiType for HttpErrorResponseBody {
         trees.push(self.message.to_tree(alloc)?)?;
         Ok(Tree::Fields(trees))
     }
+
+    fn fits(&self) {}
 
     fn from_tree(alloc: Global, tree: &Tree) -> Result<HttpErrorResponseBody, AllocError> {
         match trees_in(tree) {

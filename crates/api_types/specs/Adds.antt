@@ -1,0 +1,12 @@
+-- What a call adds to a table.
+use Rattle.std.specs.Prelude.{◌≡◌, List, Result, OnOk, IfErr}
+use Rattle.typed_values.specs.declared.table.Definition.{Definition}
+use Rattle.typed_values.specs.declared.table.AddError.{AddError}
+use Rattle.api_types.specs.Additions.{with_all, AreRefused}
+use Rattle.api_types.specs.Types.{HoldsAll}
+
+-- all of some definitions are added and stand there, or the first clash is told
+pub record AddsAll {T : Type 0} (result : Result T AddError) (old ds new : List Definition) : Type 0 where
+  pub added : OnOk result (new ≡ with_all old ds)
+  pub held : OnOk result (HoldsAll new ds)
+  pub refused : IfErr result (AreRefused old ds)
