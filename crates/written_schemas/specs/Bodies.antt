@@ -9,7 +9,8 @@ use Rattle.typed_values.specs.declared.desc.Desc.{Desc}
 use Rattle.typed_values.specs.declared.table.Definition.{Definition}
 use Rattle.typed_values.specs.SchemaTable.{schema_json_titled}
 
--- the operation of a path and a method does not answer in pages, has no parameters and takes JSON alone, under the schema of a descriptor, which has a name
+-- the operation of a path and a method does not answer in pages, has no parameters, takes no octet stream, and takes JSON
+-- under the schema of a descriptor, which has a name
 pub record TakesJson (document : OpenApi) (path method name : List ℕ) (table : List Definition) (desc : Desc) : Type 0 where
   pub operation : Operation
   pub listed : operation_in document path method ≡ Some operation
