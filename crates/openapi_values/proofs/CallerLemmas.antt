@@ -10,7 +10,8 @@ pub use Rattle.openapi_values.proofs.Steps.{admits-zero, admits-suc}
 pub use Rattle.openapi_values.proofs.RoomLemmas.{values_is, values_row}
 -- ---- a written document: what stands in it, and that it is sound
 pub use Rattle.openapi_values.proofs.Stands.{get-object, operation-stands, definition-stands}
-pub use Rattle.openapi_values.proofs.SchemasOfDocument.{total, total_cons, schemas_in, definition_found, schemas_fit}
+unfoldable pub use Rattle.openapi_values.proofs.SchemasOfDocument.{total}
+pub use Rattle.openapi_values.proofs.SchemasOfDocument.{total_cons, schemas_in, definition_found, schemas_fit}
 pub use Rattle.openapi_values.proofs.SoundDocuments.{document_sound}
 -- ---- requests that an operation admits, and responses that conform to it
 pub use Rattle.openapi_values.proofs.ParameterRead.{parameter_read}
