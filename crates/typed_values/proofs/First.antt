@@ -30,6 +30,20 @@ module _ (A : TableError → Type 0) where
   none_before n le doubled bad dangling unguarded empty null clash range BadRange lt = range lt
   none_before n le doubled bad dangling unguarded empty null clash range BadPresence lt = absurd (omega arith)
 
+  pub first_doubled : A DoubledName → IsFirst A DoubledName
+  unfolding NoneBefore
+  first_doubled applies = record {
+    applies = applies;
+    none_before = none_before 0 (omega arith) (λ lt. absurd (omega arith)) (λ lt. absurd (omega arith)) (λ lt. absurd (omega arith)) (λ name lt. absurd (omega arith)) (λ lt. absurd (omega arith)) (λ lt. absurd (omega arith)) (λ lt. absurd (omega arith)) (λ lt. absurd (omega arith));
+  }
+
+  pub first_bad : (A DoubledName → ⊥) → A BadName → IsFirst A BadName
+  unfolding NoneBefore
+  first_bad doubled applies = record {
+    applies = applies;
+    none_before = none_before 1 (omega arith) (λ lt. doubled) (λ lt. absurd (omega arith)) (λ lt. absurd (omega arith)) (λ name lt. absurd (omega arith)) (λ lt. absurd (omega arith)) (λ lt. absurd (omega arith)) (λ lt. absurd (omega arith)) (λ lt. absurd (omega arith));
+  }
+
   module _ (doubled : A DoubledName → ⊥) (bad : A BadName → ⊥) where
     pub first_dangling : A Dangling → IsFirst A Dangling
     unfolding NoneBefore
@@ -98,6 +112,18 @@ desc_passes table desc doubled dangling empty null clash range presence d s = re
   presences = λ h. presence (d, s, h);
 }
 
+-- a descriptor to which one applies does not pass
+pub desc_fails : (table : List Definition) (desc : Desc) (error : TableError) → AppliesToDesc table desc error → DescPasses table desc → ⊥
+desc_fails table desc DoubledName h passes = (passes h.0 h.1).names_distinct h.2
+desc_fails table desc BadName h passes = h.2
+desc_fails table desc Dangling h passes = (passes h.0 h.1).defined h.2
+desc_fails table desc (Unguarded name) h passes = h.2
+desc_fails table desc EmptyEnumeration h passes = (passes h.0 h.1).some_alternative h.2
+desc_fails table desc NullOfNull h passes = (passes h.0 h.1).null_once h.2
+desc_fails table desc TagClash h passes = (passes h.0 h.1).tags h.2
+desc_fails table desc BadRange h passes = (passes h.0 h.1).ranges h.2
+desc_fails table desc BadPresence h passes = (passes h.0 h.1).presences h.2
+
 -- an error applies to some definition
 abbrev AppliesSomewhere : List Definition → TableError → Type 0
 AppliesSomewhere table error = (e : Definition) × Contains table e × AppliesToDesc table e.desc error
@@ -112,6 +138,10 @@ table_passes table once named guarded doubled dangling empty null clash range pr
   guarded = guarded;
   each = λ e c. desc_passes table e.desc (λ h. doubled (e, c, h)) (λ h. dangling (e, c, h)) (λ h. empty (e, c, h)) (λ h. null (e, c, h)) (λ h. clash (e, c, h)) (λ h. range (e, c, h)) (λ h. presence (e, c, h));
 }
+
+-- a table with a definition to which one applies does not pass
+pub table_fails : (table : List Definition) (error : TableError) → AppliesSomewhere table error → TablePasses table → ⊥
+table_fails table error h passes = desc_fails table h.0.desc error h.2 (passes.each h.0 h.1)
 
 -- where the first on a cycle is found, the table is not guarded
 pub on_cycle_unguarded : (table : List Definition) (e : Definition) → IsFirstOnCycle table e → IsGuarded table → ⊥

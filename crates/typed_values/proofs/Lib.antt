@@ -18,6 +18,7 @@ pub mod FitRows
 pub mod DenotedRows
 pub mod TreeParts
 pub mod Within
+pub mod Copied
 pub mod Narrower
 pub mod DenotedFits
 pub mod EncodeSteps

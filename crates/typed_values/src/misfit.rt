@@ -1,4 +1,4 @@
-ghost use Rattle.std.specs.Prelude.{◌≡◌, IfOk, IsTrue};
+ghost use Rattle.std.specs.Prelude.{◌≡◌, ◌≢◌, IfOk, IsTrue};
 ghost use Rattle.std.specs.declared.result.Result.TheVariants.{Err};
 ghost use Rattle.schema_values.specs.Ascii.{all_ascii};
 ghost use Rattle.typed_values.specs.declared.fault.FaultKind.TheVariants.{BadText, Doubled, Missing, Unknown};
@@ -12,9 +12,10 @@ use schema_values::{List, Text};
 use std::alloc::{AllocError, Global};
 
 impl Stop {
-    /// A fault at the root.
+    /// A fault at the root. It takes no memory, and is never want of memory.
     pub fn refused(alloc: Global, kind: FaultKind) -> Stop
-        ensures { Tells (Err result) (refused kind) }
+        ensures told { Tells (Err result) (refused kind) }
+        ensures fault { result ≢ Stop.OutOfMemory }
     {
         Stop::Misfit(Misfit {
             kind,
@@ -22,9 +23,10 @@ impl Stop {
         })
     }
 
-    /// The same fault, below a place.
+    /// The same fault, below a place, and want of memory as it is.
     pub fn below(self, place: Place) -> Stop
-        ensures { (told : Told) → Tells (Err self) told → Tells (Err result) (below place told) }
+        ensures told { (told : Told) → Tells (Err self) told → Tells (Err result) (below place told) }
+        ensures memory { self ≡ Stop.OutOfMemory → result ≡ Stop.OutOfMemory }
     {
         match self {
             Stop::Misfit(mut misfit) => match misfit.places.push(place) {
@@ -35,9 +37,11 @@ impl Stop {
         }
     }
 
-    /// The same fault, below a name.
+    /// The same fault, below a name, and want of memory as it is.
     pub fn below_name(self, alloc: Global, name: &Text) -> Stop
-        ensures { (told : Told) → Tells (Err self) told → Tells (Err result) (below (Name name.now) told) }
+        ensures told { (told : Told) → Tells (Err self) told
+            → Tells (Err result) (below (Name name.now) told) }
+        ensures memory { self ≡ Stop.OutOfMemory → result ≡ Stop.OutOfMemory }
     {
         match name.copy(alloc) {
             Ok(name) => self.below(Place::Name(name)),
@@ -86,9 +90,10 @@ impl Stop {
         }
     }
 
-    /// The error as it is handed out.
+    /// The error as it is handed out, and want of memory as it is.
     pub fn into_error(self, alloc: Global) -> DecodeError
-        ensures { (told : Told) → Tells (Err self) told → IfFault result (IsFaultOf told) }
+        ensures told { (told : Told) → Tells (Err self) told → IfFault result (IsFaultOf told) }
+        ensures memory { self ≡ Stop.OutOfMemory → result ≡ DecodeError.OutOfMemory }
     {
         match self {
             Stop::Misfit(misfit) => match path_text(alloc, misfit.places.as_slice()) {

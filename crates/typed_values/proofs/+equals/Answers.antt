@@ -1,4 +1,5 @@
-use Rattle.std.proofs.Common.{rules, ◌≡◌, false, true, sym, ◌∙◌, ap}
+use Rattle.std.proofs.Common.{arith, rules, ◌≡◌, sym, ◌∙◌, ap, true≢false}
+use Rattle.std.proofs.lemmas.Grind.{common_steps}
 use Rattle.typed_values.specs.declared.desc.TaggedVariant.{TaggedVariant, roll-TaggedVariant, out-TaggedVariant, roll-out-TaggedVariant}
 use Rattle.typed_values.specs.Definitions.{tagged_description, tagged_fields, tagged_name}
 use Rattle.typed_values.proofs.+equals.Goals as goal
@@ -20,7 +21,7 @@ desc::TaggedVariant::equals-returns-then-same_text t c = elim c.if-equals.branch
         (sym c.as_slice.ensures ∙ c.same_fields.ensures.0 h ∙ c.as_slice-then-same_text.ensures),
     λ e. c.same_fields.ensures.1 (c.as_slice.ensures ∙ ap tagged_fields e ∙ sym c.as_slice-then-same_text.ensures),
   )
-  | desc::TaggedVariant::equals-else-equals w ↦ absurd (let never : false ≡ true = sym w.if-equals.false ∙ sym w.value-is ∙ c.if-same_text.true in cc never)
+  | desc::TaggedVariant::equals-else-equals w ↦ absurd (true≢false (sym c.if-same_text.true ∙ w.value-is ∙ w.if-equals.false))
 ]
 
 pub desc::Desc::equals-returns-in-Any-Any : goal.desc::Desc::equals-returns-in-Any-Any
@@ -199,3 +200,15 @@ equal::same_variants-loop-variant-smaller t c = search rules
 
 pub equal::same_variants-loop-variant-preserved : goal.equal::same_variants-loop-variant-preserved
 equal::same_variants-loop-variant-preserved t c = search rules
+
+pub equal::same_descs-returns : goal.equal::same_descs-returns
+equal::same_descs-returns t c = grind (arith, common_steps)
+
+pub equal::same_fields-returns : goal.equal::same_fields-returns
+equal::same_fields-returns t c = grind (arith, common_steps)
+
+pub equal::same_tagged-returns : goal.equal::same_tagged-returns
+equal::same_tagged-returns t c = grind (arith, common_steps)
+
+pub equal::same_variants-returns : goal.equal::same_variants-returns
+equal::same_variants-returns t c = grind (arith, common_steps)

@@ -1,4 +1,4 @@
-use Rattle.std.proofs.Common.{◌≡◌, ◌<◌, ◌≤◌, length, get_or, arith, refl, sym}
+use Rattle.std.proofs.Common.{◌≡◌, ◌<◌, ◌≤◌, length, get_or, arith, refl, sym, true≢false}
 use Rattle.typed_values.specs.declared.table.Definition.{Definition}
 use Rattle.typed_values.proofs.Searching.{one_more}
 use Rattle.typed_values.proofs.Within.{IsClear, clear_of}
@@ -28,6 +28,6 @@ returns c =
     let table = c.args.table.now in
     let all : length table ≤ c.loop-definition.definition-index = rw (← c.definitions-definition-items.ensures.items) (omega arith) in
     record {
-      told = (λ h. absurd (cc h), λ h. absurd ((c.loop-definition.invariant h.1.0 h.0 (omega (arith, h.1.1)) h.1.2).none h.2));
+      told = (λ h. absurd (true≢false (sym h)), λ h. absurd ((c.loop-definition.invariant h.1.0 h.0 (omega (arith, h.1.1)) h.1.2).none h.2));
       lengths = λ is none e k. (c.loop-definition.invariant k.0 e (omega (arith, k.1)) k.2).short is;
     }

@@ -1,4 +1,4 @@
-use Rattle.std.proofs.Common.{◌≡◌, ℕ, true, IsTrue, List, [], ◌∷◌, refl, sym, ◌∙◌, subst, rules, tests}
+use Rattle.std.proofs.Common.{◌≡◌, ℕ, true, IsTrue, List, [], ◌∷◌, refl, sym, ◌∙◌, subst, rules, tests, true≢false}
 use Rattle.std.specs.List.{AllByRecursion, list_all}
 use Rattle.std.specs.Str.{chars}
 use Rattle.std.proofs.lemmas.Bool.{and_parts}
@@ -32,4 +32,4 @@ returns-then-not-equals_str c =
 pub returns-else-not-equals_str : goal.returns-else-not-equals_str
 returns-else-not-equals_str c =
     let none = c.equals_str.ensures.0 c.if-not-equals_str.false ∙ chars-nil in
-    rw c.if-not-equals_str.false (λ h. absurd (cc h), λ h. absurd (h.0 none))
+    rw c.if-not-equals_str.false (λ h. absurd (true≢false (sym h)), λ h. absurd (h.0 none))

@@ -1,3 +1,4 @@
+use Rattle.std.proofs.Common.{sym, true≢false}
 use Rattle.typed_values.proofs.Fields.{HasBadPresence-struct, HasBadPresence-tagged, no_bad_presence}
 use Rattle.typed_values.proofs.flaws.has_bad_presence.Goals as goal
 
@@ -14,4 +15,4 @@ returns-in-Tagged c =
     (λ h. i.1 (e.0 h), λ h. e.1 (i.0 h))
 
 pub returns-in_default : goal.returns-in_default
-returns-in_default c = (λ h. absurd (cc h), λ h. absurd (no_bad_presence c.args.table.now c.args.desc.now c.in_default.not-Struct c.in_default.not-Tagged h))
+returns-in_default c = (λ h. absurd (true≢false (sym h)), λ h. absurd (no_bad_presence c.args.table.now c.args.desc.now c.in_default.not-Struct c.in_default.not-Tagged h))

@@ -1,3 +1,4 @@
+use Rattle.std.proofs.Common.{sym, true≢false}
 use Rattle.typed_values.specs.Checks.{names_of_fields}
 use Rattle.typed_values.proofs.Fields.{HasDoubledName-struct, HasDoubledName-enumeration, HasDoubledName-external, HasDoubledName-tagged, some_doubled, none_doubled}
 use Rattle.typed_values.proofs.flaws.has_doubled_name.Goals as goal
@@ -30,4 +31,4 @@ returns-else-not-are_distinct c =
 pub returns-in_default : goal.returns-in_default
 returns-in_default c =
     let d = c.in_default in
-    (λ h. absurd (cc h), λ h. absurd (none_doubled c.args.desc.now d.not-Struct d.not-Enumeration d.not-External d.not-Tagged h))
+    (λ h. absurd (true≢false (sym h)), λ h. absurd (none_doubled c.args.desc.now d.not-Struct d.not-Enumeration d.not-External d.not-Tagged h))

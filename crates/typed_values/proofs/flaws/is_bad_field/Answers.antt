@@ -1,10 +1,11 @@
+use Rattle.std.proofs.Common.{sym, true≢false}
 use Rattle.std.proofs.lemmas.Bool.Decides.{Decides-not}
 use Rattle.typed_values.specs.Checks.{no_option, null_twice, default_misfits}
 use Rattle.typed_values.proofs.Fields.{required_right, nullable_bad, skipped_bad, default_bad}
 use Rattle.typed_values.proofs.flaws.is_bad_field.Goals as goal
 
 pub returns-in-Required : goal.returns-in-Required
-returns-in-Required c = (λ h. absurd (cc h), λ bad. absurd (required_right c.args.table.now c.args.field.now c.in-Required.is bad))
+returns-in-Required c = (λ h. absurd (true≢false (sym h)), λ bad. absurd (required_right c.args.table.now c.args.field.now c.in-Required.is bad))
 
 pub returns-in-Nullable : goal.returns-in-Nullable
 returns-in-Nullable c =

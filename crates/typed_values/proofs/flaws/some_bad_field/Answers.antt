@@ -1,4 +1,4 @@
-use Rattle.std.proofs.Common.{arith, refl, sym}
+use Rattle.std.proofs.Common.{arith, refl, sym, true≢false}
 use Rattle.typed_values.specs.declared.desc.Field.{Field}
 use Rattle.typed_values.specs.Checks.{IsBadField}
 use Rattle.typed_values.proofs.Searching.{one_more}
@@ -15,4 +15,4 @@ loop-field-preserved c =
     c.loop-field.invariant (untrue c.is_bad_field.ensures c.if-is_bad_field.false)
 
 pub returns : goal.returns
-returns c = (λ h. absurd (cc h), λ h. absurd (c.loop-field.invariant h.1.0 h.0 (omega (arith, h.1.1)) h.1.2 h.2))
+returns c = (λ h. absurd (true≢false (sym h)), λ h. absurd (c.loop-field.invariant h.1.0 h.0 (omega (arith, h.1.1)) h.1.2 h.2))

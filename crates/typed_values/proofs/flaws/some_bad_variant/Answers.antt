@@ -1,4 +1,4 @@
-use Rattle.std.proofs.Common.{arith, refl, sym}
+use Rattle.std.proofs.Common.{arith, refl, sym, true≢false}
 use Rattle.std.specs.Prelude.{Contains}
 use Rattle.typed_values.specs.declared.desc.Field.{Field}
 use Rattle.typed_values.specs.declared.desc.TaggedVariant.{TaggedVariant}
@@ -21,4 +21,4 @@ loop-variant-preserved c =
     c.loop-variant.invariant (untrue e c.if-some_bad_field.false)
 
 pub returns : goal.returns
-returns c = (λ h. absurd (cc h), λ h. absurd (c.loop-variant.invariant h.2.0 h.0 (omega (arith, h.2.1)) h.2.2 (h.1, h.3, h.4)))
+returns c = (λ h. absurd (true≢false (sym h)), λ h. absurd (c.loop-variant.invariant h.2.0 h.0 (omega (arith, h.2.1)) h.2.2 (h.1, h.3, h.4)))

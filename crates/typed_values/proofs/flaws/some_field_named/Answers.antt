@@ -1,4 +1,4 @@
-use Rattle.std.proofs.Common.{◌≢◌, arith, refl, sym}
+use Rattle.std.proofs.Common.{◌≢◌, arith, refl, sym, true≢false}
 use Rattle.std.specs.List.{AllByRecursion}
 use Rattle.typed_values.specs.declared.desc.TaggedVariant.{TaggedVariant}
 use Rattle.typed_values.specs.Definitions.{field_name, tagged_fields}
@@ -22,4 +22,4 @@ loop-variant-preserved c =
 
 pub returns : goal.returns
 returns c =
-    (λ h. absurd (cc h), λ h. absurd (other_named c.args.name.now (tagged_fields h.0) h.1 (c.loop-variant.invariant h.2.0 h.0 (omega (arith, h.2.1)) h.2.2) h.3 h.4))
+    (λ h. absurd (true≢false (sym h)), λ h. absurd (other_named c.args.name.now (tagged_fields h.0) h.1 (c.loop-variant.invariant h.2.0 h.0 (omega (arith, h.2.1)) h.2.2) h.3 h.4))

@@ -1,4 +1,4 @@
-use Rattle.std.proofs.Common.{◌≡◌, ◌∙◌, Some, ap, sym, subst, refl, arith}
+use Rattle.std.proofs.Common.{◌≡◌, ◌∙◌, Some, ap, sym, subst, refl, arith, true≢false}
 use Rattle.std.specs.Prelude.{Contains}
 use Rattle.typed_values.specs.declared.desc.Desc.{Desc, out-Desc}
 use Rattle.typed_values.specs.declared.desc.Desc.TheOpen.{Desc-F}
@@ -122,7 +122,7 @@ applies-returns-in_default t c =
       no_untagged = d.not-Untagged;
     } in
     record {
-      told = (λ h. absurd (cc h), λ h. absurd (none_within P c.args.desc.now (untrue c.tells.ensures.told c.if-tells.false) alone h));
+      told = (λ h. absurd (true≢false (sym h)), λ h. absurd (none_within P c.args.desc.now (untrue c.tells.ensures.told c.if-tells.false) alone h));
       lengths = λ is none. all_within IsShort c.args.desc.now (c.tells.ensures.lengths is) alone;
     }
 
@@ -138,7 +138,7 @@ applies_to_some_field-loop-field-preserved t c =
 
 pub applies_to_some_field-returns : goal.applies_to_some_field-returns
 applies_to_some_field-returns t c = record {
-  told = (λ h. absurd (cc h), λ h. absurd ((c.loop-field.invariant h.1.0 h.0 (omega (arith, h.1.1)) h.1.2).none h.2));
+  told = (λ h. absurd (true≢false (sym h)), λ h. absurd ((c.loop-field.invariant h.1.0 h.0 (omega (arith, h.1.1)) h.1.2).none h.2));
   lengths = λ is none f k. (c.loop-field.invariant k.0 f (omega (arith, k.1)) k.2).short is;
 }
 
@@ -156,7 +156,7 @@ applies_to_some_payload-loop-variant-preserved t c =
 
 pub applies_to_some_payload-returns : goal.applies_to_some_payload-returns
 applies_to_some_payload-returns t c = record {
-  told = (λ h. absurd (cc h), λ h. absurd ((c.loop-variant.invariant h.2.0 h.0 (omega (arith, h.2.1)) h.2.2 h.1 h.3).none h.4));
+  told = (λ h. absurd (true≢false (sym h)), λ h. absurd ((c.loop-variant.invariant h.2.0 h.0 (omega (arith, h.2.1)) h.2.2 h.1 h.3).none h.4));
   lengths = λ is none v d k p. (c.loop-variant.invariant k.0 v (omega (arith, k.1)) k.2 d p).short is;
 }
 
@@ -176,7 +176,7 @@ applies_to_some_variant-loop-variant-preserved t c =
 
 pub applies_to_some_variant-returns : goal.applies_to_some_variant-returns
 applies_to_some_variant-returns t c = record {
-  told = (λ h. absurd (cc h), λ h. absurd ((c.loop-variant.invariant h.2.0 h.0 (omega (arith, h.2.1)) h.2.2 h.1 h.3).none h.4));
+  told = (λ h. absurd (true≢false (sym h)), λ h. absurd ((c.loop-variant.invariant h.2.0 h.0 (omega (arith, h.2.1)) h.2.2 h.1 h.3).none h.4));
   lengths = λ is none v f k among. (c.loop-variant.invariant k.0 v (omega (arith, k.1)) k.2 f among).short is;
 }
 
@@ -188,6 +188,6 @@ applies_to_some-loop-desc-preserved t c =
 
 pub applies_to_some-returns : goal.applies_to_some-returns
 applies_to_some-returns t c = record {
-  told = (λ h. absurd (cc h), λ h. absurd ((c.loop-desc.invariant h.1.0 h.0 (omega (arith, h.1.1)) h.1.2).none h.2));
+  told = (λ h. absurd (true≢false (sym h)), λ h. absurd ((c.loop-desc.invariant h.1.0 h.0 (omega (arith, h.1.1)) h.1.2).none h.2));
   lengths = λ is none d k. (c.loop-desc.invariant k.0 d (omega (arith, k.1)) k.2).short is;
 }

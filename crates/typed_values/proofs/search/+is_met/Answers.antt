@@ -1,9 +1,10 @@
-use Rattle.std.proofs.Common.{◌≡◌, List, ◌∷◌, sym, ◌∙◌, true, false, ap, subst}
+use Rattle.std.proofs.Common.{◌≡◌, List, ◌∷◌, sym, ◌∙◌, ap, subst}
 use Rattle.std.specs.Option.{option_copied}
 use Rattle.typed_values.specs.declared.search.Met.{out-Met}
 use Rattle.typed_values.specs.declared.table.Definition.{Definition}
 use Rattle.typed_values.specs.Search.{all_met, IsMet}
 use Rattle.typed_values.proofs.Searching.{met_split, met_first, met_cases, met_later}
+use Rattle.typed_values.proofs.Within.{untrue}
 use Rattle.typed_values.proofs.search.+is_met.Goals as goal
 
 pub returns-then-equals : goal.returns-then-equals
@@ -19,7 +20,7 @@ returns-else-equals t c =
     let e = (out-Met m).definition.now in
     let earlier = all_met (option_copied (out-Met m).before) in
     let list = ap (λ o. all_met (option_copied o)) c.in-Some.is ∙ met_split m in
-    let other : e.name ≡ c.args.name.now → ⊥ = λ s. let q : false ≡ true = sym c.if-equals.false ∙ c.equals.ensures.1 s in cc q in (
+    let other : e.name ≡ c.args.name.now → ⊥ = untrue c.equals.ensures c.if-equals.false in (
       λ h. subst (λ (l : List Definition). IsMet l c.args.name.now) (sym list) (met_later e earlier c.args.name.now (c.is_met.ensures.0 h)),
       λ h. c.is_met.ensures.1 (met_cases e earlier c.args.name.now other (subst (λ (l : List Definition). IsMet l c.args.name.now) list h)),
     )

@@ -1,10 +1,11 @@
-use Rattle.std.proofs.Common.{◌≡◌, List, [], ◌∷◌, length, sym, refl, ap, ◌∙◌, subst, arith, true, false}
+use Rattle.std.proofs.Common.{◌≡◌, List, [], ◌∷◌, length, sym, refl, ap, ◌∙◌, subst, arith, true≢false}
 use Rattle.std.specs.Option.{option_copied}
 use Rattle.typed_values.specs.declared.desc.Desc.{Desc}
 use Rattle.typed_values.specs.declared.search.Path.{out-Path}
 use Rattle.typed_values.specs.Search.{Meets, it_meets, all_met, on_path, IsSearch, SomeLeads}
 use Rattle.schema_values.proofs.CallerLemmas.{contains_first}
 use Rattle.typed_values.proofs.Searching.{met_longer, path_longer, path_split, before_path, fewer, deeper, deeper_leads, back, back_leads, none_leads}
+use Rattle.typed_values.proofs.Within.{untrue}
 use Rattle.typed_values.proofs.search.+leads.Goals as goal
 
 pub returns-then-meets : goal.returns-then-meets
@@ -45,7 +46,7 @@ leads-requires-in-Some-before t c =
     let p = out-Path c.args.path.now in
     let split = path_split c.args.path.now ∙ ap (λ o. p.desc.now ∷ before_path o) c.in-Some-before.is in
     let s = subst (IsSearch table c.args.sought met) split c.requires in
-    let never : Meets c.args.sought p.desc.now → ⊥ = λ m. let q : false ≡ true = sym c.if-meets.false ∙ c.meets.ensures.1 m in cc q in
+    let never : Meets c.args.sought p.desc.now → ⊥ = untrue c.meets.ensures c.if-meets.false in
     let fewer_left = ap (λ (l : List Desc). length l) split in
     (omega (arith, c.decreases, fewer_left), back table c.args.sought met p.desc.now (on_path c.in-Some-before.before.now) s never c.in-None.ensures.last)
 
@@ -56,7 +57,7 @@ returns-in-Some-before t c =
     let p = out-Path c.args.path.now in
     let split = path_split c.args.path.now ∙ ap (λ o. p.desc.now ∷ before_path o) c.in-Some-before.is in
     let s = subst (IsSearch table c.args.sought met) split c.requires in
-    let never : Meets c.args.sought p.desc.now → ⊥ = λ m. let q : false ≡ true = sym c.if-meets.false ∙ c.meets.ensures.1 m in cc q in
+    let never : Meets c.args.sought p.desc.now → ⊥ = untrue c.meets.ensures c.if-meets.false in
     let i = back_leads table c.args.sought met p.desc.now (on_path c.in-Some-before.before.now) s never c.in-None.ensures.last in
     let l = c.leads-in-Some-before.ensures in
     rw split (λ h. i.0 (l.0 h), λ h. l.1 (i.1 h))
@@ -68,6 +69,6 @@ returns-in-None-before t c =
     let p = out-Path c.args.path.now in
     let split = path_split c.args.path.now ∙ ap (λ o. p.desc.now ∷ before_path o) c.in-None-before.is in
     let s = subst (IsSearch table c.args.sought met) split c.requires in
-    let never : Meets c.args.sought p.desc.now → ⊥ = λ m. let q : false ≡ true = sym c.if-meets.false ∙ c.meets.ensures.1 m in cc q in
+    let never : Meets c.args.sought p.desc.now → ⊥ = untrue c.meets.ensures c.if-meets.false in
     let i = back_leads table c.args.sought met p.desc.now [] s never c.in-None.ensures.last in
-    rw split (λ h. absurd (cc h), λ h. absurd (none_leads table c.args.sought (i.1 h)))
+    rw split (λ h. absurd (true≢false (sym h)), λ h. absurd (none_leads table c.args.sought (i.1 h)))

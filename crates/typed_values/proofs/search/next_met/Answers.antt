@@ -1,10 +1,11 @@
-use Rattle.std.proofs.Common.{◌≡◌, ◌<◌, length, get_or, sym, ◌∙◌, arith, true, false}
+use Rattle.std.proofs.Common.{◌≡◌, ◌<◌, length, get_or, sym, arith}
 use Rattle.std.specs.Option.{option_copied}
 use Rattle.typed_values.specs.declared.table.Definition.{Definition}
 use Rattle.typed_values.specs.Guarded.{Names}
 use Rattle.typed_values.specs.Search.{all_met, IsMet}
 use Rattle.typed_values.proofs.Found.{definition_found}
 use Rattle.typed_values.proofs.Searching.{one_more}
+use Rattle.typed_values.proofs.Within.{untrue}
 use Rattle.typed_values.proofs.search.next_met.Goals as goal
 use Rattle.typed_values.proofs.search.next_met.Goals.{else-names-via-then-names+else-not-is_met, else-names-via-else-names}
 
@@ -19,7 +20,7 @@ returns-then-not-is_met-clause-next c =
       found = definition_found table e c.definitions-definition-items.ensures.distinct (i, inside, sym is);
       in_table = (i, inside, sym is);
       named = c.names.ensures.0 c.if-names.true;
-      unmet = λ h. let q : false ≡ true = sym c.if-not-is_met.true ∙ c.is_met.ensures.1 h in cc q;
+      unmet = untrue c.is_met.ensures c.if-not-is_met.true;
     }
 
 pub loop-definition-preserved : goal.loop-definition-preserved
@@ -33,6 +34,6 @@ loop-definition-preserved c =
     let Q : Definition → Type 0 = λ x. Names x.name c.args.desc.now → IsMet met x.name in
     let here : Q e = elim c.else-names.branch [
       | else-names-via-then-names+else-not-is_met w ↦ λ h. w.is_met.ensures.0 w.if-not-is_met.false
-      | else-names-via-else-names w ↦ λ h. let q : false ≡ true = sym w.if-names.false ∙ c.names.ensures.1 h in absurd (cc q)
+      | else-names-via-else-names w ↦ λ h. absurd (untrue c.names.ensures w.if-names.false h)
     ] in
     one_more Q table i e is inside c.loop-definition.invariant here

@@ -48,7 +48,7 @@ pub decode_at-returns-in-Any : goal.decode_at-returns-in-Any
 decode_at-returns-in-Any t c = rw (row_any _ _ c.args.json.now c.args.desc.now (c.args.self.now.all_rest _ c.requires) c.in-Any.is) c.decode_any.ensures
 
 pub decode_at-returns-in-Never : goal.decode_at-returns-in-Never
-decode_at-returns-in-Never t c = rw (row_never _ _ c.args.json.now c.args.desc.now (c.args.self.now.all_rest _ c.requires) c.in-Never.is) c.refused.ensures
+decode_at-returns-in-Never t c = rw (row_never _ _ c.args.json.now c.args.desc.now (c.args.self.now.all_rest _ c.requires) c.in-Never.is) c.refused.ensures.told
 
 pub decode_at-returns-in-Null : goal.decode_at-returns-in-Null
 decode_at-returns-in-Null t c = rw (row_nought _ _ c.args.json.now c.args.desc.now (c.args.self.now.all_rest _ c.requires) c.in-Null.is) c.decode_null.ensures
@@ -145,7 +145,7 @@ decode_at-returns-in-Some t c =
 
 pub decode_at-returns-in-None : goal.decode_at-returns-in-None
 decode_at-returns-in-None t c =
-    rw (row_ref _ _ c.args.json.now c.args.desc.now (c.args.self.now.all_rest _ c.requires) c.in-Ref.name None c.in-Ref.is (sym c.in-None.ensures)) c.refused-in-None.ensures
+    rw (row_ref _ _ c.args.json.now c.args.desc.now (c.args.self.now.all_rest _ c.requires) c.in-Ref.name None c.in-Ref.is (sym c.in-None.ensures)) c.refused-in-None.ensures.told
 
 pub decode_struct-decode_fields-requires : goal.decode_struct-decode_fields-requires
 decode_struct-decode_fields-requires t c =
