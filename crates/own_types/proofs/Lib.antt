@@ -1,2 +1,2 @@
 pub mod Colors
-pub mod Points
+pub mod Folders

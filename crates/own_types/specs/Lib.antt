@@ -1,3 +1,3 @@
 pub mod Labels
 pub mod Colors
-pub mod Points
+pub mod Folders

@@ -83,7 +83,7 @@ fn place_in(tree: &Tree) -> u32
     }
 }
 
-pub(crate) fn definition(alloc: Global) -> Result<Definition, AllocError>
+fn definition(alloc: Global) -> Result<Definition, AllocError>
     ensures { IfOk result (λ made. made ≡ color_definition) }
 {
     let mut names = List::new(alloc);

@@ -3,7 +3,7 @@ ghost use Rattle.api_types.specs.Types.{IsTableOf};
 
 use api_types::{AnyValue, ApiType, Flaw, TypeError, table_of};
 use case_notation::{CaseError, form, given, put, text_of, tree_noted};
-use own_types::{Color, Label, Point};
+use own_types::{Color, Folder, Label, Pin, Point, Span};
 use schema_values::{Json, List, Member, Text};
 use std::alloc::{AllocError, Global};
 use std::collections::BTreeMap;
@@ -33,6 +33,9 @@ pub fn type_told(alloc: Global, case: &Json) -> Result<Json, CaseError> {
         "Label" => told_of::<Label>(alloc, json),
         "Color" => told_of::<Color>(alloc, json),
         "Point" => told_of::<Point>(alloc, json),
+        "Span" => told_of::<Span>(alloc, json),
+        "Pin" => told_of::<Pin>(alloc, json),
+        "Folder" => told_of::<Folder>(alloc, json),
         _ => Err(CaseError::Expected("the name of a type")),
     }
 }

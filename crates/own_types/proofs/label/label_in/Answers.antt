@@ -1,5 +1,5 @@
 use Rattle.std.proofs.Common.{Some, None}
-use Rattle.api_types.proofs.Leaves.{words_one, words_at}
+use Rattle.api_types.proofs.CallerLemmas.{words_one, words_at}
 use Rattle.own_types.proofs.label.label_in.Goals as goal
 
 pub unreachable-requires : goal.unreachable-requires

@@ -1,5 +1,5 @@
 use Rattle.std.proofs.Common.{Some, None}
-use Rattle.api_types.proofs.Leaves.{words_each}
+use Rattle.api_types.proofs.CallerLemmas.{words_each}
 use Rattle.own_types.proofs.label.LabelApiType.fits.Goals as goal
 
 pub returns : goal.returns

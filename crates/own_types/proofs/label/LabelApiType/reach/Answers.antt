@@ -1,5 +1,5 @@
 use Rattle.std.proofs.Common.{Some, None}
-use Rattle.api_types.proofs.Leaves.{words_reach}
+use Rattle.api_types.proofs.CallerLemmas.{words_reach}
 use Rattle.own_types.proofs.label.LabelApiType.reach.Goals as goal
 
 pub returns : goal.returns
