@@ -269,14 +269,14 @@ schema_value table d = object_of (schema_parts table d)
 abbrev pub definition_value : List Definition → Definition → Schema
 definition_value table e = object_of (with_description e.description (schema_parts table e.desc))
 
--- what stands in a header for a descriptor: an option is written as the schema of what it is over
+-- what stands in a header parameter of a request for a descriptor: an option is written as the schema of what it is over
 abbrev pub in_header : Desc → Desc
 in_header d = inner (out-Desc d) where
   inner : DescLevel → Desc
   inner (Desc-F.Option x) = x
   inner _ = d
 
--- what stands in a query for a descriptor: an option over a reference is written as the reference alone
+-- what stands in a query parameter, or in a header of a response, for a descriptor: an option over a reference is written as the reference alone
 abbrev pub in_query : Desc → Desc
 in_query d = inner (out-Desc d) where
   is_reference : DescLevel → Bool

@@ -29,9 +29,10 @@ use std::alloc::{AllocError, Global};
 pub enum SchemaPlace {
     /// In a body or a response.
     Plain,
-    /// In a header an option is written as the schema of what it is over.
+    /// In a header parameter of a request: an option is written as the schema of what it is over.
     Header,
-    /// In a query an option over a reference is written as the reference alone.
+    /// In a query parameter, or a header of a response: an option over a reference is written as the
+    /// reference alone.
     Query,
 }
 
@@ -57,7 +58,7 @@ pub fn schema_of(
     }
 }
 
-/// The descriptor whose schema stands in a header: of an option what it is over.
+/// The descriptor whose schema stands in a header parameter: of an option what it is over.
 fn shown_in_header(desc: &Desc) -> &Desc
     ensures { result.now ≡ in_header desc.now }
 {
@@ -67,7 +68,8 @@ fn shown_in_header(desc: &Desc) -> &Desc
     }
 }
 
-/// The descriptor whose schema stands in a query: of an option over a reference the reference.
+/// The descriptor whose schema stands in a query parameter, or in a header of a response: of an option over
+/// a reference the reference.
 fn shown_in_query(desc: &Desc) -> &Desc
     ensures { result.now ≡ in_query desc.now }
 {
