@@ -27,7 +27,7 @@ use std::alloc::{AllocError, Global};
 /// Where a schema stands in a document.
 #[derive(Clone, Copy, Debug, PartialEq, Eq)]
 pub enum SchemaPlace {
-    /// In a body or a response.
+    /// In a body, of a request or of a response.
     Plain,
     /// In a header parameter of a request: an option is written as the schema of what it is over.
     Header,
