@@ -17,6 +17,5 @@ mod Components
 pub mod Agreed
 pub mod Followed
 pub mod CloneLemmas
-pub mod ErrorBodies
 mod OrderedNames
 pub mod SoundOpenApi

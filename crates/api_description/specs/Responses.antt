@@ -7,15 +7,11 @@ use Rattle.schema_values.specs.declared.json_value.Json.{Json, Text as Words, Ob
 use Rattle.schema_values.specs.declared.json_value.Member.{Member}
 use Rattle.schema_values.specs.Pretty.{pretty_of}
 use Rattle.schema_values.specs.Member.{member}
-use Rattle.typed_values.specs.declared.desc.Desc.{Desc, Option as OptionDesc, Ref, Text as TextDesc, Struct}
+use Rattle.typed_values.specs.declared.desc.Desc.{Desc, Text as TextDesc, Struct}
 use Rattle.typed_values.specs.declared.desc.Field.{Field}
 use Rattle.typed_values.specs.declared.desc.Presence.{Presence}
 use Rattle.typed_values.specs.declared.desc.Presence.TheVariants.{Required, Skipped}
 use Rattle.typed_values.specs.declared.table.Definition.{Definition}
-use Rattle.typed_values.specs.declared.tree.Tree.{Tree}
-use Rattle.typed_values.specs.declared.tree.Tree.TheVariants as trees
-use Rattle.api_types.specs.Options.{option_tree}
-use Rattle.api_types.specs.Types.{FitsOne}
 use Rattle.api_description.specs.declared.http_status.error.HttpError.{HttpError}
 use Rattle.api_description.specs.declared.http_status.error_body.HttpErrorResponseBody.{HttpErrorResponseBody}
 use Rattle.api_description.specs.declared.http_status.error.Response.{Response}
@@ -56,23 +52,6 @@ error_definition = record {
   description = Some (codes "Error information from a response.");
   desc = Struct (text_field (codes "request_id") Required ∷ text_field (codes "error_code") Skipped ∷ text_field (codes "message") Required ∷ []) false;
 }
-
--- the descriptor of the body
-abbrev pub error_desc : Desc
-error_desc = Ref (codes "Error")
-
--- the tree of a text
-abbrev pub text_tree : List ℕ → Tree
-text_tree text = trees.Text text
-
--- the tree of a body
-abbrev pub error_tree : HttpErrorResponseBody → Tree
-error_tree body = trees.Fields (text_tree body.request_id ∷ option_tree text_tree body.error_code ∷ text_tree body.message ∷ [])
-
--- the trees of a text, of a text or none, and of a text
-abbrev pub AreErrorTrees : List Tree → Type 0
-AreErrorTrees (request_id ∷ error_code ∷ message ∷ []) = FitsOne [] any_text request_id × FitsOne [] (OptionDesc any_text) error_code × FitsOne [] any_text message
-AreErrorTrees _ = ⊥
 
 -- the member of a code where there is one
 abbrev pub code_members : Option (List ℕ) → List Member

@@ -14,7 +14,7 @@ use Rattle.typed_values.specs.Parts.{the_whole, IsPart, of_table}
 use Rattle.typed_values.specs.Reached.{Mentions, IsReached, directly, through}
 use Rattle.schema_values.proofs.CallerLemmas.{contains_first}
 use Rattle.typed_values.proofs.CallerLemmas.{fits_ref, same_or_not, definition_is, entry_inside, parts_at}
-use Rattle.api_types.specs.Types.{HoldsAll, IsTableOf, FitsEach, FitsOne, ReachesExactly}
+use Rattle.api_types.specs.Types.{IsTableOf, FitsEach, FitsOne, ReachesExactly}
 use Rattle.api_types.proofs.AddedInOrder.{only_one}
 use Rattle.api_types.proofs.Inner.{part_each, part_one}
 use Rattle.api_types.proofs.Reaching.{rests}

@@ -1,5 +1,5 @@
 -- What a document says of a struct and of its fields, beside their types.
-use Rattle.std.specs.Prelude.{◌++◌, ℕ, Bool, true, false, List, [], ◌∷◌, Option, Some, None}
+use Rattle.std.specs.Prelude.{◌++◌, ℕ, Bool, true, false, List, [], ◌∷◌, Some, None}
 use Rattle.typed_values.specs.declared.desc.Presence.{Presence}
 use Rattle.typed_values.specs.declared.desc.Presence.TheVariants.{Required, Nullable, Skipped, Default}
 use Rattle.typed_values.specs.declared.tree.Tree.{Tree}

@@ -28,7 +28,7 @@ pub trait ApiStruct: Sized + Drop {
     /// The name of the struct.
     ghost struct_name: { List ℕ };
 
-    /// Whether it stands in place, without a definition of its own. Without this line it is defined.
+    /// Whether it stands in place, without a definition of its own. Where this is not given, it has one.
     ghost is_in_place: { Bool } = { false };
 
     /// What a document says of it and of its fields.
@@ -37,8 +37,8 @@ pub trait ApiStruct: Sized + Drop {
     /// The fields of a value.
     ghost fields_of: { Self → Self.Fields };
 
-    /// The name of the struct, in ASCII. There is a head for each field, and those that are left out where they
-    /// are none are `Skipped`.
+    /// The name of the struct, in ASCII. There is a head for each field, and exactly those fields that are
+    /// left out where they are none are `Skipped`.
     fn name() -> &'static str
         ensures ascii { IsTrue (all_ascii result.now) }
         ensures name { result.now ≡ struct_name }

@@ -1,6 +1,5 @@
 //! The types of the fields of a struct.
 ghost use Rattle.std.specs.Prelude.{◌≡◌, ◌++◌, ◌∷◌, [], map, IfOk};
-ghost use Rattle.typed_values.specs.declared.desc.Desc.TheVariants as descs;
 ghost use Rattle.api_types.specs.Adds.{AddsAll};
 ghost use Rattle.api_types.specs.Kinds.{definitions_behind, kept, kind_desc, skipped};
 ghost use Rattle.api_types.specs.Kinds.{KindsFitOne, KindsReach};
@@ -13,8 +12,8 @@ use schema_values::List;
 use std::alloc::{AllocError, Global};
 use typed_values::{AddError, DescTable, Field, Tree};
 
-/// The types of some fields: a pair of the first and the others, which end with `()`. An option that is left out
-/// where it is none stands in `Skipped`.
+/// The types of some fields: a pair of the first and the others, which end with `()`. An option that is left
+/// out where it is none stands in `Skipped`.
 pub trait FieldTypes: Sized + Drop {
     ghost use Rattle.std.specs.Prelude.{List};
     ghost use Rattle.typed_values.specs.declared.tree.Tree.{Tree as Value};

@@ -3,15 +3,13 @@ ghost use Rattle.std.specs.Prelude.{◌≡◌, [], ◌∷◌, ◌++◌, codes, I
 ghost use Rattle.schema_values.specs.Ascii.{all_ascii};
 ghost use Rattle.schema_values.specs.declared.json_value.Json.{Text as Words};
 ghost use Rattle.schema_values.specs.Member.{member};
-ghost use Rattle.typed_values.specs.declared.tree.Tree.TheVariants as trees;
-ghost use Rattle.api_types.specs.Types.{FitsOne};
+ghost use Rattle.api_types.specs.Heads.{described_struct, required, skipped, struct_of};
 ghost use Rattle.api_description.specs.Responses.{code_members, error_body_json, error_definition};
-ghost use Rattle.api_description.specs.Responses.{error_desc, error_tree, text_field, AreErrorTrees};
 
-use api_types::{ApiType, add_all};
+use api_types::{ApiStruct, ApiType, Skipped, StructHead, definition_of};
 use schema_values::{Json, List, Member, Text};
 use std::alloc::{AllocError, Global};
-use typed_values::{AddError, Definition, Desc, DescTable, Field, Presence, Tree};
+use typed_values::{Definition, Tree};
 
 /// The body of an error's response.
 #[derive(Drop)]
@@ -53,59 +51,55 @@ impl HttpErrorResponseBody {
     }
 }
 
-impl ApiType for HttpErrorResponseBody {
-    ghost name_of = { codes "Error" };
+impl ApiStruct for HttpErrorResponseBody {
+    type Fields = (Text, (Skipped<Text>, (Text, ())));
 
-    ghost desc_of = { error_desc };
+    ghost struct_name = { codes "Error" };
 
-    ghost definitions_of = { error_definition ∷ [] };
+    ghost head_of = { described_struct (codes "Error information from a response.")
+        (struct_of (required (codes "request_id") ∷ skipped (codes "error_code")
+        ∷ required (codes "message") ∷ [])) };
 
-    ghost tree_of = { error_tree };
+    ghost fields_of = { λ body. (body.request_id, (record { value = body.error_code }, (body.message, tt))) };
 
-    fn type_name(alloc: Global) -> Result<Text, AllocError> {
-        Text::from_ascii(alloc, "Error")
+    fn name() -> &'static str {
+        "Error"
     }
 
-    fn descriptor(alloc: Global) -> Result<Desc, AllocError> {
-        Ok(Desc::Ref(Text::from_ascii(alloc, "Error")?))
+    fn in_place() -> bool {
+        false
     }
 
-    fn reach() {}
-
-    fn add_definitions(alloc: Global, table: &mut DescTable) -> Result<(), AddError> {
-        add_all(alloc, table, &[error_definition(alloc)?])
+    fn head(alloc: Global) -> Result<StructHead, AllocError> {
+        StructHead::new(alloc)
+            .described(alloc, "Error information from a response.")?
+            .required(alloc, "request_id")?
+            .skipped(alloc, "error_code")?
+            .required(alloc, "message")
     }
 
-    fn to_tree(&self, alloc: Global) -> Result<Tree, AllocError> {
+    fn trees(&self, alloc: Global) -> Result<List<Tree>, AllocError> {
         let mut trees = List::new(alloc);
         trees.push(self.request_id.to_tree(alloc)?)?;
         trees.push(self.error_code.to_tree(alloc)?)?;
         trees.push(self.message.to_tree(alloc)?)?;
-        Ok(Tree::Fields(trees))
+        Ok(trees)
     }
 
-    fn fits(&self) {}
+    fn each_fits(&self) {
+        self.request_id.fits();
+        self.error_code.fits();
+        self.message.fits();
+    }
 
-    fn from_tree(alloc: Global, tree: &Tree) -> Result<HttpErrorResponseBody, AllocError> {
-        match trees_in(tree) {
-            [request_id, error_code, message] => Ok(HttpErrorResponseBody {
-                request_id: Text::from_tree(alloc, request_id)?,
-                error_code: <Option<Text>>::from_tree(alloc, error_code)?,
-                message: Text::from_tree(alloc, message)?,
-            }),
-            _ => unreachable!(),
+    fn from_fields(
+        (request_id, (error_code, (message, ()))): Self::Fields,
+    ) -> HttpErrorResponseBody {
+        HttpErrorResponseBody {
+            request_id,
+            error_code: error_code.value,
+            message,
         }
-    }
-}
-
-fn trees_in(tree: &Tree) -> &[Tree]
-    requires { FitsOne (error_definition ∷ []) error_desc tree.now }
-    ensures is { tree.now ≡ trees.Fields result.now }
-    ensures fit { AreErrorTrees result.now }
-{
-    match tree {
-        Tree::Fields(trees) => trees.as_slice(),
-        _ => unreachable!(),
     }
 }
 
@@ -154,32 +148,5 @@ fn push_text(
 pub fn error_definition(alloc: Global) -> Result<Definition, AllocError>
     ensures { IfOk result (λ definition. definition ≡ error_definition) }
 {
-    let mut fields = List::new(alloc);
-    fields.push(text_field(alloc, "request_id", Presence::Required)?)?;
-    fields.push(text_field(alloc, "error_code", Presence::Skipped)?)?;
-    fields.push(text_field(alloc, "message", Presence::Required)?)?;
-    Ok(Definition {
-        name: Text::from_ascii(alloc, "Error")?,
-        description: Some(Text::from_ascii(alloc, "Error information from a response.")?),
-        desc: Desc::Struct {
-            fields,
-            deny_unknown: false,
-        },
-    })
-}
-
-fn text_field(alloc: Global, name: &str, presence: Presence) -> Result<Field, AllocError>
-    requires { IsTrue (all_ascii name.now) }
-    ensures { IfOk result (λ field. field ≡ text_field name.now presence) }
-{
-    Ok(Field {
-        name: Text::from_ascii(alloc, name)?,
-        desc: Desc::Text {
-            min: None,
-            max: None,
-            format: None,
-        },
-        presence,
-        description: None,
-    })
+    definition_of::<HttpErrorResponseBody>(alloc)
 }
