@@ -1,4 +1,4 @@
--- What is written is admitted, and what is admitted is read.
+-- What is written or read is admitted, and what is admitted is read.
 use Rattle.std.proofs.Common.{◌≡◌, List, Result, Ok, Err, IfOk, sym, subst}
 use Rattle.schema_values.specs.declared.json_value.Json.{Json}
 use Rattle.schema_values.specs.Sound.{IsSound}
@@ -23,3 +23,6 @@ none_refused doc schema table desc made is agrees json sound admits (error.Fault
     let (tree, denotes) = (agrees json sound).0 admits in
     refused tree (subst (λ d. JsonDenotes table d json tree) (sym is) denotes)
 none_refused doc schema table desc made is agrees json sound admits error.OutOfMemory refused = tt
+
+pub read_admitted : (doc schema : Json) (table : List Definition) (desc made : Desc) → made ≡ desc → AdmitsDenoted doc schema table desc → (json : Json) → IsSound json → (tree : Tree) → JsonDenotes table made json tree → JsonAdmits doc schema json
+read_admitted doc schema table desc made is agrees json sound tree denotes = (agrees json sound).1 (tree, subst (λ d. JsonDenotes table d json tree) is denotes)

@@ -41,9 +41,9 @@ pub fn value_json<T: ApiType>(
     encode_json(alloc, table, &desc, &tree)
 }
 
-/// The value whose tree sound JSON denotes, or the fault that is told first. There is none where a document
-/// that has the schemas of the definitions admits the JSON under the type's schema, with its name as title or
-/// without.
+/// The value whose tree sound JSON denotes, or the fault that is told first. Each document that has the schemas
+/// of the definitions admits what is read under the type's schema, with its name as title or without, and
+/// where it admits the JSON no fault is told.
 pub fn json_value<T: ApiType>(
     alloc: Global,
     table: &DescTable,
@@ -62,6 +62,10 @@ pub fn json_value<T: ApiType>(
     ensures titled { (doc : JsonValue) → IsWritten doc table.now T.desc_of
         → JsonAdmits doc (schema_json_titled table.now T.name_of T.desc_of) json.now
         → IfErr result (λ error. IfFault error (λ _. ⊥)) }
+    ensures plain_read { (doc : JsonValue) → IsWritten doc table.now T.desc_of
+        → IfOk result (λ _. JsonAdmits doc (schema_json table.now T.desc_of) json.now) }
+    ensures titled_read { (doc : JsonValue) → IsWritten doc table.now T.desc_of
+        → IfOk result (λ _. JsonAdmits doc (schema_json_titled table.now T.name_of T.desc_of) json.now) }
 {
     let desc = T::descriptor(alloc)?;
     let tree = decode_json(alloc, table, &desc, json)?;
