@@ -6,7 +6,7 @@ pub use Rattle.api_types.proofs.Composites.{option_reaches, list_reaches, map_re
 pub use Rattle.api_types.proofs.Names.{names_reach}
 pub use Rattle.api_types.proofs.Structs.{struct_reaches}
 pub use Rattle.api_types.proofs.References.{ref_reaches}
-pub use Rattle.api_types.proofs.OwnReferences.{MentionsOnly, only_ref, only_reached, only_option, only_list, only_map, only_struct, own_reaches}
+pub use Rattle.api_types.proofs.OwnReferences.{MentionsOnly, only_ref, only_reached, only_list, only_struct, own_reaches}
 -- the trees that fit a descriptor
 pub use Rattle.api_types.proofs.Leaves.{truth_each, number_each, words_each, character_each, whole_each, kind_holds}
 pub use Rattle.api_types.proofs.Composites.{none_each, some_each, list_each, map_each}

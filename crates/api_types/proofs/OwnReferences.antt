@@ -34,14 +34,8 @@ module _ (own : List ℕ) where
   only_reached desc reaches name m =
       let none = (reaches [] (λ e c. absurd (omega (arith, c.1))) name).0 (directly name m) in absurd (omega (arith, none.1))
 
-  pub only_option : (d : Desc) → MentionsOnly own d → MentionsOnly own (descs.Option d)
-  only_option d only name m = only name (in_child (descs.Option d) (Desc-F.Option d) (descs.outs-Option d) (λ n q. absurd (cc q)) name m)
-
   pub only_list : (d : Desc) → MentionsOnly own d → MentionsOnly own (descs.List d None None)
   only_list d only name m = only name (in_child (descs.List d None None) (Desc-F.List d None None) (descs.outs-List d None None) (λ n q. absurd (cc q)) name m)
-
-  pub only_map : (d : Desc) → MentionsOnly own d → MentionsOnly own (descs.Map d)
-  only_map d only name m = only name (in_child (descs.Map d) (Desc-F.Map d) (descs.outs-Map d) (λ n q. absurd (cc q)) name m)
 
   only_fields : (fs : List Field) → AllByRecursion (λ f. MentionsOnly own f.desc) fs → (f : Field) → Contains fs f → MentionsOnly own f.desc
   only_fields [] all f c = absurd (omega (arith, c.1))

@@ -89,7 +89,7 @@ impl FieldHead {
     }
 
     /// The field of a descriptor.
-    pub fn field(&self, alloc: Global, desc: Desc) -> Result<Field, AllocError>
+    pub(crate) fn field(&self, alloc: Global, desc: Desc) -> Result<Field, AllocError>
         ensures { IfOk result (λ field. field ≡ field_with self.now desc) }
     {
         let FieldHead {
