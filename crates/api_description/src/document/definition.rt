@@ -150,6 +150,8 @@ impl OpenApiDefinition<'_> {
         ensures later { K.faults sink.old ≤ K.faults sink.new }
         ensures failed { IsErrOf result WriteError.WriteFault →
             HasRisen (K.faults sink.old) (K.faults sink.new) }
+        ensures counts { ¬ IsErrOf result WriteError.WriteFault →
+            K.faults sink.new ≡ K.faults sink.old }
     {
         let text = self.text(alloc)?;
         match write_all(sink, text.as_bytes()) {
