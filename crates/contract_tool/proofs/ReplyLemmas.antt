@@ -3,19 +3,14 @@ use Rattle.std.proofs.Common.{◌≡◌, ℕ, ◌+◌, ◌<◌, List, [], ◌∷
 use Rattle.std.specs.Str.{is_utf8}
 use Rattle.std.proofs.lemmas.Bool.{cases_Bool}
 use Rattle.std.proofs.lemmas.List.{take_more}
-use Rattle.std.proofs.lemmas.Str.{IsUtf8-from_is_utf8, is_utf8-from_IsUtf8, chars-IsAscii}
-use Rattle.hex.specs.Hex.{encode_lower, lower_digits}
-use Rattle.hex.proofs.HexLemmas.{IsAscii-encode_with}
+use Rattle.std.proofs.lemmas.Str.{IsUtf8-from_is_utf8, is_utf8-from_IsUtf8}
+use Rattle.hex.specs.Hex.{encode_lower}
 use Rattle.http_header.specs.FieldValue.{FieldValue}
-use Rattle.schema_values.proofs.CallerLemmas.{IsAscii-from_test}
 use Rattle.schema_values.specs.declared.json_value.Json.{Json, Int as Number, Text as Words, List as Items, Object}
 use Rattle.schema_values.specs.declared.json_value.Member.{Member}
 use Rattle.schema_values.specs.Member.{member}
 use Rattle.api_description.specs.declared.http_status.error.Response.{Response}
 use Rattle.contract_tool.specs.ReplyLines.{ArePairsOf, IsBodyMember, IsPairOf, IsShownAs, TellsResponse, outcome_member}
-
-pub chars-encode_lower : (bytes : List ℕ) → chars (encode_lower bytes) ≡ encode_lower bytes
-chars-encode_lower bytes = chars-IsAscii (encode_lower bytes) (IsAscii-encode_with lower_digits bytes (IsAscii-from_test lower_digits refl))
 
 -- one more line, and its pair
 pairs-more : (lines : List (List ℕ × FieldValue)) (jsons : List Json) (line : List ℕ × FieldValue) (json : Json)

@@ -100,20 +100,20 @@ module _ {X : Type 0} {F : X → Type 0} (m : Meanings X F) where
         (follow x.request x.body before x.outcome after x.answers) id (told-is-answer x.outcome x.told x.tells) sent sends;
   }
 
-  -- what was served, of endpoints and a front that are equal; a reply that was lost has bytes
-  pub served-same : (config : ToolConfig) (version : Parts) (one two : List (ApiEndpoint X F)) (front front' : List ℕ) (most longest : ℕ) (x y t u : Option (List ℕ)) (old new : Tables) (end : SessionEnd)
-      → one ≡ two → front ≡ front' → IsServed (LineAnswers m config version one) (LineIsLost m config version one) front most longest x y t u old new end
-      → IsServed (LineAnswers m config version two) NeverLost front' most longest x y t u old new end
-  served-same config version one two front front' most longest x y t u old new end p q served =
-      subst (λ (es : List (ApiEndpoint X F)). IsServed (LineAnswers m config version es) NeverLost front' most longest x y t u old new end) p
+  -- what was served, of endpoints and a preamble that are equal; a reply that was lost has bytes
+  pub served-same : (config : ToolConfig) (version : Parts) (one two : List (ApiEndpoint X F)) (preamble preamble' : List ℕ) (most longest : ℕ) (x y t u : Option (List ℕ)) (old new : Tables) (end : SessionEnd)
+      → one ≡ two → preamble ≡ preamble' → IsServed (LineAnswers m config version one) (LineIsLost m config version one) preamble most longest x y t u old new end
+      → IsServed (LineAnswers m config version two) NeverLost preamble' most longest x y t u old new end
+  served-same config version one two preamble preamble' most longest x y t u old new end p q served =
+      subst (λ (es : List (ApiEndpoint X F)). IsServed (LineAnswers m config version es) NeverLost preamble' most longest x y t u old new end) p
       (subst (λ (f : List ℕ). IsServed (LineAnswers m config version one) NeverLost f most longest x y t u old new end) q
-      (served-kept (LineAnswers m config version one) (LineIsLost m config version one) (λ before line after lost. lost) front most longest x y t u old new end served))
+      (served-kept (LineAnswers m config version one) (LineIsLost m config version one) (λ before line after lost. lost) preamble most longest x y t u old new end served))
 
-  pub answered-same : (config : ToolConfig) (version : Parts) (one two : List (ApiEndpoint X F)) (front front' all before : List ℕ) (y u : Option (List ℕ)) (old new : Tables)
-      → one ≡ two → front ≡ front' → IsAnswered (LineAnswers m config version one) front all before y u old new
-      → IsAnswered (LineAnswers m config version two) front' all before y u old new
-  answered-same config version one two front front' all before y u old new p q answered =
-      subst (λ (es : List (ApiEndpoint X F)). IsAnswered (LineAnswers m config version es) front' all before y u old new) p
+  pub answered-same : (config : ToolConfig) (version : Parts) (one two : List (ApiEndpoint X F)) (preamble preamble' all before : List ℕ) (y u : Option (List ℕ)) (old new : Tables)
+      → one ≡ two → preamble ≡ preamble' → IsAnswered (LineAnswers m config version one) preamble all before y u old new
+      → IsAnswered (LineAnswers m config version two) preamble' all before y u old new
+  answered-same config version one two preamble preamble' all before y u old new p q answered =
+      subst (λ (es : List (ApiEndpoint X F)). IsAnswered (LineAnswers m config version es) preamble' all before y u old new) p
       (subst (λ (f : List ℕ). IsAnswered (LineAnswers m config version one) f all before y u old new) q answered)
 
   module _ {S K : Type 0} (config : ToolConfig) (endpoints : List (ApiEndpoint X F)) (words : List (String Global)) (source : SourceGhosts S) (sink : SinkGhosts K) (before after : Outside S K) where

@@ -19,7 +19,7 @@ use Rattle.contract_tool.specs.declared.config.ToolConfig.{ToolConfig}
 use Rattle.contract_tool.specs.declared.config.ToolStatus.{ToolStatus}
 use Rattle.contract_tool.specs.declared.config.ToolStatus.TheVariants.{Done, Usage, Refused, ReadFault, WriteFault, LineTooLong, TooMuchInput, OutOfMemory}
 use Rattle.contract_tool.specs.LineAnswers.{LineAnswers}
-use Rattle.contract_tool.specs.Sessions.{IsOpened, front_of}
+use Rattle.contract_tool.specs.Sessions.{IsOpened, preamble_of}
 use Rattle.contract_tool.specs.Words.{IsCommand}
 
 -- what a run reads, writes and changes, at a moment
@@ -48,7 +48,7 @@ module _ {X : Type 0} {F : X → Type 0} {S K : Type 0} (m : Meanings X F) (conf
   pub record IsSessionUpTo (how : SessionEnd) : Type 0 where
     pub version : Parts
     pub opened : IsOpened m config version endpoints words
-    pub served : IsServed (LineAnswers m config version endpoints) NeverLost (front_of m config version endpoints)
+    pub served : IsServed (LineAnswers m config version endpoints) NeverLost (preamble_of m config version endpoints)
         config.most_input config.longest_line (source.left before.source) (source.left after.source)
         (sink.taken before.sink) (sink.taken after.sink) before.store after.store how
     pub limits : (all : List ℕ) → source.left before.source ≡ Some all

@@ -1,11 +1,11 @@
 -- Request lines: a JSON object with the texts `method`, `template` and `request_id`, and `frames` with the body.
-use Rattle.std.specs.Prelude.{◌≡◌, ◌≤◌, ℕ, List, [], ◌∷◌, length, Option, Some, None, option_and_then, codes}
+use Rattle.std.specs.Prelude.{◌≡◌, ◌≤◌, ℕ, List, [], ◌∷◌, length, Option, Some, None, option_and_then, codes, get_or}
 use Rattle.std.specs.Str.{encode_utf8_all}
 use Rattle.http_header.specs.Token.{IsToken}
 use Rattle.schema_values.specs.declared.json_value.Json.{Json, out-Json}
 use Rattle.schema_values.specs.declared.json_value.Json.TheOpen.{Json-F}
 use Rattle.schema_values.specs.declared.json_value.Member.{Member}
-use Rattle.schema_values.specs.Get.{get_of}
+use Rattle.schema_values.specs.Get.{first_named, get_of}
 use Rattle.schema_values.specs.Reading.{Reads}
 use Rattle.semver.specs.Identifiers.{parts_of}
 use Rattle.semver.specs.Parse.{Parts}
@@ -32,6 +32,15 @@ pub record HasHead (json : Json) (method template id : List ℕ) : Type 0 where
   pub template_text : text_of (codes "template") json ≡ Some template
   pub id_text : text_of (codes "request_id") json ≡ Some id
 
+-- an object with the texts of a request, of which this method (RFC 9110, section 9.1) is the first
+pub record HasMethod (json : Json) (method : List ℕ) : Type 0 where
+  pub text : List ℕ
+  pub template : List ℕ
+  pub id : List ℕ
+  pub head : HasHead json text template id
+  pub token : IsToken (encode_utf8_all text)
+  pub bytes : encode_utf8_all text ≡ method
+
 -- the line reads as an object with these texts, and the method is one (RFC 9110, section 9.1)
 pub record IsRequest (line : List ℕ) (json : Json) (method template id : List ℕ) : Type 0 where
   pub reads : Reads line json
@@ -52,9 +61,24 @@ abbrev pub frame_in : Json-F Json Member → Option (List ℕ)
 frame_in (Json-F.List frames) = only_text frames
 frame_in _ = None
 
+-- the text of the one item of a list
+abbrev pub frame_at : Json → Option (List ℕ)
+frame_at frames = frame_in (out-Json frames)
+
 -- the text of the one item of `frames`
 abbrev pub frame_of : Json → Option (List ℕ)
-frame_of json = option_and_then (λ frames. frame_in (out-Json frames)) (get_of (codes "frames") json)
+frame_of json = option_and_then frame_at (get_of (codes "frames") json)
+
+-- an object with the texts that are kept of a request
+pub record HasTexts (json : Json) (template id frame : List ℕ) : Type 0 where
+  pub template_text : text_of (codes "template") json ≡ Some template
+  pub id_text : text_of (codes "request_id") json ≡ Some id
+  pub one_frame : frame_of json ≡ Some frame
+
+-- a member with this name, whose value is that of the first of the name, stands at the index
+abbrev pub IsFirstNamed : List ℕ → List Member → ℕ → Type 0
+IsFirstNamed name members index = (member : Member) → member ≡ get_or members index member
+    → (member.name ≡ name) × (first_named name members ≡ Some member.value)
 
 -- the request has no member that is not looked at yet
 pub record HasNoOther (json : Json) : Type 0 where

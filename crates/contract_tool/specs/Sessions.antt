@@ -24,8 +24,8 @@ use Rattle.contract_tool.specs.LineAnswers.{IsExchanged, LineAnswers}
 use Rattle.contract_tool.specs.Words.{AskForSession}
 
 -- the text of the endpoints' document at a version
-abbrev pub front_of : {X : Type 0} {F : X → Type 0} → Meanings X F → ToolConfig → Parts → List (ApiEndpoint X F) → List ℕ
-front_of m config version endpoints = encode_utf8_all (document_text m endpoints config.title version)
+abbrev pub preamble_of : {X : Type 0} {F : X → Type 0} → Meanings X F → ToolConfig → Parts → List (ApiEndpoint X F) → List ℕ
+preamble_of m config version endpoints = encode_utf8_all (document_text m endpoints config.title version)
 
 -- whatever line is answered, from whatever store: a request with a valid id is handled exactly where the endpoints' document admits what was sent for it, with a media type of JSON
 abbrev pub LinesFollowDocument : {X : Type 0} {F : X → Type 0} → Meanings X F → ToolConfig → Parts → List (ApiEndpoint X F) → Type 0
@@ -49,7 +49,7 @@ pub record IsSession {X : Type 0} {F : X → Type 0} (m : Meanings X F) (config 
     (all written_before : List ℕ) (left_after taken_after : Option (List ℕ)) (before after : Tables) : Type 0 where
   pub version : Parts
   pub opened : IsOpened m config version endpoints words
-  pub answered : IsAnswered (LineAnswers m config version endpoints) (front_of m config version endpoints) all written_before left_after taken_after before after
+  pub answered : IsAnswered (LineAnswers m config version endpoints) (preamble_of m config version endpoints) all written_before left_after taken_after before after
 
 -- how a run ends whose session ends so
 abbrev pub status_of : SessionEnd → ToolStatus

@@ -15,14 +15,14 @@ use api_description::api_extract::RequestParts;
 use api_description::api_respond::RouteHandler;
 use api_description::tree_store::Store;
 use line_session::Answering;
-use schema_values::{List, Text};
+use schema_values::{List, Scratch, Text};
 use semver::Version;
 use std::alloc::{AllocError, Global};
 use std::marker::PhantomData;
 
 /// Answers request lines by the endpoints of an API, at one version.
 #[derive(Drop)]
-pub(crate) struct Desk<'a> {
+pub(crate) struct LineAnswerer<'a> {
     pub api: &'a ApiDescription,
     pub config: &'a ToolConfig,
     pub version: &'a Version,
@@ -30,7 +30,7 @@ pub(crate) struct Desk<'a> {
     pub handlers: PhantomData<Box<dyn RouteHandler>>,
 }
 
-impl Answering for Desk<'_> {
+impl Answering for LineAnswerer<'_> {
     ghost use Rattle.std.specs.Prelude.{[]};
     ghost use Rattle.api_description.specs.Registering.{AreAccepted};
     ghost use Rattle.contract_tool.specs.LineAnswers.{LineAnswers, LineIsLost};
@@ -38,31 +38,40 @@ impl Answering for Desk<'_> {
 
     type State = Store;
 
-    type Room = ();
+    // What a line is read in.
+    type Room = Scratch;
 
-    ghost can_answer = { λ desk. AreAccepted
-        (λ e. RouteHandler-box e.handler) [] desk.api.now.endpoints.items };
+    ghost can_answer = { λ answerer. AreAccepted
+        (λ e. RouteHandler-box e.handler) [] answerer.api.now.endpoints.items };
 
-    ghost answers = { λ desk. LineAnswers
-        (λ e. RouteHandler-box e.handler) desk.config.now
-        (parts_of desk.version.now) desk.api.now.endpoints.items };
+    ghost answers = { λ answerer. LineAnswers
+        (λ e. RouteHandler-box e.handler) answerer.config.now
+        (parts_of answerer.version.now) answerer.api.now.endpoints.items };
 
-    ghost lost = { λ desk. LineIsLost
-        (λ e. RouteHandler-box e.handler) desk.config.now
-        (parts_of desk.version.now) desk.api.now.endpoints.items };
+    ghost lost = { λ answerer. LineIsLost
+        (λ e. RouteHandler-box e.handler) answerer.config.now
+        (parts_of answerer.version.now) answerer.api.now.endpoints.items };
 
-    fn room(&self, _alloc: Global) -> Result<(), AllocError> {
-        Ok(())
+    fn room(&self, alloc: Global) -> Result<Scratch, AllocError> {
+        Ok(Scratch::new(alloc))
     }
 
     fn answer(
         &self,
         alloc: Global,
-        _room: &mut (),
+        room: &mut Scratch,
         state: &mut Store,
         line: &[u8],
     ) -> Result<List<u8>, AllocError> {
-        answer_line(alloc, self.api, self.config, self.version, state, line)
+        answer_line(
+            alloc,
+            self.api,
+            self.config,
+            self.version,
+            room,
+            state,
+            line,
+        )
     }
 }
 
@@ -71,6 +80,7 @@ fn answer_line(
     api: &ApiDescription,
     config: &ToolConfig,
     version: &Version,
+    room: &mut Scratch,
     store: &mut Store,
     line: &[u8],
 ) -> Result<List<u8>, AllocError>
@@ -82,7 +92,7 @@ fn answer_line(
         config.now (parts_of version.now) api.now.endpoints.items store.old line.now store.new) }
 {
     let most = config.server.default_request_body_max_bytes;
-    match read_line(alloc, line, version, most)? {
+    match read_line(alloc, room, line, version, most)? {
         RequestLine::Bad => outcome_line(alloc, "bad-line"),
         RequestLine::NotBuilt => outcome_line(alloc, "not-built"),
         RequestLine::Request(request, body) => {

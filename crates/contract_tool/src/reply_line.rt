@@ -1,20 +1,31 @@
-//! Reply lines.
-ghost use Rattle.std.specs.Prelude.{◌≡◌, [], ◌∷◌, ◌++◌, IfOk, OnOk, IsTrue, pos};
-ghost use Rattle.hex.specs.Hex.{encode_lower};
+//! Reply lines, written straight into their bytes.
+ghost use Rattle.std.specs.Prelude.{◌≡◌, ◌<◌, [], ◌∷◌, ◌++◌, IfOk, OnOk, IsTrue, List as ListOf};
+ghost use Rattle.std.specs.Prelude.{codes, map, pos, slice_index};
+ghost use Rattle.std.specs.List.{flat_map};
+ghost use Rattle.hex.specs.Hex.{encode_lower, lower_digits};
 ghost use Rattle.schema_values.specs.Ascii.{all_ascii};
+ghost use Rattle.schema_values.specs.Print.{comma_before, compact_of, escape, joined};
+ghost use Rattle.schema_values.specs.PrintMember.{compact_member};
 ghost use Rattle.schema_values.specs.declared.json_value.Json.{Json as JsonValue, Int as Number};
-ghost use Rattle.schema_values.specs.declared.json_value.Json.{Text as Words};
+ghost use Rattle.schema_values.specs.declared.json_value.Json.{List as Items, Text as Words};
+ghost use Rattle.schema_values.specs.declared.json_value.Member.{Member as MemberValue};
 ghost use Rattle.schema_values.specs.Member.{member};
 ghost use Rattle.contract_tool.specs.ReplyLines.{ArePairsOf, IsBodyMember, IsPairOf, IsShownAs, Tells};
-ghost use Rattle.contract_tool.specs.ReplyLines.{TellsResponse, line_of, outcome_alone};
+ghost use Rattle.contract_tool.specs.ReplyLines.{TellsResponse, line_of, outcome_alone, outcome_member};
 
 use api_description::http_status::Response;
 use api_description::{Exchange, ExchangeError};
 use http::StatusCode;
 use http_header::{HeaderName, HeaderValue};
-use schema_values::{Json, List, Member, Text};
+use schema_values::{List, Text, write_name, write_quoted_str, write_text_member};
 use std::alloc::{AllocError, Global};
 use std::str;
+
+// What is reserved for a line besides its body.
+const HEAD_BYTES: usize = 256;
+
+// The hexadecimal digits.
+const DIGITS: &[u8; 16] = b"0123456789abcdef";
 
 /// The line that tells the outcome of a request; want of memory is told by none.
 pub(crate) fn reply_line(
@@ -23,14 +34,13 @@ pub(crate) fn reply_line(
 ) -> Result<List<u8>, AllocError>
     ensures { IfOk result (λ line. (json : JsonValue) × Tells outcome.now json × (line ≡ line_of json)) }
 {
-    let json = match outcome {
-        Ok(Exchange::Handled { response, .. }) => response_json(alloc, "handled", response)?,
-        Ok(Exchange::Refused { response, .. }) => response_json(alloc, "refused", response)?,
-        Err(ExchangeError::BadRequestId) => outcome_alone(alloc, "bad-request-id")?,
-        Err(ExchangeError::NoSuchOperation) => outcome_alone(alloc, "no-such-operation")?,
-        Err(ExchangeError::OutOfMemory) => return Err(AllocError),
-    };
-    line_of(alloc, &json)
+    match outcome {
+        Ok(Exchange::Handled { response, .. }) => response_line(alloc, "handled", response),
+        Ok(Exchange::Refused { response, .. }) => response_line(alloc, "refused", response),
+        Err(ExchangeError::BadRequestId) => outcome_line(alloc, "bad-request-id"),
+        Err(ExchangeError::NoSuchOperation) => outcome_line(alloc, "no-such-operation"),
+        Err(ExchangeError::OutOfMemory) => Err(AllocError),
+    }
 }
 
 /// The line of an outcome without a response.
@@ -38,116 +48,144 @@ pub(crate) fn outcome_line(alloc: Global, outcome: &str) -> Result<List<u8>, All
     requires { IsTrue (all_ascii outcome.now) }
     ensures { IfOk result (λ line. line ≡ line_of (outcome_alone outcome.now)) }
 {
-    line_of(alloc, &outcome_alone(alloc, outcome)?)
+    let mut out = Text::with_capacity(alloc, HEAD_BYTES)?;
+    write_outcome(outcome, &mut out)?;
+    out.push('}')?;
+    Ok(out.into_bytes())
 }
 
-fn line_of(alloc: Global, json: &Json) -> Result<List<u8>, AllocError>
-    ensures { IfOk result (λ line. line ≡ line_of json.now) }
-{
-    Ok(json.compact(alloc)?.into_bytes())
-}
-
-fn outcome_alone(alloc: Global, outcome: &str) -> Result<Json, AllocError>
+// The line that tells an outcome and its response.
+fn response_line(alloc: Global, outcome: &str, response: &Response) -> Result<List<u8>, AllocError>
     requires { IsTrue (all_ascii outcome.now) }
-    ensures { IfOk result (λ json. json ≡ outcome_alone outcome.now) }
+    ensures { IfOk result (λ line. (json : JsonValue) × TellsResponse outcome.now response.now json
+        × (line ≡ line_of json)) }
 {
-    let mut members = List::new(alloc);
-    push_member(alloc, &mut members, "outcome", ascii(alloc, outcome)?)?;
-    Ok(Json::Object(members))
+    let mut out = Text::with_capacity(alloc, response.body.len().saturating_add(HEAD_BYTES))?;
+    write_response(outcome, response, &mut out)?;
+    Ok(out.into_bytes())
 }
 
-fn response_json(alloc: Global, outcome: &str, response: &Response) -> Result<Json, AllocError>
+// The text of the line.
+fn write_response(outcome: &str, response: &Response, out: &mut Text) -> Result<(), AllocError>
     requires { IsTrue (all_ascii outcome.now) }
-    ensures { IfOk result (λ json. TellsResponse outcome.now response.now json) }
+    ensures { OnOk result ((json : JsonValue) × TellsResponse outcome.now response.now json
+        × (out.new ≡ out.old ++ compact_of json)) }
 {
-    let mut members = List::new(alloc);
-    push_member(alloc, &mut members, "outcome", ascii(alloc, outcome)?)?;
-    push_member(alloc, &mut members, "status", status_json(response.status))?;
-    let pairs = header_pairs(alloc, response.headers.lines())?;
-    push_member(alloc, &mut members, "headers", Json::List(pairs))?;
-    members.push(body_member(alloc, response.body.as_slice())?)?;
-    Ok(Json::Object(members))
+    write_outcome(outcome, out)?;
+    write_status(response.status, out)?;
+    write_headers(response.headers.lines(), out)?;
+    write_body(response.body.as_slice(), out)?;
+    out.push('}')
 }
 
-fn status_json(status: StatusCode) -> Json
-    ensures { result ≡ Number (pos status) }
+// The brace and the member that each line begins with.
+fn write_outcome(outcome: &str, out: &mut Text) -> Result<(), AllocError>
+    requires { IsTrue (all_ascii outcome.now) }
+    ensures { OnOk result (out.new ≡ (out.old ++ 123 ∷ [])
+        ++ joined (map compact_member (outcome_member outcome.now ∷ []))) }
 {
-    Json::Int(i128::from(status.as_u16()))
+    out.push('{')?;
+    write_text_member(0, "outcome", outcome, out)
 }
 
-fn ascii(alloc: Global, text: &str) -> Result<Json, AllocError>
-    requires { IsTrue (all_ascii text.now) }
-    ensures { IfOk result (λ json. json ≡ Words text.now) }
+fn write_status(status: StatusCode, out: &mut Text) -> Result<(), AllocError>
+    ensures { OnOk result (out.new ≡ out.old
+        ++ (comma_before 1 ++ compact_member (member (codes "status") (Number (pos status))))) }
 {
-    Ok(Json::Text(Text::from_ascii(alloc, text)?))
+    let _code = status.as_u16();
+    write_name(1, "status", out)?;
+    out.push_ascii(status.as_str())
 }
 
-fn push_member(
-    alloc: Global,
-    members: &mut List<Member>,
-    name: &str,
-    value: Json,
-) -> Result<(), AllocError>
-    requires { IsTrue (all_ascii name.now) }
-    ensures { OnOk result (members.new ≡ members.old ++ member name.now value ∷ []) }
+fn write_headers(lines: &[(HeaderName, HeaderValue)], out: &mut Text) -> Result<(), AllocError>
+    ensures { OnOk result ((pairs : ListOf JsonValue) × ArePairsOf lines.now pairs × (out.new ≡ out.old
+        ++ (comma_before 2 ++ compact_member (member (codes "headers") (Items pairs))))) }
 {
-    let name = Text::from_ascii(alloc, name)?;
-    members.push(Member { name, value })
+    write_name(2, "headers", out)?;
+    out.push('[')?;
+    write_pairs(lines, out)?;
+    out.push(']')
 }
 
-fn header_pairs(
-    alloc: Global,
-    lines: &[(HeaderName, HeaderValue)],
-) -> Result<List<Json>, AllocError>
-    ensures { IfOk result (λ pairs. ArePairsOf lines.now pairs) }
+fn write_pairs(lines: &[(HeaderName, HeaderValue)], out: &mut Text) -> Result<(), AllocError>
+    ensures { OnOk result ((pairs : ListOf JsonValue) × ArePairsOf lines.now pairs
+        × (out.new ≡ out.old ++ joined (map compact_of pairs))) }
 {
-    let mut pairs = List::new(alloc);
-    for line in lines {
-        pairs.push(header_pair(alloc, line)?)?;
+    for (index, line) in lines.iter().enumerate() {
+        write_comma(index, out)?;
+        write_pair(line, out)?;
     }
-    Ok(pairs)
+    Ok(())
 }
 
-fn header_pair(alloc: Global, line: &(HeaderName, HeaderValue)) -> Result<Json, AllocError>
-    ensures { IfOk result (λ json. IsPairOf line.now json) }
+fn write_comma(index: usize, out: &mut Text) -> Result<(), AllocError>
+    ensures { OnOk result (out.new ≡ out.old ++ comma_before index) }
 {
-    let mut pair = List::new(alloc);
-    pair.push(Json::Text(Text::from_str(alloc, line.0.as_str())?))?;
-    pair.push(shown(alloc, line.1.as_bytes())?)?;
-    Ok(Json::List(pair))
+    if index == 0 { Ok(()) } else { out.push(',') }
+}
+
+fn write_pair(line: &(HeaderName, HeaderValue), out: &mut Text) -> Result<(), AllocError>
+    ensures { OnOk result ((json : JsonValue) × IsPairOf line.now json
+        × (out.new ≡ out.old ++ compact_of json)) }
+{
+    out.push('[')?;
+    write_quoted_str(line.0.as_str(), out)?;
+    out.push(',')?;
+    write_shown(line.1.as_bytes(), out)?;
+    out.push(']')
 }
 
 // The bytes as a text, or in hexadecimal digits where they are none.
-fn shown(alloc: Global, bytes: &[u8]) -> Result<Json, AllocError>
-    ensures { IfOk result (λ json. IsShownAs bytes.now json) }
+fn write_shown(bytes: &[u8], out: &mut Text) -> Result<(), AllocError>
+    ensures { OnOk result ((json : JsonValue) × IsShownAs bytes.now json
+        × (out.new ≡ out.old ++ compact_of json)) }
 {
     match str::from_utf8(bytes) {
-        Ok(text) => Ok(Json::Text(Text::from_str(alloc, text)?)),
+        Ok(text) => write_quoted_str(text, out),
         Err(_) => {
-            let mut members = List::new(alloc);
-            push_member(alloc, &mut members, "hex", digits(alloc, bytes)?)?;
-            Ok(Json::Object(members))
+            out.push('{')?;
+            write_hex(0, "hex", bytes, out)?;
+            out.push('}')
         }
     }
 }
 
-fn body_member(alloc: Global, bytes: &[u8]) -> Result<Member, AllocError>
-    ensures { IfOk result (λ m. IsBodyMember bytes.now m) }
+fn write_body(bytes: &[u8], out: &mut Text) -> Result<(), AllocError>
+    ensures { OnOk result ((m : MemberValue) × IsBodyMember bytes.now m
+        × (out.new ≡ out.old ++ (comma_before 3 ++ compact_member m))) }
 {
     match str::from_utf8(bytes) {
-        Ok(text) => Ok(Member {
-            name: Text::from_ascii(alloc, "body")?,
-            value: Json::Text(Text::from_str(alloc, text)?),
-        }),
-        Err(_) => Ok(Member {
-            name: Text::from_ascii(alloc, "body_hex")?,
-            value: digits(alloc, bytes)?,
-        }),
+        Ok(text) => write_text_member(3, "body", text, out),
+        Err(_) => write_hex(3, "body_hex", bytes, out),
     }
 }
 
-fn digits(alloc: Global, bytes: &[u8]) -> Result<Json, AllocError>
-    ensures { IfOk result (λ json. json ≡ Words (encode_lower bytes.now)) }
+// A member whose value is the bytes in hexadecimal digits.
+fn write_hex(index: usize, name: &str, bytes: &[u8], out: &mut Text) -> Result<(), AllocError>
+    requires { IsTrue (all_ascii name.now) }
+    ensures { OnOk result (out.new ≡ out.old
+        ++ (comma_before index ++ compact_member (member name.now (Words (encode_lower bytes.now))))) }
 {
-    Ok(Json::Text(Text::from_string(hex::encode(alloc, bytes)?)))
+    write_name(index, name, out)?;
+    out.push('"')?;
+    write_digits(bytes, out)?;
+    out.push('"')
+}
+
+// Two digits for each byte, of which none has an escape.
+fn write_digits(bytes: &[u8], out: &mut Text) -> Result<(), AllocError>
+    ensures { OnOk result (out.new ≡ out.old ++ flat_map escape (encode_lower bytes.now)) }
+{
+    for byte in bytes {
+        out.push(digit(*byte / 16))?;
+        out.push(digit(*byte % 16))?;
+    }
+    Ok(())
+}
+
+fn digit(value: u8) -> char
+    requires { value < 16 }
+    ensures { result ≡ slice_index lower_digits value }
+{
+    char::from(DIGITS[usize::from(value)])
 }

@@ -1,19 +1,21 @@
 //! Request lines.
-ghost use Rattle.std.specs.Prelude.{◌≡◌, ◌↔◌, ℕ, List as ListOf, IfOk, IsErrOf, IsTrue, MatchOption, None};
-ghost use Rattle.std.specs.Prelude.{OnOk, option_map};
+ghost use Rattle.std.specs.Prelude.{◌≡◌, ◌≢◌, ◌↔◌, ◌<◌, ℕ, List as ListOf, IfOk, IsErrOf, IsTrue, OnOk};
+ghost use Rattle.std.specs.Prelude.{MatchOption, None, codes, length, option_and_then, option_map};
 ghost use Rattle.std.specs.Str.{encode_utf8_all};
 ghost use Rattle.semver.specs.Identifiers.{parts_of};
 ghost use Rattle.http_header.specs.Token.{IsToken};
 ghost use Rattle.schema_values.specs.Ascii.{all_ascii};
-ghost use Rattle.schema_values.specs.Get.{get_of};
+ghost use Rattle.schema_values.specs.Get.{first_named, get_of};
 ghost use Rattle.schema_values.specs.Reading.{Reads};
-ghost use Rattle.contract_tool.specs.RequestLines.{HasBody, HasHead, HasNoOther, IsReadAs, frame_of};
+ghost use Rattle.schema_values.specs.declared.json_value.Json.{Object};
+ghost use Rattle.contract_tool.specs.RequestLines.{HasBody, HasHead, HasMethod, HasNoOther, HasTexts};
+ghost use Rattle.contract_tool.specs.RequestLines.{IsFirstNamed, IsReadAs, as_text, frame_at, frame_of};
 ghost use Rattle.contract_tool.specs.RequestLines.{only_text, text_of};
 
 use api_description::api_extract::{RequestInfo, RequestParts};
 use http::Method;
 use http::method::MethodError;
-use schema_values::{Json, ReadError, Text};
+use schema_values::{Json, Member, ReadError, Scratch, Text};
 use semver::Version;
 use std::alloc::{AllocError, Global};
 
@@ -36,47 +38,55 @@ struct Head<'a> {
     id: &'a Text,
 }
 
-/// Reads a line whose request is sent to a version. A body has at most this many bytes.
+// The texts that are kept of a request.
+#[derive(Drop)]
+struct Texts {
+    template: Text,
+    id: Text,
+    frame: Text,
+}
+
+/// Reads a line whose request is sent to a version, in room that is kept from line to line. A body has at
+/// most this many bytes.
 pub(crate) fn read_line(
     alloc: Global,
+    room: &mut Scratch,
     line: &[u8],
     version: &Version,
     most: u64,
 ) -> Result<RequestLine, AllocError>
     ensures { IfOk result (λ read. IsReadAs most (parts_of version.now) line.now read) }
 {
-    let json = match Json::read(alloc, line) {
+    let json = match Json::read_with(alloc, room, line) {
         Ok(json) => json,
         Err(ReadError::Unreadable) => return Ok(RequestLine::Bad),
         Err(ReadError::OutOfMemory) => return Err(AllocError),
     };
-    asked_for(alloc, &json, version, most)
-}
-
-// What the lines that read as this JSON ask for.
-fn asked_for(
-    alloc: Global,
-    json: &Json,
-    version: &Version,
-    most: u64,
-) -> Result<RequestLine, AllocError>
-    ensures { (line : ListOf ℕ) → Reads line json.now
-        → IfOk result (λ read. IsReadAs most (parts_of version.now) line read) }
-{
-    let Some(head) = head_of(json) else {
+    let Some(method) = method_in(alloc, &json)? else {
         return Ok(RequestLine::Bad);
     };
-    let method = match method_of(alloc, head.method.as_bytes()) {
-        Ok(method) => method,
-        Err(MethodError::Invalid) => return Ok(RequestLine::Bad),
-        Err(MethodError::OutOfMemory) => return Err(AllocError),
-    };
-    let Some(body) = body_of(json, most) else {
+    if body_of(&json, most).is_none() {
         return Ok(RequestLine::NotBuilt);
-    };
-    let body = body.copy(alloc)?;
-    let request = request_of(alloc, &head, method, version)?;
+    }
+    let (request, body) = request_of(json, method, version)?;
     Ok(RequestLine::Request(request, body))
+}
+
+// The method of a request, where the value is one.
+fn method_in(alloc: Global, json: &Json) -> Result<Option<Method>, AllocError>
+    ensures { IfOk result (λ found. MatchOption found
+        ((method template id : ListOf ℕ) → HasHead json.now method template id
+        → ¬ IsToken (encode_utf8_all method))
+        (λ method. HasMethod json.now method)) }
+{
+    let Some(head) = head_of(json) else {
+        return Ok(None);
+    };
+    match method_of(alloc, head.method.as_bytes()) {
+        Ok(method) => Ok(Some(method)),
+        Err(MethodError::Invalid) => Ok(None),
+        Err(MethodError::OutOfMemory) => Err(AllocError),
+    }
 }
 
 fn head_of(json: &Json) -> Option<Head<'_>>
@@ -104,23 +114,119 @@ fn method_of(alloc: Global, bytes: &[u8]) -> Result<Method, MethodError>
     }
 }
 
+// The request that a value holds, and its body.
 fn request_of(
-    alloc: Global,
-    head: &Head<'_>,
+    json: Json,
     method: Method,
     version: &Version,
-) -> Result<RequestParts, AllocError>
-    ensures template { IfOk result (λ request. request.template ≡ head.now.template.now) }
-    ensures id { IfOk result (λ request. request.request_id ≡ head.now.id.now) }
-    ensures method { IfOk result (λ request. request.info.method ≡ method) }
-    ensures version { IfOk result (λ request. parts_of request.version ≡ parts_of version.now) }
+) -> Result<(RequestParts, Text), AllocError>
+    requires { (template : ListOf ℕ) × (id : ListOf ℕ) × (frame : ListOf ℕ)
+        × HasTexts json template id frame }
+    ensures texts { IfOk result (λ read. HasTexts json read.0.template read.0.request_id read.1) }
+    ensures method { IfOk result (λ read. read.0.info.method ≡ method) }
+    ensures version { IfOk result (λ read. parts_of read.0.version ≡ parts_of version.now) }
 {
-    Ok(RequestParts {
-        version: version.clone()?,
-        template: head.template.copy(alloc)?,
-        request_id: head.id.copy(alloc)?,
+    let version = version.clone()?;
+    let Some(texts) = texts_of(json) else {
+        unreachable!();
+    };
+    let Texts {
+        template,
+        id,
+        frame,
+    } = texts;
+    let request = RequestParts {
+        version,
+        template,
+        request_id: id,
         info: RequestInfo::new(method),
+    };
+    Ok((request, frame))
+}
+
+// The texts that are kept of a request, moved out of the value.
+fn texts_of(json: Json) -> Option<Texts>
+    ensures { MatchOption result ((template id frame : ListOf ℕ) → HasTexts json template id frame → ⊥)
+        (λ texts. HasTexts json texts.template texts.id texts.frame) }
+{
+    match json {
+        Json::Object(members) => texts_in(members.into_vec()),
+        _ => None,
+    }
+}
+
+fn texts_in(mut members: Vec<Member>) -> Option<Texts>
+    ensures { MatchOption result
+        ((template id frame : ListOf ℕ) → HasTexts (Object members.items) template id frame → ⊥)
+        (λ texts. HasTexts (Object members.items) texts.template texts.id texts.frame) }
+{
+    Some(Texts {
+        template: take_text(&mut members, "template")?,
+        id: take_text(&mut members, "request_id")?,
+        frame: take_frame(&mut members)?,
     })
+}
+
+// Takes the text of a member.
+fn take_text(members: &mut Vec<Member>, name: &str) -> Option<Text>
+    requires { IsTrue (all_ascii name.now) }
+    ensures text { result ≡ option_and_then as_text (first_named name.now members.old.items) }
+    ensures others { (other : ListOf ℕ) → other ≢ name.now
+        → first_named other members.new.items ≡ first_named other members.old.items }
+{
+    match take_value(members, name)? {
+        Json::Text(text) => Some(text),
+        _ => None,
+    }
+}
+
+// Takes the text of the one item of `frames`.
+fn take_frame(members: &mut Vec<Member>) -> Option<Text>
+    ensures { result ≡ option_and_then frame_at (first_named (codes "frames") members.old.items) }
+{
+    match take_value(members, "frames")? {
+        Json::List(frames) => take_only(frames.into_vec()),
+        _ => None,
+    }
+}
+
+// The text of the one item.
+fn take_only(mut frames: Vec<Json>) -> Option<Text>
+    ensures { result ≡ only_text frames.items }
+{
+    if frames.len() != 1 {
+        return None;
+    }
+    match frames.pop() {
+        Some(Json::Text(frame)) => Some(frame),
+        _ => None,
+    }
+}
+
+// Takes the value of the first member of a name.
+fn take_value(members: &mut Vec<Member>, name: &str) -> Option<Json>
+    requires { IsTrue (all_ascii name.now) }
+    ensures value { result ≡ first_named name.now members.old.items }
+    ensures others { (other : ListOf ℕ) → other ≢ name.now
+        → first_named other members.new.items ≡ first_named other members.old.items }
+{
+    let index = index_of(members, name)?;
+    let Member { value, .. } = members.remove(index);
+    Some(value)
+}
+
+// Where the first member of a name stands.
+fn index_of(members: &[Member], name: &str) -> Option<usize>
+    requires { IsTrue (all_ascii name.now) }
+    ensures { MatchOption result (first_named name.now members.now ≡ None)
+        (λ index. (index < length members.now) × IsFirstNamed name.now members.now index) }
+{
+    for index in 0..members.len() {
+        if members[index].name.equals_str(name) {
+            return Some(index);
+        }
+    }
+    None
 }
 
 // The value of a member.

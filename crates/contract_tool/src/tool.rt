@@ -7,10 +7,10 @@ ghost use Rattle.api_description.specs.Registering.{AreAccepted};
 ghost use Rattle.api_description.specs.declared.register.ApiDescriptionRegisterError.{ApiDescriptionRegisterError as ErrorValue};
 ghost use Rattle.contract_tool.specs.declared.config.ToolStatus.{ToolStatus as StatusValue};
 ghost use Rattle.contract_tool.specs.Ends.{CallsFor, IsEnded, outside};
-ghost use Rattle.contract_tool.specs.Sessions.{IsSession, front_of, status_of};
+ghost use Rattle.contract_tool.specs.Sessions.{IsSession, preamble_of, status_of};
 ghost use Rattle.contract_tool.specs.Words.{IsCommand};
 
-use crate::answering::Desk;
+use crate::answering::LineAnswerer;
 use crate::config::{ToolConfig, ToolStatus};
 use crate::words::{WordsError, session_version};
 use api_description::api_respond::RouteHandler;
@@ -81,10 +81,10 @@ pub fn run<S: Source, K: Sink>(
     };
     // The law of its document, which `session` and `ended` rest on.
     api.agrees();
-    let Ok(front) = front(alloc, &api, config, &version) else {
+    let Ok(preamble) = preamble(alloc, &api, config, &version) else {
         return ToolStatus::OutOfMemory;
     };
-    let desk = Desk {
+    let answerer = LineAnswerer {
         api: &api,
         config,
         version: &version,
@@ -92,9 +92,9 @@ pub fn run<S: Source, K: Sink>(
     };
     status_of(serve(
         alloc,
-        &desk,
+        &answerer,
         store,
-        front.as_slice(),
+        preamble.as_slice(),
         config.most_input,
         config.longest_line,
         source,
@@ -103,14 +103,14 @@ pub fn run<S: Source, K: Sink>(
 }
 
 // The pretty text of the document, and a newline.
-fn front(
+fn preamble(
     alloc: Global,
     api: &ApiDescription,
     config: &ToolConfig,
     version: &Version,
 ) -> Result<List<u8>, AllocError>
     requires { AreAccepted (boxed ⟦<dyn RouteHandler as RouteHandler>⟧) [] api.now.endpoints.items }
-    ensures { IfOk result (λ front. front ≡ front_of (boxed ⟦<dyn RouteHandler as RouteHandler>⟧)
+    ensures { IfOk result (λ preamble. preamble ≡ preamble_of (boxed ⟦<dyn RouteHandler as RouteHandler>⟧)
         config.now (parts_of version.now) api.now.endpoints.items) }
 {
     let definition = api.openapi(alloc, config.title.as_str(), version.clone()?)?;

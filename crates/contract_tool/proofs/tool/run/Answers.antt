@@ -22,7 +22,7 @@ serve-requires-clause-ready g c = rw c.in-Ok-of_endpoints.ensures.items c.in-Ok-
 pub returns-clause-session : goal.returns-clause-session
 returns-clause-session g c is all written left taken =
     let end = ended-so c.serve.result c.status_of.result Done c.status_of.ensures is in
-    let front = rw c.in-Ok-of_endpoints.ensures.items at (c.as_slice.ensures ∙ c.in-Ok-front.ensures) in
+    let preamble = rw c.in-Ok-of_endpoints.ensures.items at (c.as_slice.ensures ∙ c.in-Ok-preamble.ensures) in
     record {
       version = parts_of c.in-Ok.version;
       opened = subst (λ es. IsOpened (λ e. goal.RouteHandler-dyn g (e.handler.vtable, e.handler.value)) c.args.config.now (parts_of c.in-Ok.version) es c.args.words.now) c.in-Ok-of_endpoints.ensures.items
@@ -30,12 +30,12 @@ returns-clause-session g c is all written left taken =
           (c.agrees.ensures.sound c.args.config.now.title (parts_of c.in-Ok.version))
           (c.agrees.ensures.listed c.args.config.now.title (parts_of c.in-Ok.version)) (c.agrees.ensures.agreed c.args.config.now.title (parts_of c.in-Ok.version))
           (c.agrees.ensures.followed c.args.config.now.title c.args.config.now.server));
-      answered = answered-same _ c.args.config.now (parts_of c.in-Ok.version) _ c.args.endpoints.items _ _ all written _ _ _ _ c.in-Ok-of_endpoints.ensures.items front (c.serve.ensures.session end all written left taken);
+      answered = answered-same _ c.args.config.now (parts_of c.in-Ok.version) _ c.args.endpoints.items _ _ all written _ _ _ _ c.in-Ok-of_endpoints.ensures.items preamble (c.serve.ensures.session end all written left taken);
     }
 
 pub returns-clause-ended : goal.returns-clause-ended
 returns-clause-ended g c =
-    let front = rw c.in-Ok-of_endpoints.ensures.items at (c.as_slice.ensures ∙ c.in-Ok-front.ensures) in
+    let preamble = rw c.in-Ok-of_endpoints.ensures.items at (c.as_slice.ensures ∙ c.in-Ok-preamble.ensures) in
     is-ended _ c.args.config.now c.args.endpoints.items c.args.words.now _ _ _ _ c.serve.result c.status_of.result c.status_of.ensures (record {
       version = parts_of c.in-Ok.version;
       opened = subst (λ es. IsOpened (λ e. goal.RouteHandler-dyn g (e.handler.vtable, e.handler.value)) c.args.config.now (parts_of c.in-Ok.version) es c.args.words.now) c.in-Ok-of_endpoints.ensures.items
@@ -43,7 +43,7 @@ returns-clause-ended g c =
           (c.agrees.ensures.sound c.args.config.now.title (parts_of c.in-Ok.version))
           (c.agrees.ensures.listed c.args.config.now.title (parts_of c.in-Ok.version)) (c.agrees.ensures.agreed c.args.config.now.title (parts_of c.in-Ok.version))
           (c.agrees.ensures.followed c.args.config.now.title c.args.config.now.server));
-      served = served-same _ c.args.config.now (parts_of c.in-Ok.version) _ c.args.endpoints.items _ _ _ _ _ _ _ _ _ _ _ c.in-Ok-of_endpoints.ensures.items front c.serve.ensures.served;
+      served = served-same _ c.args.config.now (parts_of c.in-Ok.version) _ c.args.endpoints.items _ _ _ _ _ _ _ _ _ _ _ c.in-Ok-of_endpoints.ensures.items preamble c.serve.ensures.served;
       limits = c.serve.ensures.limits;
     }) c.serve.ensures.read_fault c.serve.ensures.write_fault
 
