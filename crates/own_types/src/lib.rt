@@ -1,4 +1,4 @@
-//! Types of one's own in documents and on the wire: an example of each kind.
+//! Types of one's own in documents and on the wire.
 #![tactic(auto)]
 
 mod color;
