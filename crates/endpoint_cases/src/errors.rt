@@ -9,10 +9,11 @@ use crate::shapes::status_of;
 use api_description::http_status::{
     ErrorStatusCode, HttpError, HttpErrorResponseBody, RequestId, RequestIdError, Response,
 };
-use api_types::{ApiType, TypeError, json_value, table_of, value_json};
+use api_types::{ApiType, TypeError, table_of};
 use case_notation::{CaseError, given, maybe_text, number_of, put, text_of, tree_noted};
 use schema_values::{Json, List, ReadError, Text};
 use std::alloc::{AllocError, Global};
+use type_wire::{json_value, value_json};
 use typed_values::DecodeError;
 
 /// What an error of status 400 is printed as, and its response to a request.
