@@ -16,10 +16,10 @@ ghost use Rattle.openapi_values.specs.Rows.{other_admitted, every_admits, some_a
 ghost use Rattle.openapi_values.specs.Steps.{left};
 
 use crate::asked::{Asked, asked_items, asked_members, is_in_list, is_null_asked, is_of_type};
-use crate::find::{definition_named, find_member, is_set_true, reference_of};
+use crate::keyword_rules;
 use crate::keywords::{Keyword, keyword_named};
 use crate::room::{Steps, inside, of_items, of_members};
-use crate::rows;
+use crate::schema_members::{definition_named, find_member, is_set_true, reference_of};
 use schema_values::{Json, Member};
 use std::slice;
 
@@ -103,13 +103,13 @@ impl Admitter<'_> {
             (admits_of self.now asked.now (left next.now)) (asked_json asked.now)
             (out-Json (asked_json asked.now)) schema.now }
     {
-        if !rows::all_read(schema) {
+        if !keyword_rules::all_read(schema) {
             return false;
         }
         if is_set_true(schema, "nullable") && is_null_asked(asked) {
             return true;
         }
-        if rows::has_null_form(schema) {
+        if keyword_rules::has_null_form(schema) {
             is_null_asked(asked)
         } else {
             self.members_hold(next, schema, asked)
@@ -146,28 +146,28 @@ impl Admitter<'_> {
             Keyword::Nullable | Keyword::Annotation => true,
             Keyword::ExclusiveMinimum | Keyword::ExclusiveMaximum => true,
             Keyword::OfType => is_of_type(given, asked),
-            Keyword::Format => rows::is_of_format(schema, given, asked),
+            Keyword::Format => keyword_rules::is_of_format(schema, given, asked),
             Keyword::Enum => is_in_list(given, asked),
-            Keyword::Minimum => rows::is_at_least(
+            Keyword::Minimum => keyword_rules::is_at_least(
                 is_set_true(schema, "exclusiveMinimum"),
                 given,
                 asked,
             ),
-            Keyword::Maximum => rows::is_at_most(
+            Keyword::Maximum => keyword_rules::is_at_most(
                 is_set_true(schema, "exclusiveMaximum"),
                 given,
                 asked,
             ),
-            Keyword::MinLength => rows::is_long_enough(given, asked),
-            Keyword::MaxLength => rows::is_short_enough(given, asked),
+            Keyword::MinLength => keyword_rules::is_long_enough(given, asked),
+            Keyword::MaxLength => keyword_rules::is_short_enough(given, asked),
             Keyword::Items => self.items_hold(given, asked),
-            Keyword::MinItems => rows::has_enough_items(given, asked),
-            Keyword::MaxItems => rows::has_few_items(given, asked),
+            Keyword::MinItems => keyword_rules::has_enough_items(given, asked),
+            Keyword::MaxItems => keyword_rules::has_few_items(given, asked),
             Keyword::Properties => self.properties_hold(given, asked),
-            Keyword::Required => rows::has_names(given, asked),
+            Keyword::Required => keyword_rules::has_names(given, asked),
             Keyword::AdditionalProperties => self.others_hold(schema, given, asked),
-            Keyword::MinProperties => rows::has_enough_members(given, asked),
-            Keyword::MaxProperties => rows::has_few_members(given, asked),
+            Keyword::MinProperties => keyword_rules::has_enough_members(given, asked),
+            Keyword::MaxProperties => keyword_rules::has_few_members(given, asked),
             Keyword::AllOf => self.every_admits(next, given, asked),
             Keyword::AnyOf => self.some_admits(next, given, asked),
             Keyword::OneOf => self.one_admits(next, given, asked),
@@ -342,8 +342,8 @@ impl Admitter<'_> {
     fn other_admitted(&self, schema: &[Member], allowed: &Json, member: &Member) -> bool
         ensures { result ≡ other_admitted (smaller_of self.now) schema.now allowed.now member.now }
     {
-        rows::names_property(schema, &member.name)
-            || rows::is_true_value(allowed)
+        keyword_rules::names_property(schema, &member.name)
+            || keyword_rules::is_true_value(allowed)
             || self.admits_anew(allowed, &Asked::Value(&member.value))
     }
 }

@@ -12,8 +12,8 @@ ghost use Rattle.openapi_values.specs.Levels.{as_list, as_object};
 ghost use Rattle.openapi_values.specs.Lookup.{definition};
 ghost use Rattle.openapi_values.specs.Steps.{left};
 
-use crate::find::{definition_named, find_word, reference_of};
 use crate::room::{Steps, inside, of_items, of_members};
+use crate::schema_members::{definition_named, find_word, reference_of};
 use schema_values::{Json, Member};
 use std::slice;
 

@@ -14,9 +14,9 @@ ghost use Rattle.openapi_values.specs.SchemaJson.{values_json as json_of_values,
 ghost use Rattle.openapi_values.specs.SchemaJson.{count_json as count_of};
 ghost use Rattle.openapi_values.specs.SchemaJson.{truth_json as json_of_truth, type_name};
 
-use crate::find::find_word;
 use crate::objects::{add, add_option, true_json};
 use crate::part::{copy_option, option_json};
+use crate::schema_members::find_word;
 use request_words::text_after;
 use schema_values::{
     InstanceType, Json, LengthBounds, List, Member, NumberBounds, SchemaObject, Text,

@@ -17,8 +17,8 @@ ghost use Rattle.openapi_values.specs.Lookup.{definition};
 ghost use Rattle.openapi_values.specs.TextAdmits.{text_within, TextAdmits};
 
 use crate::admits::{json_admits, json_text_admits};
-use crate::find::{definition_named, find_word, has_type_named, reference_of};
 use crate::room::{Steps, inside, of_items, of_members};
+use crate::schema_members::{definition_named, find_word, has_type_named, reference_of};
 use request_words::{cut_number, has_minus, is_str_word, text_after};
 use schema_values::{Json, Member};
 use std::slice;

@@ -4,7 +4,7 @@ use Rattle.schema_values.specs.declared.json_value.Json.{Json, out-Json}
 use Rattle.schema_values.specs.declared.json_value.Member.{Member}
 use Rattle.openapi_values.specs.Levels.{as_text, has_member}
 use Rattle.openapi_values.specs.Options.{is_some_and}
-use Rattle.openapi_values.proofs.rows.all_stand.Given as goal
+use Rattle.openapi_values.proofs.keyword_rules.all_stand.Given as goal
 
 abbrev is_name : List Member → Json → Bool
 is_name members name = is_some_and (as_text (out-Json name)) (λ t. has_member t members)

@@ -15,8 +15,8 @@ ghost use Rattle.openapi_values.specs.Rows.{in_subset};
 use crate::asked::{
     Asked, asked_items, asked_members, asked_number, asked_text, characters, is_null_value,
 };
-use crate::find::{find_word, has_type_named, stands};
 use crate::keywords::{Keyword, keyword_named};
+use crate::schema_members::{find_word, has_type_named, stands};
 use request_words::is_word;
 use schema_values::{Json, Member, Text};
 
