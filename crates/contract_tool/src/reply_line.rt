@@ -92,6 +92,7 @@ fn write_status(status: StatusCode, out: &mut Text) -> Result<(), AllocError>
     ensures { OnOk result (out.new ≡ out.old
         ++ (comma_before 1 ++ compact_member (member (codes "status") (Number (pos status))))) }
 {
+    // What this call promises shows that the code has three digits.
     let _code = status.as_u16();
     write_name(1, "status", out)?;
     out.push_ascii(status.as_str())

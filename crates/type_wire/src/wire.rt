@@ -41,9 +41,9 @@ pub fn value_json<T: ApiType>(
     encode_json(alloc, table, &desc, &tree)
 }
 
-/// The value whose tree sound JSON denotes, or the fault that is told first. Each document that has the schemas
-/// of the definitions admits what is read under the type's schema, with its name as title or without, and
-/// where it admits the JSON no fault is told.
+/// The value whose tree sound JSON denotes, or the fault that is told first. Each document that has the
+/// schemas of the definitions admits what is read under the type's schema, with its name as title or
+/// without, and where it admits the JSON no fault is told.
 pub fn json_value<T: ApiType>(
     alloc: Global,
     table: &DescTable,
