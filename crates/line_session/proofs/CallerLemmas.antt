@@ -2,7 +2,7 @@
 use Rattle.std.proofs.Common.{◌≡◌, ◌⊎◌, inl, inr, ℕ, List, [], ◌∷◌, ◌++◌, refl, ap}
 use Rattle.std.specs.declared.option.Option.{Option}
 use Rattle.line_session.specs.Lines.{all_lines, end_line}
-use Rattle.line_session.specs.Session.{CutSession, HasWrittenPart, IsCut, NeverLost}
+use Rattle.line_session.specs.Session.{CutSession, HasWrittenPart, NeverLost}
 use Rattle.line_session.specs.Status.{IsServed}
 use Rattle.line_session.specs.declared.serving.SessionEnd.{SessionEnd}
 use Rattle.line_session.specs.declared.serving.SessionEnd.TheVariants.{Done, ReadFault, WriteFault, LineTooLong, TooMuchInput, OutOfMemory}

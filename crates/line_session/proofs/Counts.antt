@@ -1,5 +1,5 @@
 -- Which ends of a session are faults, and what the counts of faults have to do with them.
-use Rattle.std.proofs.Common.{◌≡◌, Bool, true, false, true≢false, ℕ, ◌<◌, ◌≤◌, Err, refl, sym, ap, ◌∙◌, arith}
+use Rattle.std.proofs.Common.{◌≡◌, Bool, true, false, true≢false, ℕ, ◌≤◌, Err, refl, sym, ap, ◌∙◌, arith}
 use Rattle.std.specs.Prelude.{IsErrOf}
 use Rattle.schema_values.specs.Causes.{HasRisen}
 use Rattle.line_session.specs.Status.{CountsFaults, status_of}
