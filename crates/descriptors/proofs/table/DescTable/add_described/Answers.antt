@@ -1,4 +1,4 @@
-use Rattle.std.proofs.Common.{◌≡◌, ℕ, List, [], ◌∷◌, ◌++◌, length, ◌∙◌, ap, ap₂, sym, subst}
+use Rattle.std.proofs.Common.{◌≡◌, ℕ, List, length, ◌∙◌, ap, ap₂, sym, subst}
 use Rattle.std.specs.List.{insert}
 use Rattle.std.specs.Str.{chars}
 use Rattle.descriptors.specs.declared.table.Definition.{Definition}
