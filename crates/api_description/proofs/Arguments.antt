@@ -3,7 +3,7 @@ use Rattle.std.proofs.Common.{◌≡◌, ℕ, ◌+◌, ◌<◌, List, [], ◌∷
 use Rattle.std.proofs.lemmas.List.{take_more, take-append-drop}
 use Rattle.std.proofs.Math.Seq.{drop-cons}
 use Rattle.typed_values.specs.declared.fault.Fault.{Fault}
-use Rattle.typed_values.specs.declared.table.Definition.{Definition}
+use Rattle.descriptors.specs.declared.table.Definition.{Definition}
 use Rattle.api_description.specs.declared.api_extract.slot.Slot.{Slot}
 use Rattle.api_description.specs.declared.api_extract.slot.Arg.{Arg}
 use Rattle.api_description.specs.Requests.{ArgsDenoted, SlotDenotes, SlotRefused, FirstRefused}

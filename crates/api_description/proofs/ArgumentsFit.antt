@@ -2,7 +2,7 @@
 use Rattle.std.proofs.Common.{ℕ, List, [], ◌∷◌}
 use Rattle.std.proofs.lemmas.List.Elements.{All-head, All-tail}
 use Rattle.schema_values.proofs.CallerLemmas.{reading_sound}
-use Rattle.typed_values.specs.declared.table.Definition.{Definition}
+use Rattle.descriptors.specs.declared.table.Definition.{Definition}
 use Rattle.typed_values.specs.Checks.{TablePasses}
 use Rattle.typed_values.proofs.CallerLemmas.{denoted_fits}
 use Rattle.api_description.specs.declared.api_extract.slot.Slot.{Slot}

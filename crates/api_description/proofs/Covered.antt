@@ -3,12 +3,13 @@ use Rattle.std.proofs.Common.{◌≡◌, ℕ, zero, suc, ◌+◌, ◌-◌, ◌�
 use Rattle.std.specs.Prelude.{Contains}
 use Rattle.std.specs.List.{list_any, AllByRecursion}
 use Rattle.std.proofs.lemmas.Bool.{cases_lt, or_left, or_right}
-use Rattle.typed_values.specs.declared.desc.Desc.{Desc}
-use Rattle.typed_values.specs.declared.table.Definition.{Definition}
-use Rattle.typed_values.specs.Definitions.{entry_of}
+use Rattle.descriptors.specs.declared.desc.Desc.{Desc}
+use Rattle.descriptors.specs.declared.table.Definition.{Definition}
+use Rattle.descriptors.specs.Definitions.{entry_of}
 use Rattle.typed_values.specs.Reached.{Mentions, IsReached, directly, through}
 use Rattle.schema_values.proofs.CallerLemmas.{contains_cases}
-use Rattle.typed_values.proofs.CallerLemmas.{entry_name, entry_inside}
+use Rattle.descriptors.proofs.CallerLemmas.{entry_name}
+use Rattle.typed_values.proofs.CallerLemmas.{entry_inside}
 use Rattle.api_description.specs.Documents.{references, is_among, referred_by, reached_within}
 use Rattle.api_description.proofs.Among.{any_contained, among_texts, among_joined}
 use Rattle.api_description.proofs.Growing.{StaysAt, some_stay}

@@ -4,10 +4,10 @@ use Rattle.std.specs.declared.result.Result.{Result}
 use Rattle.schema_values.specs.declared.json_value.Json.{Json}
 use Rattle.semver.specs.Identifiers.{parts_of}
 use Rattle.semver.specs.Parse.{Parts}
-use Rattle.typed_values.specs.declared.desc.Desc.{Desc}
+use Rattle.descriptors.specs.declared.desc.Desc.{Desc}
 use Rattle.typed_values.specs.declared.fault.Fault.{Fault}
-use Rattle.typed_values.specs.declared.table.Definition.{Definition}
-use Rattle.typed_values.specs.declared.tree.Tree.{Tree}
+use Rattle.descriptors.specs.declared.table.Definition.{Definition}
+use Rattle.descriptors.specs.declared.tree.Tree.{Tree}
 use Rattle.typed_values.specs.Denotes.{told}
 use Rattle.api_description.specs.declared.api_extract.request.RequestParts.{RequestParts}
 use Rattle.api_description.specs.declared.api_extract.request.ServerConfig.{ServerConfig}

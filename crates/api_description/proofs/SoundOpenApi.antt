@@ -12,7 +12,7 @@ use Rattle.openapi_values.specs.declared.operation.PathItem.{PathItem}
 use Rattle.openapi_values.specs.SoundParts.{IsSoundBody, IsSoundItem, IsSoundMap, IsSoundMedia, IsSoundOperation, IsSoundResponse, names_of_map}
 use Rattle.openapi_values.proofs.CallerLemmas.{document_sound}
 use Rattle.semver.specs.Parse.{Parts}
-use Rattle.typed_values.specs.declared.table.Definition.{Definition}
+use Rattle.descriptors.specs.declared.table.Definition.{Definition}
 use Rattle.typed_values.specs.Checks.{TablePasses}
 use Rattle.typed_values.specs.Lengths.{HasShortLengths, TableHasShortLengths}
 use Rattle.written_schemas.proofs.SoundForms.{appended}

@@ -10,7 +10,7 @@ use Rattle.std.specs.String.{string_cmp}
 use Rattle.std.specs.Map.{lookup}
 use Rattle.std.specs.BTreeMap.{insert_entry, is_at}
 use Rattle.std.proofs.lemmas.Map.Text.{is_eq-slice_cmp}
-use Rattle.typed_values.specs.declared.tree.Tree.{Tree}
+use Rattle.descriptors.specs.declared.tree.Tree.{Tree}
 use Rattle.api_description.specs.Stores.{pairs_with, tree_at}
 use Rattle.api_description.specs.StoreView.{pairs_of_entries}
 

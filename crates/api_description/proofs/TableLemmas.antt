@@ -5,7 +5,7 @@ use Rattle.std.specs.List.{position, position_from}
 use Rattle.std.proofs.Math.ListN.{set}
 use Rattle.std.proofs.lemmas.List.Quantifiers.{position-Some}
 use Rattle.std.proofs.lemmas.Iterator.Adapters.{position_from-zero}
-use Rattle.typed_values.specs.declared.tree.Tree.{Tree}
+use Rattle.descriptors.specs.declared.tree.Tree.{Tree}
 use Rattle.api_description.specs.Stores.{Pairs, Tables, pairs_of, pairs_with, store_with}
 
 -- the first table of the name stands at this place

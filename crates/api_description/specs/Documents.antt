@@ -11,13 +11,13 @@ use Rattle.std.specs.Map.{lookup}
 use Rattle.std.specs.Str.{chars, encode_utf8_all}
 use Rattle.schema_values.specs.declared.json_value.Json.{Json}
 use Rattle.schema_values.specs.Pretty.{pretty_of}
-use Rattle.typed_values.specs.declared.desc.Desc.{Desc}
-use Rattle.typed_values.specs.declared.desc.Desc.TheOpen.{Desc-F, Field-F, TaggedVariant-F, Variant-F}
-use Rattle.typed_values.specs.declared.desc.Desc.TheFolds.{fold-Desc}
-use Rattle.typed_values.specs.declared.desc.TaggedVariant.{TaggedVariant}
-use Rattle.typed_values.specs.declared.desc.Variant.{Variant}
-use Rattle.typed_values.specs.declared.table.Definition.{Definition}
-use Rattle.typed_values.specs.Definitions.{tagged_fields}
+use Rattle.descriptors.specs.declared.desc.Desc.{Desc}
+use Rattle.descriptors.specs.declared.desc.Desc.TheOpen.{Desc-F, Field-F, TaggedVariant-F, Variant-F}
+use Rattle.descriptors.specs.declared.desc.Desc.TheFolds.{fold-Desc}
+use Rattle.descriptors.specs.declared.desc.TaggedVariant.{TaggedVariant}
+use Rattle.descriptors.specs.declared.desc.Variant.{Variant}
+use Rattle.descriptors.specs.declared.table.Definition.{Definition}
+use Rattle.descriptors.specs.Definitions.{tagged_fields}
 use Rattle.typed_values.specs.SchemaTable.{schema_json_titled, schema_json_described}
 use Rattle.openapi_values.specs.declared.document.Components.{Components}
 use Rattle.openapi_values.specs.declared.document.OpenApi.{OpenApi}

@@ -2,10 +2,10 @@
 use Rattle.std.specs.Prelude.{◌≡◌, ◌⊎◌, ℕ, ⊤, List, [], ◌∷◌, Option, Some, None, All, IfSome, MatchOption, codes}
 use Rattle.std.specs.Str.{encode_utf8_all}
 use Rattle.schema_values.specs.Print.{compact_of}
-use Rattle.typed_values.specs.declared.desc.Desc.{Ref}
-use Rattle.typed_values.specs.declared.table.Definition.{Definition}
+use Rattle.descriptors.specs.declared.desc.Desc.{Ref}
+use Rattle.descriptors.specs.declared.table.Definition.{Definition}
 use Rattle.typed_values.specs.Checks.{TablePasses, DescPasses}
-use Rattle.typed_values.specs.Definitions.{entry_of}
+use Rattle.descriptors.specs.Definitions.{entry_of}
 use Rattle.typed_values.specs.Encoding.{json_of_tree}
 use Rattle.typed_values.specs.Fits.{Fits}
 use Rattle.typed_values.specs.Lengths.{HasShortLengths, TableHasShortLengths}

@@ -3,11 +3,11 @@ use Rattle.std.specs.Prelude.{◌≡◌, ◌⊎◌, ℕ, ⊤, List, [], ◌∷�
 use Rattle.std.specs.declared.result.Result.TheVariants.{Err}
 use Rattle.schema_values.specs.declared.json_value.Json.{Json}
 use Rattle.schema_values.specs.Reading.{Reads}
-use Rattle.typed_values.specs.declared.desc.Desc.{Desc}
-use Rattle.typed_values.specs.declared.tree.Tree.{Tree}
+use Rattle.descriptors.specs.declared.desc.Desc.{Desc}
+use Rattle.descriptors.specs.declared.tree.Tree.{Tree}
 use Rattle.typed_values.specs.declared.fault.Fault.{Fault}
 use Rattle.typed_values.specs.declared.fault.FaultKind.TheVariants.{NotJson}
-use Rattle.typed_values.specs.declared.table.Definition.{Definition}
+use Rattle.descriptors.specs.declared.table.Definition.{Definition}
 use Rattle.typed_values.specs.Denotes.{told, JsonDenotes}
 use Rattle.typed_values.specs.Faults.{Trouble, at_root, fault_of, fault_text}
 use Rattle.typed_values.specs.Fits.{Fits}

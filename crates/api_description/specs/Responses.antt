@@ -7,11 +7,11 @@ use Rattle.schema_values.specs.declared.json_value.Json.{Json, Text as Words, Ob
 use Rattle.schema_values.specs.declared.json_value.Member.{Member}
 use Rattle.schema_values.specs.Pretty.{pretty_of}
 use Rattle.schema_values.specs.Member.{member}
-use Rattle.typed_values.specs.declared.desc.Desc.{Desc, Text as TextDesc, Struct}
-use Rattle.typed_values.specs.declared.desc.Field.{Field}
-use Rattle.typed_values.specs.declared.desc.Presence.{Presence}
-use Rattle.typed_values.specs.declared.desc.Presence.TheVariants.{Required, Skipped}
-use Rattle.typed_values.specs.declared.table.Definition.{Definition}
+use Rattle.descriptors.specs.declared.desc.Desc.{Desc, Text as TextDesc, Struct}
+use Rattle.descriptors.specs.declared.desc.Field.{Field}
+use Rattle.descriptors.specs.declared.desc.Presence.{Presence}
+use Rattle.descriptors.specs.declared.desc.Presence.TheVariants.{Required, Skipped}
+use Rattle.descriptors.specs.declared.table.Definition.{Definition}
 use Rattle.api_description.specs.declared.http_status.error.HttpError.{HttpError}
 use Rattle.api_description.specs.declared.http_status.error_body.HttpErrorResponseBody.{HttpErrorResponseBody}
 use Rattle.api_description.specs.declared.http_status.error.Response.{Response}

@@ -2,7 +2,7 @@
 use Rattle.std.specs.Prelude.{List, map, string_bytes}
 use Rattle.std.specs.declared.alloc.Global.{Global}
 use Rattle.std.specs.declared.string.String.{String}
-use Rattle.typed_values.specs.declared.tree.Tree.{Tree}
+use Rattle.descriptors.specs.declared.tree.Tree.{Tree}
 use Rattle.api_description.specs.Stores.{Pairs}
 
 -- the pairs of the keys' bytes and the trees

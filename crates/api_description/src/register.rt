@@ -3,9 +3,9 @@ ghost use Rattle.std.specs.Prelude.{◌≡◌, ◌↔◌, ◌⊎◌, [], ◌∷�
 ghost use Rattle.std.specs.Prelude.{MatchOption};
 ghost use Rattle.std.specs.Str.{chars};
 ghost use Rattle.typed_values.specs.Checks.{TablePasses};
-ghost use Rattle.typed_values.specs.Definitions.{entry_of};
+ghost use Rattle.descriptors.specs.Definitions.{entry_of};
 ghost use Rattle.typed_values.specs.Lengths.{HasShortLengths};
-ghost use Rattle.typed_values.specs.declared.desc.Desc.{Ref};
+ghost use Rattle.descriptors.specs.declared.desc.Desc.{Ref};
 ghost use Rattle.api_description.specs.Endpoints.{boxed};
 ghost use Rattle.api_description.specs.Registering.{IsBuilt, IsBuiltShape, IsFirstCause, MayRegister};
 ghost use Rattle.api_description.specs.Registering.{message_of};

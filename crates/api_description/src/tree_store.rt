@@ -19,7 +19,7 @@ struct Table {
 impl Model for Table {
     ghost use Rattle.std.specs.Prelude.{ℕ, List, string_bytes};
     ghost use Rattle.std.specs.Coded.{coded_list, coded×, coded_ℕ};
-    ghost use Rattle.typed_values.specs.contracts.tree.Tree as tree;
+    ghost use Rattle.descriptors.specs.contracts.tree.Tree as tree;
     ghost use Rattle.api_description.specs.Stores.{Pairs};
     ghost use Rattle.api_description.specs.StoreView.{pairs_of_entries};
 
@@ -79,7 +79,7 @@ pub struct Store {
 
 impl Model for Store {
     ghost use Rattle.std.specs.Coded.{coded_list, coded×, coded_ℕ};
-    ghost use Rattle.typed_values.specs.contracts.tree.Tree as tree;
+    ghost use Rattle.descriptors.specs.contracts.tree.Tree as tree;
     ghost use Rattle.api_description.specs.Stores.{Tables};
 
     ghost Value = { Tables };

@@ -3,10 +3,10 @@ use Rattle.std.proofs.Common.{◌≡◌, List, [], ◌∷◌, ◌++◌, Option, 
 use Rattle.std.proofs.lemmas.List.{append_assoc}
 use Rattle.std.proofs.lemmas.List.Elements.{Contains-append_cases}
 use Rattle.std.specs.Prelude.{IsErrAnd}
-use Rattle.typed_values.specs.declared.table.Definition.{Definition}
-use Rattle.typed_values.specs.declared.table.AddError.{AddError}
-use Rattle.typed_values.specs.declared.table.AddError.TheVariants.{Clash, OutOfMemory}
-use Rattle.typed_values.specs.Definitions.{entry_of}
+use Rattle.descriptors.specs.declared.table.Definition.{Definition}
+use Rattle.descriptors.specs.declared.table.AddError.{AddError}
+use Rattle.descriptors.specs.declared.table.AddError.TheVariants.{Clash, OutOfMemory}
+use Rattle.descriptors.specs.Definitions.{entry_of}
 use Rattle.api_types.specs.Additions.{with_missing, with_all, AreRefused}
 use Rattle.api_types.specs.Types.{HoldsAll}
 use Rattle.api_types.specs.Adds.{AddsAll}

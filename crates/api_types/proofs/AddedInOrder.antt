@@ -3,15 +3,15 @@ use Rattle.std.proofs.Common.{◌≡◌, Bool, true, false, ℕ, List, [], ◌�
 use Rattle.std.proofs.lemmas.List.{take_more}
 use Rattle.std.proofs.lemmas.List.Elements.{Contains-append_cases}
 use Rattle.std.specs.Prelude.{Contains}
-use Rattle.typed_values.specs.declared.table.Added.{Added}
-use Rattle.typed_values.specs.declared.table.Added.TheVariants.{New, Same}
-use Rattle.typed_values.specs.declared.table.Definition.{Definition}
-use Rattle.typed_values.specs.declared.table.AddError.{AddError}
-use Rattle.typed_values.specs.declared.table.AddError.TheVariants.{Clash, OutOfMemory}
-use Rattle.typed_values.specs.Adding.{Adds, IsRefused}
-use Rattle.typed_values.specs.Definitions.{entry_of}
+use Rattle.descriptors.specs.declared.table.Added.{Added}
+use Rattle.descriptors.specs.declared.table.Added.TheVariants.{New, Same}
+use Rattle.descriptors.specs.declared.table.Definition.{Definition}
+use Rattle.descriptors.specs.declared.table.AddError.{AddError}
+use Rattle.descriptors.specs.declared.table.AddError.TheVariants.{Clash, OutOfMemory}
+use Rattle.descriptors.specs.Adding.{Adds, IsRefused}
+use Rattle.descriptors.specs.Definitions.{entry_of}
 use Rattle.schema_values.proofs.CallerLemmas.{contains_cases}
-use Rattle.typed_values.proofs.CallerLemmas.{same_name}
+use Rattle.descriptors.proofs.CallerLemmas.{same_name}
 use Rattle.api_types.specs.Additions.{with_missing, with_all, AreRefused}
 use Rattle.api_types.specs.Types.{HoldsAll}
 

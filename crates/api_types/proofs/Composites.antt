@@ -1,15 +1,15 @@
 -- The trees of options, lists and maps, by those of what they are made of.
 use Rattle.std.proofs.Common.{◌≡◌, ◌↔◌, ℕ, true, List, [], ◌∷◌, map, None, refl, sym, ◌∙◌, ap, subst, ◌⊎◌, inl, inr}
 use Rattle.std.specs.List.{AllByRecursion}
-use Rattle.typed_values.specs.declared.desc.Desc.{Desc, out-Desc}
-use Rattle.typed_values.specs.declared.desc.Desc.TheOpen.{Desc-F}
-use Rattle.typed_values.specs.declared.desc.Desc.TheVariants as descs
-use Rattle.typed_values.specs.declared.table.Definition.{Definition}
-use Rattle.typed_values.specs.declared.tree.Pair.{Pair}
-use Rattle.typed_values.specs.declared.tree.Tree.{Tree, out-Tree}
-use Rattle.typed_values.specs.declared.tree.Tree.TheOpen.{Tree-F}
-use Rattle.typed_values.specs.declared.tree.Tree.TheVariants as trees
-use Rattle.typed_values.specs.declared.tree.Tree.TheViews.{roll-out-Tree}
+use Rattle.descriptors.specs.declared.desc.Desc.{Desc, out-Desc}
+use Rattle.descriptors.specs.declared.desc.Desc.TheOpen.{Desc-F}
+use Rattle.descriptors.specs.declared.desc.Desc.TheVariants as descs
+use Rattle.descriptors.specs.declared.table.Definition.{Definition}
+use Rattle.descriptors.specs.declared.tree.Pair.{Pair}
+use Rattle.descriptors.specs.declared.tree.Tree.{Tree, out-Tree}
+use Rattle.descriptors.specs.declared.tree.Tree.TheOpen.{Tree-F}
+use Rattle.descriptors.specs.declared.tree.Tree.TheVariants as trees
+use Rattle.descriptors.specs.declared.tree.Tree.TheViews.{roll-out-Tree}
 use Rattle.typed_values.specs.Fits.{option_fits, items_fit, are_ascending, key_of, entries_fit, fits_under}
 use Rattle.typed_values.specs.Parts.{StandsIn, the_whole, in_option, in_list, in_map, of_whole}
 use Rattle.typed_values.specs.Reached.{Mentions}

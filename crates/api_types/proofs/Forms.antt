@@ -3,12 +3,12 @@ use Rattle.std.proofs.Common.{◌≡◌, ℕ, ℤ, Bool, true, false, ◌&&◌, 
 use Rattle.std.specs.List.{AllByRecursion}
 use Rattle.schema_values.specs.declared.json_value.Json.{Json}
 use Rattle.schema_values.specs.SoundTest.{is_sound}
-use Rattle.typed_values.specs.declared.desc.IntKind.{IntKind}
-use Rattle.typed_values.specs.declared.tree.Pair.{Pair}
-use Rattle.typed_values.specs.declared.tree.Tree.{Tree}
-use Rattle.typed_values.specs.declared.tree.Tree.TheOpen.{Tree-F}
-use Rattle.typed_values.specs.declared.tree.Tree.TheVariants as trees
-use Rattle.typed_values.specs.declared.tree.Tree.TheViews.{roll-Tree}
+use Rattle.descriptors.specs.declared.desc.IntKind.{IntKind}
+use Rattle.descriptors.specs.declared.tree.Pair.{Pair}
+use Rattle.descriptors.specs.declared.tree.Tree.{Tree}
+use Rattle.descriptors.specs.declared.tree.Tree.TheOpen.{Tree-F}
+use Rattle.descriptors.specs.declared.tree.Tree.TheVariants as trees
+use Rattle.descriptors.specs.declared.tree.Tree.TheViews.{roll-Tree}
 use Rattle.typed_values.specs.Bounds.{is_number_of, is_length_within}
 use Rattle.typed_values.specs.Fits.{whole_fits, truth_fits, number_fits, words_fit, character_fits, option_fits, each_fits, items_fit, are_ascending, key_of, entries_fit}
 use Rattle.typed_values.specs.Levels.{TreeOf}

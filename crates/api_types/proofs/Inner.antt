@@ -1,9 +1,9 @@
 -- A descriptor that stands in another or in its table, whose definitions are some of those of the other.
 use Rattle.std.proofs.Common.{◌≡◌, true, List, sym, ◌∙◌}
 use Rattle.std.specs.Prelude.{Contains}
-use Rattle.typed_values.specs.declared.desc.Desc.{Desc}
-use Rattle.typed_values.specs.declared.table.Definition.{Definition}
-use Rattle.typed_values.specs.declared.tree.Tree.{Tree}
+use Rattle.descriptors.specs.declared.desc.Desc.{Desc}
+use Rattle.descriptors.specs.declared.table.Definition.{Definition}
+use Rattle.descriptors.specs.declared.tree.Tree.{Tree}
 use Rattle.typed_values.specs.Fits.{fits_under}
 use Rattle.typed_values.specs.Parts.{IsPart}
 use Rattle.typed_values.proofs.CallerLemmas.{inner_passes, same_fits}

@@ -6,13 +6,13 @@ use Rattle.schema_values.specs.declared.json_value.Json.{Json}
 use Rattle.schema_values.specs.Sound.{IsSound}
 use Rattle.schema_values.specs.SoundTest.{is_sound}
 use Rattle.schema_values.proofs.CallerLemmas.{sound-decides}
-use Rattle.typed_values.specs.declared.desc.Desc.{Desc}
-use Rattle.typed_values.specs.declared.desc.Desc.TheVariants as descs
-use Rattle.typed_values.specs.declared.desc.Desc.TheOpen.{Desc-F}
-use Rattle.typed_values.specs.declared.desc.IntKind.{IntKind}
-use Rattle.typed_values.specs.declared.tree.Tree.{Tree, out-Tree}
-use Rattle.typed_values.specs.declared.tree.Tree.TheVariants as trees
-use Rattle.typed_values.specs.declared.tree.Tree.TheViews.{roll-out-Tree}
+use Rattle.descriptors.specs.declared.desc.Desc.{Desc}
+use Rattle.descriptors.specs.declared.desc.Desc.TheVariants as descs
+use Rattle.descriptors.specs.declared.desc.Desc.TheOpen.{Desc-F}
+use Rattle.descriptors.specs.declared.desc.IntKind.{IntKind}
+use Rattle.descriptors.specs.declared.tree.Tree.{Tree, out-Tree}
+use Rattle.descriptors.specs.declared.tree.Tree.TheVariants as trees
+use Rattle.descriptors.specs.declared.tree.Tree.TheViews.{roll-out-Tree}
 use Rattle.typed_values.specs.Bounds.{least_of, greatest_of, is_number_of, is_length_within}
 use Rattle.typed_values.specs.Fits.{whole_fits, truth_fits, number_fits, words_fit, character_fits}
 use Rattle.typed_values.proofs.CallerLemmas.{fits_any, fits_bool, fits_char, fits_int, fits_text}

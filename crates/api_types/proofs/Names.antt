@@ -1,13 +1,13 @@
 -- The trees of enumerations.
 use Rattle.std.proofs.Common.{◌≡◌, ℕ, ◌<◌, true, List, [], length, refl, sym, ◌∙◌, ap, nat_lt}
-use Rattle.typed_values.specs.declared.desc.Desc.{Desc, Null as NullDesc}
-use Rattle.typed_values.specs.declared.desc.Desc.TheOpen.{Desc-F}
-use Rattle.typed_values.specs.declared.desc.Desc.TheVariants as descs
-use Rattle.typed_values.specs.declared.desc.Named.{Named}
-use Rattle.typed_values.specs.declared.tree.Tree.{Tree, out-Tree}
-use Rattle.typed_values.specs.declared.tree.Tree.TheOpen.{Tree-F}
-use Rattle.typed_values.specs.declared.tree.Tree.TheVariants as trees
-use Rattle.typed_values.specs.declared.tree.Tree.TheViews.{roll-Tree, roll-out-Tree}
+use Rattle.descriptors.specs.declared.desc.Desc.{Desc, Null as NullDesc}
+use Rattle.descriptors.specs.declared.desc.Desc.TheOpen.{Desc-F}
+use Rattle.descriptors.specs.declared.desc.Desc.TheVariants as descs
+use Rattle.descriptors.specs.declared.desc.Named.{Named}
+use Rattle.descriptors.specs.declared.tree.Tree.{Tree, out-Tree}
+use Rattle.descriptors.specs.declared.tree.Tree.TheOpen.{Tree-F}
+use Rattle.descriptors.specs.declared.tree.Tree.TheVariants as trees
+use Rattle.descriptors.specs.declared.tree.Tree.TheViews.{roll-Tree, roll-out-Tree}
 use Rattle.typed_values.specs.Fits.{nought_fits, name_fits, fits_under}
 use Rattle.typed_values.specs.Levels.{TreeOf}
 use Rattle.typed_values.proofs.CallerLemmas.{fits_enumeration, place_row, below_true, nought_row}

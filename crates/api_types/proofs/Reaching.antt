@@ -1,8 +1,8 @@
 -- What a descriptor says on a table that passes with it, and the names that it reaches.
 use Rattle.std.proofs.Common.{◌≡◌, ℕ, List, [], subst, arith}
-use Rattle.typed_values.specs.declared.desc.Desc.{Desc, out-Desc}
-use Rattle.typed_values.specs.declared.desc.Desc.TheOpen.{Desc-F}
-use Rattle.typed_values.specs.declared.table.Definition.{Definition}
+use Rattle.descriptors.specs.declared.desc.Desc.{Desc, out-Desc}
+use Rattle.descriptors.specs.declared.desc.Desc.TheOpen.{Desc-F}
+use Rattle.descriptors.specs.declared.table.Definition.{Definition}
 use Rattle.typed_values.specs.Denotes.{room}
 use Rattle.typed_values.specs.Parts.{the_whole, of_whole}
 use Rattle.typed_values.specs.Reached.{Mentions, IsReached, directly, through}

@@ -3,17 +3,18 @@ use Rattle.std.proofs.Common.{◌≡◌, ℕ, List, [], ◌∷◌, ◌++◌, map
 use Rattle.std.proofs.lemmas.List.{map-append}
 use Rattle.std.proofs.lemmas.List.Elements.{Contains-append_left, Contains-append_right, Contains-append_cases}
 use Rattle.std.specs.Prelude.{Contains}
-use Rattle.typed_values.specs.declared.desc.Desc.{Desc, out-Desc}
-use Rattle.typed_values.specs.declared.desc.Desc.TheOpen.{Desc-F}
-use Rattle.typed_values.specs.declared.desc.Desc.TheVariants as descs
-use Rattle.typed_values.specs.declared.table.Definition.{Definition}
-use Rattle.typed_values.specs.declared.tree.Tree.{Tree}
-use Rattle.typed_values.specs.Definitions.{entry_of, definition_name}
+use Rattle.descriptors.specs.declared.desc.Desc.{Desc, out-Desc}
+use Rattle.descriptors.specs.declared.desc.Desc.TheOpen.{Desc-F}
+use Rattle.descriptors.specs.declared.desc.Desc.TheVariants as descs
+use Rattle.descriptors.specs.declared.table.Definition.{Definition}
+use Rattle.descriptors.specs.declared.tree.Tree.{Tree}
+use Rattle.descriptors.specs.Definitions.{entry_of, definition_name}
 use Rattle.typed_values.specs.Fits.{fits_under}
 use Rattle.typed_values.specs.Parts.{the_whole, IsPart, of_table}
 use Rattle.typed_values.specs.Reached.{Mentions, IsReached, directly, through}
 use Rattle.schema_values.proofs.CallerLemmas.{contains_first}
-use Rattle.typed_values.proofs.CallerLemmas.{fits_ref, same_or_not, definition_is, entry_inside, parts_at}
+use Rattle.descriptors.proofs.CallerLemmas.{same_or_not, definition_is}
+use Rattle.typed_values.proofs.CallerLemmas.{fits_ref, entry_inside, parts_at}
 use Rattle.api_types.specs.Types.{IsTableOf, FitsEach, FitsOne, ReachesExactly}
 use Rattle.api_types.proofs.AddedInOrder.{only_one}
 use Rattle.api_types.proofs.Inner.{part_each, part_one}

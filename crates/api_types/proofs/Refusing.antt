@@ -1,9 +1,9 @@
 -- Clashes among the definitions of a type.
 use Rattle.std.proofs.Common.{List, []}
-use Rattle.typed_values.specs.declared.desc.Desc.{Desc}
-use Rattle.typed_values.specs.declared.table.AddError.{AddError}
-use Rattle.typed_values.specs.declared.table.AddError.TheVariants.{Clash, OutOfMemory}
-use Rattle.typed_values.specs.declared.table.Definition.{Definition}
+use Rattle.descriptors.specs.declared.desc.Desc.{Desc}
+use Rattle.descriptors.specs.declared.table.AddError.{AddError}
+use Rattle.descriptors.specs.declared.table.AddError.TheVariants.{Clash, OutOfMemory}
+use Rattle.descriptors.specs.declared.table.Definition.{Definition}
 use Rattle.api_types.specs.Additions.{AreRefused}
 use Rattle.api_types.specs.TypeTables.{HasNoTable, error_of}
 

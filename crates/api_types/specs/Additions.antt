@@ -1,10 +1,10 @@
 -- What adding several definitions does to a table.
 use Rattle.std.specs.Prelude.{◌≡◌, ◌++◌, ⊤, List, [], ◌∷◌, Option, Some, None}
-use Rattle.typed_values.specs.declared.table.Definition.{Definition}
-use Rattle.typed_values.specs.declared.table.AddError.{AddError}
-use Rattle.typed_values.specs.declared.table.AddError.TheVariants.{Clash, OutOfMemory}
-use Rattle.typed_values.specs.Adding.{Clashes}
-use Rattle.typed_values.specs.Definitions.{entry_of}
+use Rattle.descriptors.specs.declared.table.Definition.{Definition}
+use Rattle.descriptors.specs.declared.table.AddError.{AddError}
+use Rattle.descriptors.specs.declared.table.AddError.TheVariants.{Clash, OutOfMemory}
+use Rattle.descriptors.specs.Adding.{Clashes}
+use Rattle.descriptors.specs.Definitions.{entry_of}
 use Rattle.api_types.specs.Types.{HoldsAll}
 
 -- a definition behind a table that lacks its name

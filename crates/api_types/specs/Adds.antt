@@ -1,7 +1,7 @@
 -- What a call adds to a table.
 use Rattle.std.specs.Prelude.{◌≡◌, List, Result, OnOk, IfErr}
-use Rattle.typed_values.specs.declared.table.Definition.{Definition}
-use Rattle.typed_values.specs.declared.table.AddError.{AddError}
+use Rattle.descriptors.specs.declared.table.Definition.{Definition}
+use Rattle.descriptors.specs.declared.table.AddError.{AddError}
 use Rattle.api_types.specs.Additions.{with_all, AreRefused}
 use Rattle.api_types.specs.Types.{HoldsAll}
 

@@ -1,8 +1,8 @@
 -- What a document says of a struct and of its fields, beside their types.
 use Rattle.std.specs.Prelude.{◌++◌, ℕ, Bool, true, false, List, [], ◌∷◌, Some, None}
-use Rattle.typed_values.specs.declared.desc.Presence.{Presence}
-use Rattle.typed_values.specs.declared.desc.Presence.TheVariants.{Required, Nullable, Skipped, Default}
-use Rattle.typed_values.specs.declared.tree.Tree.{Tree}
+use Rattle.descriptors.specs.declared.desc.Presence.{Presence}
+use Rattle.descriptors.specs.declared.desc.Presence.TheVariants.{Required, Nullable, Skipped, Default}
+use Rattle.descriptors.specs.declared.tree.Tree.{Tree}
 use Rattle.api_types.specs.declared.struct_head.FieldHead.{FieldHead}
 use Rattle.api_types.specs.declared.struct_head.StructHead.{StructHead}
 

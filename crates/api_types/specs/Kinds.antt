@@ -1,9 +1,9 @@
 -- The types of the fields of a struct.
 use Rattle.std.specs.Prelude.{◌++◌, ⊤, Bool, true, false, if◌then◌else◌, List, [], ◌∷◌}
-use Rattle.typed_values.specs.declared.desc.Desc.{Desc}
-use Rattle.typed_values.specs.declared.desc.Desc.TheVariants as descs
-use Rattle.typed_values.specs.declared.table.Definition.{Definition}
-use Rattle.typed_values.specs.declared.tree.Tree.{Tree}
+use Rattle.descriptors.specs.declared.desc.Desc.{Desc}
+use Rattle.descriptors.specs.declared.desc.Desc.TheVariants as descs
+use Rattle.descriptors.specs.declared.table.Definition.{Definition}
+use Rattle.descriptors.specs.declared.tree.Tree.{Tree}
 use Rattle.api_types.specs.Types.{FitsEach, FitsOne, ReachesExactly}
 
 -- the type of a field: its descriptor, the definitions that this reaches, and whether the field is an option that is left out where it is none

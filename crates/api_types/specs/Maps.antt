@@ -1,7 +1,7 @@
 -- The trees of maps.
 use Rattle.std.specs.Prelude.{ℕ, List}
-use Rattle.typed_values.specs.declared.tree.Pair.{Pair}
-use Rattle.typed_values.specs.declared.tree.Tree.{Tree}
+use Rattle.descriptors.specs.declared.tree.Pair.{Pair}
+use Rattle.descriptors.specs.declared.tree.Tree.{Tree}
 use Rattle.typed_values.specs.Denotes.{pair}
 
 -- a key, with the tree of its value

@@ -1,7 +1,7 @@
 -- The trees of options.
 use Rattle.std.specs.Prelude.{Option, Some, None}
-use Rattle.typed_values.specs.declared.tree.Tree.{Tree}
-use Rattle.typed_values.specs.declared.tree.Tree.TheVariants as trees
+use Rattle.descriptors.specs.declared.tree.Tree.{Tree}
+use Rattle.descriptors.specs.declared.tree.Tree.TheVariants as trees
 
 -- nothing, or the tree of what is there
 abbrev pub option_tree : {T : Type 0} → (T → Tree) → Option T → Tree

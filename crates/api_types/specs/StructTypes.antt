@@ -1,10 +1,10 @@
 -- A struct by its head and the types of its fields: its descriptor and the definitions behind it.
 use Rattle.std.specs.Prelude.{◌++◌, ℕ, Bool, if◌then◌else◌, List, [], ◌∷◌, map}
-use Rattle.typed_values.specs.declared.desc.Desc.{Desc}
-use Rattle.typed_values.specs.declared.desc.Desc.TheVariants as descs
-use Rattle.typed_values.specs.declared.desc.Field.{Field}
-use Rattle.typed_values.specs.declared.table.Definition.{Definition}
-use Rattle.typed_values.specs.Definitions.{definition_with}
+use Rattle.descriptors.specs.declared.desc.Desc.{Desc}
+use Rattle.descriptors.specs.declared.desc.Desc.TheVariants as descs
+use Rattle.descriptors.specs.declared.desc.Field.{Field}
+use Rattle.descriptors.specs.declared.table.Definition.{Definition}
+use Rattle.descriptors.specs.Definitions.{definition_with}
 use Rattle.api_types.specs.declared.struct_head.FieldHead.{FieldHead}
 use Rattle.api_types.specs.declared.struct_head.StructHead.{StructHead}
 use Rattle.api_types.specs.Kinds.{Kind, kind_desc, definitions_behind}

@@ -3,10 +3,10 @@ use Rattle.std.specs.Prelude.{◌≡◌, ⊤, List, []}
 use Rattle.std.specs.Str.{chars}
 use Rattle.typed_values.specs.declared.check.TableError.{TableError}
 use Rattle.typed_values.specs.declared.check.TableError.TheVariants.{DoubledName, BadName, Dangling, Unguarded, EmptyEnumeration, NullOfNull, TagClash, BadRange, BadPresence}
-use Rattle.typed_values.specs.declared.desc.Desc.{Desc}
-use Rattle.typed_values.specs.declared.table.AddError.{AddError}
-use Rattle.typed_values.specs.declared.table.AddError.TheVariants as additions
-use Rattle.typed_values.specs.declared.table.Definition.{Definition}
+use Rattle.descriptors.specs.declared.desc.Desc.{Desc}
+use Rattle.descriptors.specs.declared.table.AddError.{AddError}
+use Rattle.descriptors.specs.declared.table.AddError.TheVariants as additions
+use Rattle.descriptors.specs.declared.table.Definition.{Definition}
 use Rattle.typed_values.specs.Causes.{AppliesToDesc, AppliesToTable, IsFirst}
 use Rattle.typed_values.specs.Checks.{TablePasses}
 use Rattle.api_types.specs.declared.type_table.Flaw.{Flaw}

@@ -1,10 +1,10 @@
 -- What a type says of itself: its descriptor, the definitions behind it, and the trees of its values.
 use Rattle.std.specs.Prelude.{◌≡◌, ◌↔◌, ℕ, List, map, Some, Contains}
-use Rattle.typed_values.specs.declared.desc.Desc.{Desc}
-use Rattle.typed_values.specs.declared.table.Definition.{Definition}
-use Rattle.typed_values.specs.declared.tree.Tree.{Tree}
+use Rattle.descriptors.specs.declared.desc.Desc.{Desc}
+use Rattle.descriptors.specs.declared.table.Definition.{Definition}
+use Rattle.descriptors.specs.declared.tree.Tree.{Tree}
 use Rattle.typed_values.specs.Checks.{TablePasses, DescPasses}
-use Rattle.typed_values.specs.Definitions.{entry_of, definition_name}
+use Rattle.descriptors.specs.Definitions.{entry_of, definition_name}
 use Rattle.typed_values.specs.Fits.{Fits}
 use Rattle.typed_values.specs.Reached.{IsReached}
 

@@ -1,6 +1,6 @@
 //! Several definitions at once.
 ghost use Rattle.std.specs.Prelude.{◌≡◌, IfOk, IfErr, OnErr, OnOk};
-ghost use Rattle.typed_values.specs.Adding.{Adds, IsRefused};
+ghost use Rattle.descriptors.specs.Adding.{Adds, IsRefused};
 ghost use Rattle.api_types.specs.Additions.{with_all, AreRefused};
 ghost use Rattle.api_types.specs.Types.{HoldsAll};
 

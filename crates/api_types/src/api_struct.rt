@@ -1,7 +1,7 @@
 //! Structs, described by their fields.
 ghost use Rattle.std.specs.Prelude.{◌≡◌, IfOk, IsTrue, OnErr, map};
 ghost use Rattle.schema_values.specs.Ascii.{all_ascii};
-ghost use Rattle.typed_values.specs.declared.tree.Tree.TheVariants as trees;
+ghost use Rattle.descriptors.specs.declared.tree.Tree.TheVariants as trees;
 ghost use Rattle.api_types.specs.Adds.{AddsAll};
 ghost use Rattle.api_types.specs.Heads.{skips};
 ghost use Rattle.api_types.specs.Kinds.{is_left_out, KindsFitEach, KindsFitOne};

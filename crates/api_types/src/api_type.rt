@@ -9,9 +9,9 @@ use typed_values::{AddError, Desc, DescTable, Tree};
 /// A type that a document describes, and whose values are read from trees and written as trees.
 pub trait ApiType: Sized + Drop {
     ghost use Rattle.std.specs.Prelude.{ℕ, List};
-    ghost use Rattle.typed_values.specs.declared.desc.Desc.{Desc as Descriptor};
-    ghost use Rattle.typed_values.specs.declared.table.Definition.{Definition as Entry};
-    ghost use Rattle.typed_values.specs.declared.tree.Tree.{Tree as Value};
+    ghost use Rattle.descriptors.specs.declared.desc.Desc.{Desc as Descriptor};
+    ghost use Rattle.descriptors.specs.declared.table.Definition.{Definition as Entry};
+    ghost use Rattle.descriptors.specs.declared.tree.Tree.{Tree as Value};
 
     /// The name of the type.
     ghost name_of: { List ℕ };

@@ -16,7 +16,7 @@ use typed_values::{AddError, DescTable, Field, Tree};
 /// out where it is none stands in `Skipped`.
 pub trait FieldTypes: Sized + Drop {
     ghost use Rattle.std.specs.Prelude.{List};
-    ghost use Rattle.typed_values.specs.declared.tree.Tree.{Tree as Value};
+    ghost use Rattle.descriptors.specs.declared.tree.Tree.{Tree as Value};
     ghost use Rattle.api_types.specs.Kinds.{Kind};
 
     /// The types, in order.

@@ -1,7 +1,7 @@
 ghost use Rattle.std.specs.Prelude.{◌≡◌, ◌++◌, codes, map, None, IfOk};
 ghost use Rattle.std.specs.List.{AllByRecursion};
-ghost use Rattle.typed_values.specs.declared.desc.Desc.TheVariants as descs;
-ghost use Rattle.typed_values.specs.declared.tree.Tree.TheVariants as trees;
+ghost use Rattle.descriptors.specs.declared.desc.Desc.TheVariants as descs;
+ghost use Rattle.descriptors.specs.declared.tree.Tree.TheVariants as trees;
 ghost use Rattle.api_types.specs.Types.{FitsEach, FitsOne};
 
 use crate::api_type::ApiType;

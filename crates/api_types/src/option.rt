@@ -1,5 +1,5 @@
 ghost use Rattle.std.specs.Prelude.{◌++◌, codes};
-ghost use Rattle.typed_values.specs.declared.desc.Desc.TheVariants as descs;
+ghost use Rattle.descriptors.specs.declared.desc.Desc.TheVariants as descs;
 ghost use Rattle.api_types.specs.Options.{option_tree};
 
 use crate::api_type::ApiType;

@@ -1,7 +1,7 @@
 ghost use Rattle.std.specs.Prelude.{[], codes, None};
-ghost use Rattle.typed_values.specs.declared.desc.Desc.TheVariants as descs;
-ghost use Rattle.typed_values.specs.declared.desc.IntKind.TheVariants as kinds;
-ghost use Rattle.typed_values.specs.declared.tree.Tree.TheVariants as trees;
+ghost use Rattle.descriptors.specs.declared.desc.Desc.TheVariants as descs;
+ghost use Rattle.descriptors.specs.declared.desc.IntKind.TheVariants as kinds;
+ghost use Rattle.descriptors.specs.declared.tree.Tree.TheVariants as trees;
 
 use crate::api_type::ApiType;
 use crate::number::{number_desc, number_fits, number_in, number_reach};

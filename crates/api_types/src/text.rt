@@ -1,6 +1,6 @@
 ghost use Rattle.std.specs.Prelude.{◌≡◌, [], ◌∷◌, codes, None, length};
-ghost use Rattle.typed_values.specs.declared.desc.Desc.TheVariants as descs;
-ghost use Rattle.typed_values.specs.declared.tree.Tree.TheVariants as trees;
+ghost use Rattle.descriptors.specs.declared.desc.Desc.TheVariants as descs;
+ghost use Rattle.descriptors.specs.declared.tree.Tree.TheVariants as trees;
 ghost use Rattle.api_types.specs.Types.{FitsOne};
 
 use crate::api_type::ApiType;

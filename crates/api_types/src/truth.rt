@@ -1,6 +1,6 @@
 ghost use Rattle.std.specs.Prelude.{◌≡◌, []};
-ghost use Rattle.typed_values.specs.declared.desc.Desc.TheVariants as descs;
-ghost use Rattle.typed_values.specs.declared.tree.Tree.TheVariants as trees;
+ghost use Rattle.descriptors.specs.declared.desc.Desc.TheVariants as descs;
+ghost use Rattle.descriptors.specs.declared.tree.Tree.TheVariants as trees;
 ghost use Rattle.api_types.specs.Types.{FitsOne};
 
 use crate::api_type::ApiType;
@@ -10,8 +10,8 @@ use typed_values::{AddError, Desc, DescTable, Tree};
 
 impl ApiType for bool {
     ghost use Rattle.std.specs.Prelude.{[], codes};
-    ghost use Rattle.typed_values.specs.declared.desc.Desc.TheVariants as descs;
-    ghost use Rattle.typed_values.specs.declared.tree.Tree.TheVariants as trees;
+    ghost use Rattle.descriptors.specs.declared.desc.Desc.TheVariants as descs;
+    ghost use Rattle.descriptors.specs.declared.tree.Tree.TheVariants as trees;
 
     ghost name_of = { codes "Boolean" };
 

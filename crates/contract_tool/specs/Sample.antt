@@ -1,13 +1,13 @@
 -- The sample API: points, each stored under its label.
 use Rattle.std.specs.Prelude.{◌≡◌, ℕ, false, List, [], ◌∷◌, Option, Some, None, codes}
 use Rattle.std.specs.Str.{encode_utf8_all}
-use Rattle.typed_values.specs.declared.desc.Desc.{Desc, Bool, Int, Text, Struct, Ref}
-use Rattle.typed_values.specs.declared.desc.Field.{Field}
-use Rattle.typed_values.specs.declared.desc.IntKind.TheVariants.{I32}
-use Rattle.typed_values.specs.declared.desc.Presence.TheVariants.{Required}
-use Rattle.typed_values.specs.declared.table.Definition.{Definition}
-use Rattle.typed_values.specs.declared.tree.Tree.{Tree, out-Tree}
-use Rattle.typed_values.specs.declared.tree.Tree.TheOpen.{Tree-F}
+use Rattle.descriptors.specs.declared.desc.Desc.{Desc, Bool, Int, Text, Struct, Ref}
+use Rattle.descriptors.specs.declared.desc.Field.{Field}
+use Rattle.descriptors.specs.declared.desc.IntKind.TheVariants.{I32}
+use Rattle.descriptors.specs.declared.desc.Presence.TheVariants.{Required}
+use Rattle.descriptors.specs.declared.table.Definition.{Definition}
+use Rattle.descriptors.specs.declared.tree.Tree.{Tree, out-Tree}
+use Rattle.descriptors.specs.declared.tree.Tree.TheOpen.{Tree-F}
 use Rattle.typed_values.specs.Levels.{TreeOf}
 use Rattle.api_description.specs.declared.api_extract.slot.Arg.{Arg}
 use Rattle.api_description.specs.declared.api_extract.slot.Arg.TheVariants.{Tree as OfTree}

@@ -1,9 +1,9 @@
 //! The sample API: points, each stored under its label.
 ghost use Rattle.std.specs.Prelude.{◌≡◌, ◌∷◌, ◌++◌, ◌^◌, [], IfOk, Some, None, option_map, OnOk};
 ghost use Rattle.std.specs.Prelude.{OnErr, codes};
-ghost use Rattle.typed_values.specs.Definitions.{entry_of};
-ghost use Rattle.typed_values.specs.declared.desc.Desc.{Ref, Text as Words, Int};
-ghost use Rattle.typed_values.specs.declared.desc.IntKind.TheVariants.{I32};
+ghost use Rattle.descriptors.specs.Definitions.{entry_of};
+ghost use Rattle.descriptors.specs.declared.desc.Desc.{Ref, Text as Words, Int};
+ghost use Rattle.descriptors.specs.declared.desc.IntKind.TheVariants.{I32};
 ghost use Rattle.api_description.specs.declared.api_respond.reply.Reply.TheVariants.{Failure};
 ghost use Rattle.api_description.specs.declared.api_respond.reply.ErrorReply.TheVariants.{Http};
 ghost use Rattle.api_description.specs.Responses.{internal_error};

@@ -6,7 +6,7 @@
 ghost use Rattle.std.specs.Prelude.{◌≡◌, ◌∷◌, [], ⊤, IfOk, IsTrue, MatchOption, Some, codes};
 ghost use Rattle.typed_values.specs.Checks.{TablePasses, DescPasses};
 ghost use Rattle.typed_values.specs.Fits.{Fits};
-ghost use Rattle.typed_values.specs.declared.desc.Desc.{Ref};
+ghost use Rattle.descriptors.specs.declared.desc.Desc.{Ref};
 ghost use Rattle.api_description.specs.Replies.{ContentFits, ContentPasses, ReplyFits, ShapePasses};
 ghost use Rattle.api_description.specs.Responses.{error_definition};
 

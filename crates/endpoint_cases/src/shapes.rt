@@ -7,7 +7,7 @@
 //! the table of `Error` alone, a slot `["bool","Body"]`, content `["bool","Flag"]`, code 200,
 //! `successful operation`, and the errors of `HttpError`.
 ghost use Rattle.std.specs.Prelude.{◌≡◌, ◌∷◌, [], IfOk, codes};
-ghost use Rattle.typed_values.specs.declared.desc.Desc.{Ref};
+ghost use Rattle.descriptors.specs.declared.desc.Desc.{Ref};
 ghost use Rattle.api_description.specs.Responses.{error_definition};
 
 use crate::members::{text_at, text_or};

@@ -1,7 +1,7 @@
 -- The trees of colors.
 use Rattle.std.proofs.Common.{◌≡◌, ℕ, ◌<◌, [], ◌∷◌}
-use Rattle.typed_values.specs.declared.tree.Tree.{Tree}
-use Rattle.typed_values.specs.declared.tree.Tree.TheVariants as trees
+use Rattle.descriptors.specs.declared.tree.Tree.{Tree}
+use Rattle.descriptors.specs.declared.tree.Tree.TheVariants as trees
 use Rattle.api_types.specs.Types.{FitsEach, FitsOne, ReachesExactly}
 use Rattle.api_types.proofs.CallerLemmas.{names_reach, name_each, name_one, name_at, ref_reaches, ref_each, ref_one}
 use Rattle.own_types.specs.Colors.{color_names, color_desc, color_definition}

@@ -1,7 +1,7 @@
 -- The trees of folders.
 use Rattle.std.proofs.Common.{◌≡◌, List, [], ◌∷◌, None, codes, map, false}
-use Rattle.typed_values.specs.declared.tree.Tree.{Tree}
-use Rattle.typed_values.specs.declared.tree.Tree.TheVariants as trees
+use Rattle.descriptors.specs.declared.tree.Tree.{Tree}
+use Rattle.descriptors.specs.declared.tree.Tree.TheVariants as trees
 use Rattle.api_types.specs.Structs.{FieldsFitEach, FieldsFitOne}
 use Rattle.api_types.specs.Types.{FitsEach, FitsOne, ReachesExactly}
 use Rattle.api_types.proofs.CallerLemmas.{words_reach, struct_each, struct_one, struct_at, only_list, only_reached, only_ref, only_struct, own_each, own_one, own_reaches}

@@ -1,12 +1,12 @@
 -- Folders: a struct of a name and a list of folders.
 use Rattle.std.specs.Prelude.{List, [], ◌∷◌, codes, None, false}
-use Rattle.typed_values.specs.declared.desc.Desc.{Desc}
-use Rattle.typed_values.specs.declared.desc.Desc.TheVariants as descs
-use Rattle.typed_values.specs.declared.desc.Field.{Field}
-use Rattle.typed_values.specs.declared.table.Definition.{Definition}
-use Rattle.typed_values.specs.declared.tree.Tree.{Tree}
-use Rattle.typed_values.specs.declared.tree.Tree.TheVariants as trees
-use Rattle.typed_values.specs.Definitions.{definition_with}
+use Rattle.descriptors.specs.declared.desc.Desc.{Desc}
+use Rattle.descriptors.specs.declared.desc.Desc.TheVariants as descs
+use Rattle.descriptors.specs.declared.desc.Field.{Field}
+use Rattle.descriptors.specs.declared.table.Definition.{Definition}
+use Rattle.descriptors.specs.declared.tree.Tree.{Tree}
+use Rattle.descriptors.specs.declared.tree.Tree.TheVariants as trees
+use Rattle.descriptors.specs.Definitions.{definition_with}
 use Rattle.api_types.specs.Heads.{required}
 use Rattle.api_types.specs.Structs.{Part}
 use Rattle.api_types.specs.StructTypes.{field_with}

@@ -1,7 +1,7 @@
 -- Labels: texts of 1 to 16 characters.
 use Rattle.std.specs.Prelude.{ℕ, Bool, List, length, Some, None}
-use Rattle.typed_values.specs.declared.desc.Desc.{Desc}
-use Rattle.typed_values.specs.declared.desc.Desc.TheVariants as descs
+use Rattle.descriptors.specs.declared.desc.Desc.{Desc}
+use Rattle.descriptors.specs.declared.desc.Desc.TheVariants as descs
 use Rattle.typed_values.specs.Bounds.{is_length_within}
 
 -- a text of 1 to 16 characters

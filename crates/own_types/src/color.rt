@@ -1,5 +1,5 @@
 ghost use Rattle.std.specs.Prelude.{◌≡◌, ◌<◌, [], ◌∷◌, codes, IfOk};
-ghost use Rattle.typed_values.specs.declared.tree.Tree.TheVariants as trees;
+ghost use Rattle.descriptors.specs.declared.tree.Tree.TheVariants as trees;
 ghost use Rattle.api_types.specs.Types.{FitsOne};
 ghost use Rattle.own_types.specs.Colors.{color_desc, color_definition, color_place, color_tree};
 

@@ -2,8 +2,8 @@
 ghost use Rattle.std.specs.Prelude.{◌≡◌, codes, map, IfOk, IsTrue, None};
 ghost use Rattle.std.specs.List.{AllByRecursion};
 ghost use Rattle.schema_values.specs.Ascii.{all_ascii};
-ghost use Rattle.typed_values.specs.declared.desc.Desc.TheVariants as descs;
-ghost use Rattle.typed_values.specs.declared.tree.Tree.TheVariants as trees;
+ghost use Rattle.descriptors.specs.declared.desc.Desc.TheVariants as descs;
+ghost use Rattle.descriptors.specs.declared.tree.Tree.TheVariants as trees;
 ghost use Rattle.api_types.specs.Heads.{required};
 ghost use Rattle.api_types.specs.StructTypes.{field_with};
 ghost use Rattle.api_types.specs.Structs.{FieldsFitOne};

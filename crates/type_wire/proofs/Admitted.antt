@@ -3,11 +3,11 @@ use Rattle.std.proofs.Common.{◌≡◌, List, Result, Ok, Err, IfOk, sym, subst
 use Rattle.schema_values.specs.declared.json_value.Json.{Json}
 use Rattle.schema_values.specs.Sound.{IsSound}
 use Rattle.openapi_values.specs.JsonAdmits.{JsonAdmits}
-use Rattle.typed_values.specs.declared.desc.Desc.{Desc}
-use Rattle.typed_values.specs.declared.table.Definition.{Definition}
+use Rattle.descriptors.specs.declared.desc.Desc.{Desc}
+use Rattle.descriptors.specs.declared.table.Definition.{Definition}
 use Rattle.typed_values.specs.declared.fault.DecodeError.{DecodeError}
 use Rattle.typed_values.specs.declared.fault.DecodeError.TheVariants as error
-use Rattle.typed_values.specs.declared.tree.Tree.{Tree}
+use Rattle.descriptors.specs.declared.tree.Tree.{Tree}
 use Rattle.typed_values.specs.Answer.{IfFault}
 use Rattle.typed_values.specs.Denotes.{JsonDenotes}
 use Rattle.written_schemas.specs.Written.{AdmitsDenoted}

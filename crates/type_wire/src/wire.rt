@@ -3,7 +3,7 @@ ghost use Rattle.std.specs.Prelude.{◌≡◌, IfOk, IfErr};
 ghost use Rattle.schema_values.specs.declared.json_value.Json.{Json as JsonValue};
 ghost use Rattle.schema_values.specs.Sound.{IsSound};
 ghost use Rattle.openapi_values.specs.JsonAdmits.{JsonAdmits};
-ghost use Rattle.typed_values.specs.declared.tree.Tree.{Tree as Value};
+ghost use Rattle.descriptors.specs.declared.tree.Tree.{Tree as Value};
 ghost use Rattle.typed_values.specs.Answer.{IfFault, IsFaultOf};
 ghost use Rattle.typed_values.specs.Denotes.{JsonDenotes, told};
 ghost use Rattle.typed_values.specs.Encoding.{json_of_tree};

@@ -5,24 +5,24 @@ use Rattle.schema_values.specs.declared.json_value.Json.{Json, out-Json}
 use Rattle.schema_values.specs.declared.json_value.Json.TheOpen.{Json-F}
 use Rattle.schema_values.specs.declared.json_value.Json.TheVariants as json
 use Rattle.schema_values.specs.declared.json_value.Member.{Member}
-use Rattle.typed_values.specs.declared.desc.Desc.{Desc, out-Desc}
-use Rattle.typed_values.specs.declared.desc.Desc.TheOpen.{Desc-F}
-use Rattle.typed_values.specs.declared.desc.Desc.TheVariants as desc
-use Rattle.typed_values.specs.declared.desc.Field.{Field}
-use Rattle.typed_values.specs.declared.desc.IntKind.{IntKind}
-use Rattle.typed_values.specs.declared.desc.Named.{Named}
-use Rattle.typed_values.specs.declared.desc.TaggedVariant.{TaggedVariant}
-use Rattle.typed_values.specs.declared.desc.Variant.{Variant}
+use Rattle.descriptors.specs.declared.desc.Desc.{Desc, out-Desc}
+use Rattle.descriptors.specs.declared.desc.Desc.TheOpen.{Desc-F}
+use Rattle.descriptors.specs.declared.desc.Desc.TheVariants as desc
+use Rattle.descriptors.specs.declared.desc.Field.{Field}
+use Rattle.descriptors.specs.declared.desc.IntKind.{IntKind}
+use Rattle.descriptors.specs.declared.desc.Named.{Named}
+use Rattle.descriptors.specs.declared.desc.TaggedVariant.{TaggedVariant}
+use Rattle.descriptors.specs.declared.desc.Variant.{Variant}
 use Rattle.typed_values.specs.declared.fault.FaultKind.TheVariants.{WrongKind, NotListed}
 use Rattle.typed_values.specs.declared.fault.Place.TheVariants.{Name}
-use Rattle.typed_values.specs.declared.tree.Tree.{Any as Whole}
-use Rattle.typed_values.specs.declared.table.Definition.{Definition}
-use Rattle.typed_values.specs.Definitions.{definition, tagged_name, variant_name}
+use Rattle.descriptors.specs.declared.tree.Tree.{Any as Whole}
+use Rattle.descriptors.specs.declared.table.Definition.{Definition}
+use Rattle.descriptors.specs.Definitions.{definition, tagged_name, variant_name}
 use Rattle.typed_values.specs.Denotes.{Told, told, below, refused, where_found, named_from, bare, without_payload, with_payload, chosen, at_tag, room, nought, truth, character, number, words, one_of_names, optional, just, items_told, entries_told, external, tagged, first_told, at_definition}
 use Rattle.typed_values.specs.Resting.{Rests}
 use Rattle.typed_values.specs.Parts.{IsPart, of_table, StandsIn, the_whole}
 use Rattle.typed_values.specs.Rows.{list_row, map_row, struct_row, told_item}
-use Rattle.typed_values.proofs.Found.{entry_found}
+use Rattle.descriptors.proofs.CallerLemmas.{entry_found}
 use Rattle.typed_values.proofs.Listed.{found_named}
 use Rattle.typed_values.proofs.Rows.{row_at}
 

@@ -5,7 +5,7 @@ use Rattle.std.proofs.lemmas.Bool.{and_parts}
 use Rattle.std.specs.Cmp.Lexicographic.{slice_cmp}
 use Rattle.std.specs.List.Sorted.{IsStrictlySortedBy}
 use Rattle.schema_values.proofs.CallerLemmas.{Below, below_all}
-use Rattle.typed_values.specs.declared.tree.Pair.{Pair}
+use Rattle.descriptors.specs.declared.tree.Pair.{Pair}
 use Rattle.typed_values.specs.Fits.{is_less, are_ascending, key_of}
 
 not_ge : (o : Ordering) (b : Bool) → b ≡ is_ge o → is_less o ≡ not b

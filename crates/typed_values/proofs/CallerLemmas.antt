@@ -1,7 +1,6 @@
 -- What proofs of the crates above take from here: lemmas over the words of specs/, and the notions that they are stated in.
 
 -- names, and what they are defined as
-pub use Rattle.typed_values.proofs.Found.{other_name, same_name, same_or_not, entry_name, definition_is}
 pub use Rattle.typed_values.proofs.FirstNamed.{first_sorted}
 pub use Rattle.typed_values.proofs.Ordered.{sorted_ascends}
 pub use Rattle.typed_values.proofs.AscendingKeys.{keys_sorted}

@@ -13,21 +13,21 @@ use Rattle.schema_values.specs.Member.{name_of}
 use Rattle.schema_values.specs.Sound.{IsSound, AreDistinct}
 use Rattle.schema_values.specs.SoundMembers.{HasSoundValue, HasSoundMembers}
 use Rattle.schema_values.proofs.CallerLemmas.{IsSound-List, IsSound-Object, contains_first, contains_later, contains_cases}
-use Rattle.typed_values.specs.declared.desc.Desc.{Desc, Null as NullDesc, Option as OptionOf, out-Desc}
-use Rattle.typed_values.specs.declared.desc.Desc.TheOpen.{Desc-F}
-use Rattle.typed_values.specs.declared.desc.Desc.TheVariants as desc
-use Rattle.typed_values.specs.declared.desc.Desc.TheViews.{roll-out-Desc, roll-Desc}
-use Rattle.typed_values.specs.declared.desc.Field.{Field}
-use Rattle.typed_values.specs.declared.desc.TaggedVariant.{TaggedVariant}
-use Rattle.typed_values.specs.declared.desc.Presence.{Presence}
-use Rattle.typed_values.specs.declared.desc.Presence.TheVariants.{Required, Nullable, Skipped, Default}
+use Rattle.descriptors.specs.declared.desc.Desc.{Desc, Null as NullDesc, Option as OptionOf, out-Desc}
+use Rattle.descriptors.specs.declared.desc.Desc.TheOpen.{Desc-F}
+use Rattle.descriptors.specs.declared.desc.Desc.TheVariants as desc
+use Rattle.descriptors.specs.declared.desc.Desc.TheViews.{roll-out-Desc, roll-Desc}
+use Rattle.descriptors.specs.declared.desc.Field.{Field}
+use Rattle.descriptors.specs.declared.desc.TaggedVariant.{TaggedVariant}
+use Rattle.descriptors.specs.declared.desc.Presence.{Presence}
+use Rattle.descriptors.specs.declared.desc.Presence.TheVariants.{Required, Nullable, Skipped, Default}
 use Rattle.typed_values.specs.declared.fault.Place.TheVariants.{Name, Item}
-use Rattle.typed_values.specs.declared.table.Definition.{Definition}
-use Rattle.typed_values.specs.declared.tree.Tree.{Tree, Unit as Nought, None as Nothing, Fields as Parts, out-Tree}
-use Rattle.typed_values.specs.declared.tree.Tree.TheOpen.{Tree-F}
-use Rattle.typed_values.specs.declared.tree.Tree.TheVariants as tree
+use Rattle.descriptors.specs.declared.table.Definition.{Definition}
+use Rattle.descriptors.specs.declared.tree.Tree.{Tree, Unit as Nought, None as Nothing, Fields as Parts, out-Tree}
+use Rattle.descriptors.specs.declared.tree.Tree.TheOpen.{Tree-F}
+use Rattle.descriptors.specs.declared.tree.Tree.TheVariants as tree
 use Rattle.typed_values.specs.Checks.{IsOption, IsFieldOf, of_struct, of_variant, IsBadField, no_option, default_misfits, TablePasses, DescPasses}
-use Rattle.typed_values.specs.Definitions.{definition, tagged_fields}
+use Rattle.descriptors.specs.Definitions.{definition, tagged_fields}
 use Rattle.typed_values.specs.Denotes.{Told, below, just, as_tree, if_absent, if_present, by_presence, value_named, unless_denied, denied_name, at_definition, room, told, JsonDenotes}
 use Rattle.typed_values.specs.Fits.{nought_fits, option_fits, field_desc, parts_fit, if_there, struct_of, fits_by, fits_under, Fits}
 use Rattle.typed_values.specs.Parts.{the_whole, IsPart, of_whole}

@@ -9,22 +9,22 @@ use Rattle.schema_values.specs.declared.json_value.Json.TheOpen.{Json-F}
 use Rattle.schema_values.specs.declared.json_value.Member.{Member}
 use Rattle.schema_values.specs.Sound.{IsSound, AreDistinct}
 use Rattle.schema_values.proofs.CallerLemmas.{sound-decides, contains_first, contains_later, all_sorted}
-use Rattle.typed_values.specs.declared.desc.Desc.{Desc, Null as NullDesc}
-use Rattle.typed_values.specs.declared.desc.Field.{Field}
-use Rattle.typed_values.specs.declared.desc.IntKind.{IntKind}
-use Rattle.typed_values.specs.declared.desc.Named.{Named}
-use Rattle.typed_values.specs.declared.desc.TaggedVariant.{TaggedVariant}
-use Rattle.typed_values.specs.declared.desc.Variant.{Variant}
+use Rattle.descriptors.specs.declared.desc.Desc.{Desc, Null as NullDesc}
+use Rattle.descriptors.specs.declared.desc.Field.{Field}
+use Rattle.descriptors.specs.declared.desc.IntKind.{IntKind}
+use Rattle.descriptors.specs.declared.desc.Named.{Named}
+use Rattle.descriptors.specs.declared.desc.TaggedVariant.{TaggedVariant}
+use Rattle.descriptors.specs.declared.desc.Variant.{Variant}
 use Rattle.typed_values.specs.declared.fault.FaultKind.{FaultKind}
 use Rattle.typed_values.specs.declared.fault.FaultKind.TheVariants.{OutOfRange, BadLength, NotListed}
 use Rattle.typed_values.specs.declared.fault.Place.{Place}
 use Rattle.typed_values.specs.declared.fault.Place.TheVariants.{Name}
-use Rattle.typed_values.specs.declared.tree.Pair.{Pair}
-use Rattle.typed_values.specs.declared.tree.Tree.{Tree, Unit as Nought, Bool as Truth, Int as Number, Text as Words, None as Nothing, Some as Just, List as Items, Map as Entries, Variant as Choice, Any as Whole, out-Tree}
-use Rattle.typed_values.specs.declared.tree.Tree.TheOpen.{Tree-F}
-use Rattle.typed_values.specs.declared.tree.Tree.TheVariants as tree
+use Rattle.descriptors.specs.declared.tree.Pair.{Pair}
+use Rattle.descriptors.specs.declared.tree.Tree.{Tree, Unit as Nought, Bool as Truth, Int as Number, Text as Words, None as Nothing, Some as Just, List as Items, Map as Entries, Variant as Choice, Any as Whole, out-Tree}
+use Rattle.descriptors.specs.declared.tree.Tree.TheOpen.{Tree-F}
+use Rattle.descriptors.specs.declared.tree.Tree.TheVariants as tree
 use Rattle.typed_values.specs.Bounds.{is_number_of, is_length_within}
-use Rattle.typed_values.specs.Definitions.{listed_name, tagged_fields, tagged_name, variant_name}
+use Rattle.descriptors.specs.Definitions.{listed_name, tagged_fields, tagged_name, variant_name}
 use Rattle.typed_values.specs.Denotes.{Told, below, just, pair, as_pair, and_then, all_told, as_tree, if_holds, refused, nought, truth, character, number, words, named_from, where_found, bare, one_of_names, chosen, without_payload, with_payload, at_tag, by_tag, optional, items_told, member_name, entries_told, unless_denied, or_else, first_told}
 use Rattle.typed_values.specs.Faults.{Trouble}
 use Rattle.typed_values.specs.Fits.{whole_fits, nought_fits, truth_fits, character_fits, number_fits, words_fit, name_fits, option_fits, each_fits, items_fit, are_ascending, key_of, entries_fit, field_desc, fields_fit, alternative_at, if_there, choice_fits, payload_or_null, payload_of, struct_of}

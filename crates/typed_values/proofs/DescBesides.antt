@@ -3,15 +3,15 @@ use Rattle.std.proofs.Common.{◌≡◌, ℕ, List, [], ◌∷◌, map, Option, 
 use Rattle.std.specs.Prelude.{⊤}
 use Rattle.std.specs.List.{AllByRecursion}
 use Rattle.std.specs.Option.{option_map}
-use Rattle.typed_values.specs.declared.desc.Desc.{Desc, out-Desc, Option as OptionOf, List as ListOf, Map, Struct, External, Tagged, Untagged}
-use Rattle.typed_values.specs.declared.desc.Desc.TheFolds.{fold-Desc, fold-Field, fold-TaggedVariant, fold-Variant, fold_out-Desc, fold_out-Field, fold_out-TaggedVariant, fold_out-Variant, map-Desc, map-Variant}
-use Rattle.typed_values.specs.declared.desc.Desc.TheOpen.{Desc-F}
-use Rattle.typed_values.specs.declared.desc.Desc.TheVariants.{rolls-Any, rolls-Never, rolls-Null, rolls-Bool, rolls-Char, rolls-Int, rolls-Text, rolls-Enumeration, rolls-Option, rolls-List, rolls-Map, rolls-Struct, rolls-External, rolls-Tagged, rolls-Untagged, rolls-Ref}
-use Rattle.typed_values.specs.declared.desc.Desc.TheViews.{roll-Desc, out-roll-Desc}
-use Rattle.typed_values.specs.declared.desc.Field.{Field}
-use Rattle.typed_values.specs.declared.desc.TaggedVariant.{TaggedVariant, roll-TaggedVariant, roll-out-TaggedVariant}
-use Rattle.typed_values.specs.declared.desc.Variant.{Variant}
-use Rattle.typed_values.specs.Definitions.{tagged_description, tagged_fields, tagged_name}
+use Rattle.descriptors.specs.declared.desc.Desc.{Desc, out-Desc, Option as OptionOf, List as ListOf, Map, Struct, External, Tagged, Untagged}
+use Rattle.descriptors.specs.declared.desc.Desc.TheFolds.{fold-Desc, fold-Field, fold-TaggedVariant, fold-Variant, fold_out-Desc, fold_out-Field, fold_out-TaggedVariant, fold_out-Variant, map-Desc, map-Variant}
+use Rattle.descriptors.specs.declared.desc.Desc.TheOpen.{Desc-F}
+use Rattle.descriptors.specs.declared.desc.Desc.TheVariants.{rolls-Any, rolls-Never, rolls-Null, rolls-Bool, rolls-Char, rolls-Int, rolls-Text, rolls-Enumeration, rolls-Option, rolls-List, rolls-Map, rolls-Struct, rolls-External, rolls-Tagged, rolls-Untagged, rolls-Ref}
+use Rattle.descriptors.specs.declared.desc.Desc.TheViews.{roll-Desc, out-roll-Desc}
+use Rattle.descriptors.specs.declared.desc.Field.{Field}
+use Rattle.descriptors.specs.declared.desc.TaggedVariant.{TaggedVariant, roll-TaggedVariant, roll-out-TaggedVariant}
+use Rattle.descriptors.specs.declared.desc.Variant.{Variant}
+use Rattle.descriptors.specs.Definitions.{tagged_description, tagged_fields, tagged_name}
 use Rattle.typed_values.specs.DescBeside.{Beside, FieldBeside, TaggedBeside, VariantBeside, LevelBeside, desc_beside, field_beside, tagged_beside, variant_beside, desc_of_level, same_field, same_tagged, same_variant, level_beside, made_of, beside_with, field_with, tagged_with, variant_with, level_with}
 use Rattle.typed_values.specs.Levels.{DescLevel}
 use Rattle.typed_values.proofs.Induction.{InField, InFields, InTagged, InVariant, KnownLevel, firsts, by_levels, each_holds}

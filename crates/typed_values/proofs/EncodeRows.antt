@@ -7,20 +7,20 @@ use Rattle.schema_values.specs.declared.json_value.Json.{Json, Null, Text as Wor
 use Rattle.schema_values.specs.declared.json_value.Json.TheVariants.{outs-Null, outs-Object}
 use Rattle.schema_values.specs.declared.json_value.Member.{Member}
 use Rattle.schema_values.specs.Member.{member}
-use Rattle.typed_values.specs.declared.desc.Desc.{Desc, out-Desc}
-use Rattle.typed_values.specs.declared.desc.Desc.TheOpen.{Desc-F}
-use Rattle.typed_values.specs.declared.desc.Desc.TheVariants as desc
-use Rattle.typed_values.specs.declared.desc.Field.{Field}
-use Rattle.typed_values.specs.declared.desc.IntKind.{IntKind}
-use Rattle.typed_values.specs.declared.desc.Named.{Named}
-use Rattle.typed_values.specs.declared.desc.TaggedVariant.{TaggedVariant}
-use Rattle.typed_values.specs.declared.desc.Variant.{Variant}
-use Rattle.typed_values.specs.declared.tree.Tree.{Tree, Fields as Parts, Variant as Choice, out-Tree}
-use Rattle.typed_values.specs.declared.tree.Tree.TheOpen.{Tree-F}
-use Rattle.typed_values.specs.declared.tree.Tree.TheVariants.{outs-Fields, outs-Variant, rolls-Fields}
-use Rattle.typed_values.specs.declared.tree.Tree.TheViews.{roll-Tree, roll-out-Tree}
-use Rattle.typed_values.specs.declared.table.Definition.{Definition}
-use Rattle.typed_values.specs.Definitions.{definition, tagged_fields, tagged_name}
+use Rattle.descriptors.specs.declared.desc.Desc.{Desc, out-Desc}
+use Rattle.descriptors.specs.declared.desc.Desc.TheOpen.{Desc-F}
+use Rattle.descriptors.specs.declared.desc.Desc.TheVariants as desc
+use Rattle.descriptors.specs.declared.desc.Field.{Field}
+use Rattle.descriptors.specs.declared.desc.IntKind.{IntKind}
+use Rattle.descriptors.specs.declared.desc.Named.{Named}
+use Rattle.descriptors.specs.declared.desc.TaggedVariant.{TaggedVariant}
+use Rattle.descriptors.specs.declared.desc.Variant.{Variant}
+use Rattle.descriptors.specs.declared.tree.Tree.{Tree, Fields as Parts, Variant as Choice, out-Tree}
+use Rattle.descriptors.specs.declared.tree.Tree.TheOpen.{Tree-F}
+use Rattle.descriptors.specs.declared.tree.Tree.TheVariants.{outs-Fields, outs-Variant, rolls-Fields}
+use Rattle.descriptors.specs.declared.tree.Tree.TheViews.{roll-Tree, roll-out-Tree}
+use Rattle.descriptors.specs.declared.table.Definition.{Definition}
+use Rattle.descriptors.specs.Definitions.{definition, tagged_fields, tagged_name}
 use Rattle.typed_values.specs.Denotes.{room}
 use Rattle.typed_values.specs.Encoding.{is_left_out, unless, members_written, scalar_written, whole_written, name_written, listed_written, option_written, items_written, entries_written, parts_written, choice_written, variant_written, at_place, external_written, with_tag, tagged_written, written_if_there, written_by, written_under}
 use Rattle.typed_values.specs.Fits.{field_desc, struct_of}

@@ -3,17 +3,17 @@ use Rattle.std.proofs.Common.{rules, ◌≡◌, ℕ, zero, suc, ◌+◌, Bool, L
 use Rattle.std.specs.Prelude.{⊤}
 use Rattle.schema_values.specs.declared.json_value.Json.{Json, List as Items, Object}
 use Rattle.schema_values.specs.Member.{member}
-use Rattle.typed_values.specs.declared.desc.Desc.{Desc, Option as OptionOf, Struct as StructOf, out-Desc}
-use Rattle.typed_values.specs.declared.desc.Desc.TheOpen.{Desc-F}
-use Rattle.typed_values.specs.declared.desc.Desc.TheVariants.{outs-Option, outs-Struct}
-use Rattle.typed_values.specs.declared.desc.Field.{Field}
-use Rattle.typed_values.specs.declared.desc.Named.{Named}
-use Rattle.typed_values.specs.declared.desc.TaggedVariant.{TaggedVariant}
-use Rattle.typed_values.specs.declared.desc.Variant.{Variant}
-use Rattle.typed_values.specs.declared.tree.Tree.{Tree, out-Tree}
-use Rattle.typed_values.specs.declared.tree.Tree.TheOpen.{Tree-F}
-use Rattle.typed_values.specs.declared.table.Definition.{Definition}
-use Rattle.typed_values.specs.Definitions.{definition}
+use Rattle.descriptors.specs.declared.desc.Desc.{Desc, Option as OptionOf, Struct as StructOf, out-Desc}
+use Rattle.descriptors.specs.declared.desc.Desc.TheOpen.{Desc-F}
+use Rattle.descriptors.specs.declared.desc.Desc.TheVariants.{outs-Option, outs-Struct}
+use Rattle.descriptors.specs.declared.desc.Field.{Field}
+use Rattle.descriptors.specs.declared.desc.Named.{Named}
+use Rattle.descriptors.specs.declared.desc.TaggedVariant.{TaggedVariant}
+use Rattle.descriptors.specs.declared.desc.Variant.{Variant}
+use Rattle.descriptors.specs.declared.tree.Tree.{Tree, out-Tree}
+use Rattle.descriptors.specs.declared.tree.Tree.TheOpen.{Tree-F}
+use Rattle.descriptors.specs.declared.table.Definition.{Definition}
+use Rattle.descriptors.specs.Definitions.{definition}
 use Rattle.typed_values.specs.Denotes.{room, nodes, nodes_of_table}
 use Rattle.typed_values.specs.Encoding.{Writing, is_left_out, unless, members_written, written_if_there, scalar_written, whole_written, listed_written, option_written, items_written, pair_written, entries_written, parts_written, choice_written, external_written, tagged_written, written_by, is_none_written, written_at, is_none_level, writing_step, writing, written_under}
 use Rattle.typed_values.specs.Fits.{field_desc}

@@ -3,22 +3,22 @@ use Rattle.std.proofs.Common.{◌≡◌, ◌≢◌, ◌↔◌, IsTrue, ℕ, Bool
 use Rattle.std.specs.Prelude.{Contains}
 use Rattle.std.specs.List.{AllByRecursion}
 use Rattle.schema_values.specs.Sound.{AreDistinct}
-use Rattle.typed_values.specs.declared.desc.Desc.TheVariants as desc
-use Rattle.typed_values.specs.declared.desc.Desc.{Desc, out-Desc}
-use Rattle.typed_values.specs.declared.desc.Desc.TheOpen.{Desc-F}
-use Rattle.typed_values.specs.declared.desc.Desc.TheViews.{roll-out-Desc, roll-Desc}
-use Rattle.typed_values.specs.declared.desc.Field.{Field}
-use Rattle.typed_values.specs.declared.desc.Named.{Named}
-use Rattle.typed_values.specs.declared.desc.Presence.TheVariants.{Required, Nullable, Skipped, Default}
-use Rattle.typed_values.specs.declared.desc.TaggedVariant.{TaggedVariant}
-use Rattle.typed_values.specs.declared.desc.Variant.{Variant}
-use Rattle.typed_values.specs.declared.table.Definition.{Definition}
-use Rattle.typed_values.specs.declared.tree.Tree.{Tree}
-use Rattle.typed_values.specs.Definitions.{field_name, listed_name, variant_name, tagged_name, tagged_fields}
+use Rattle.descriptors.specs.declared.desc.Desc.TheVariants as desc
+use Rattle.descriptors.specs.declared.desc.Desc.{Desc, out-Desc}
+use Rattle.descriptors.specs.declared.desc.Desc.TheOpen.{Desc-F}
+use Rattle.descriptors.specs.declared.desc.Desc.TheViews.{roll-out-Desc, roll-Desc}
+use Rattle.descriptors.specs.declared.desc.Field.{Field}
+use Rattle.descriptors.specs.declared.desc.Named.{Named}
+use Rattle.descriptors.specs.declared.desc.Presence.TheVariants.{Required, Nullable, Skipped, Default}
+use Rattle.descriptors.specs.declared.desc.TaggedVariant.{TaggedVariant}
+use Rattle.descriptors.specs.declared.desc.Variant.{Variant}
+use Rattle.descriptors.specs.declared.table.Definition.{Definition}
+use Rattle.descriptors.specs.declared.tree.Tree.{Tree}
+use Rattle.descriptors.specs.Definitions.{field_name, listed_name, variant_name, tagged_name, tagged_fields}
 use Rattle.typed_values.specs.Checks.{names_of_fields, lists_of_names, HasDoubledName, TakesNull, HasTagClash, IsFieldOf, of_struct, of_variant, IsOption, IsBadField, no_option, null_twice, default_misfits, HasBadPresence, IsPlainlyRight}
 use Rattle.typed_values.specs.Fits.{Fits}
 use Rattle.typed_values.specs.Levels.{DescLevel}
-use Rattle.typed_values.proofs.Found.{same_or_not}
+use Rattle.descriptors.proofs.CallerLemmas.{same_or_not}
 use Rattle.schema_values.proofs.CallerLemmas.{contains_first, contains_later, contains_cases}
 
 module _ {A : Type 0} (name_of : A → List ℕ) where

@@ -5,9 +5,9 @@ use Rattle.std.specs.Prelude.{Contains}
 use Rattle.schema_values.specs.Sound.{AreDistinct}
 use Rattle.typed_values.specs.declared.check.TableError.{TableError}
 use Rattle.typed_values.specs.declared.check.TableError.TheVariants.{DoubledName, BadName, Dangling, Unguarded, EmptyEnumeration, NullOfNull, TagClash, BadRange, BadPresence}
-use Rattle.typed_values.specs.declared.desc.Desc.{Desc}
-use Rattle.typed_values.specs.declared.table.Definition.{Definition}
-use Rattle.typed_values.specs.Definitions.{definition_name}
+use Rattle.descriptors.specs.declared.desc.Desc.{Desc}
+use Rattle.descriptors.specs.declared.table.Definition.{Definition}
+use Rattle.descriptors.specs.Definitions.{definition_name}
 use Rattle.typed_values.specs.Causes.{AppliesToDesc, IsFirst, IsFirstOnCycle, order}
 use Rattle.typed_values.specs.Checks.{IsName, DescPasses, TablePasses}
 use Rattle.typed_values.specs.Guarded.{IsGuarded}

@@ -12,13 +12,12 @@ use Rattle.std.specs.List.Sorted.{IsSortedByKey}
 use Rattle.std.specs.Ordering.{ordering_reverse}
 use Rattle.schema_values.specs.declared.json_value.Member.{Member}
 use Rattle.schema_values.specs.Member.{name_of}
-use Rattle.typed_values.specs.declared.desc.Field.{Field}
-use Rattle.typed_values.specs.Definitions.{field_name}
+use Rattle.descriptors.specs.declared.desc.Field.{Field}
+use Rattle.descriptors.specs.Definitions.{field_name}
 use Rattle.typed_values.specs.Denotes.{value_named, is_declared, lesser, least_with, least_name, denied_name, member_name}
 use Rattle.schema_values.specs.Order.{at_place, inserted_by, sorted_by}
 use Rattle.typed_values.specs.Order.{first_by}
-use Rattle.typed_values.proofs.Found.{other_name}
-use Rattle.typed_values.proofs.Places.{same_text}
+use Rattle.descriptors.proofs.CallerLemmas.{other_name, same_text}
 use Rattle.schema_values.proofs.CallerLemmas.{map_sorted, less, kept_sorted, none_before_at}
 
 -- ---- the first of a name

@@ -5,8 +5,8 @@ use Rattle.std.specs.List.{AllByRecursion}
 use Rattle.schema_values.specs.declared.json_value.Json.{Json, List as JsonList, Object as JsonObject, size-Json}
 use Rattle.schema_values.specs.declared.json_value.Json.TheViews.{sized-List, sized-Object}
 use Rattle.schema_values.specs.declared.json_value.Member.{Member, size-Member, size_is-Member}
-use Rattle.typed_values.specs.declared.desc.Desc.{Desc}
-use Rattle.typed_values.specs.declared.table.Definition.{Definition}
+use Rattle.descriptors.specs.declared.desc.Desc.{Desc}
+use Rattle.descriptors.specs.declared.table.Definition.{Definition}
 use Rattle.typed_values.specs.Denotes.{value_named, member_name}
 use Rattle.schema_values.specs.Order.{sorted_by}
 use Rattle.schema_values.proofs.CallerLemmas.{all_sorted}

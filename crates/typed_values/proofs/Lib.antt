@@ -1,4 +1,3 @@
-pub mod Found
 pub mod Tops
 pub mod Soundness
 pub mod FirstNamed
@@ -18,7 +17,6 @@ pub mod FitRows
 pub mod DenotedRows
 pub mod TreeParts
 pub mod Within
-pub mod Copied
 pub mod Narrower
 pub mod DenotedFits
 pub mod EncodeSteps
@@ -40,6 +38,5 @@ pub mod Naming
 pub mod Searching
 pub mod Fields
 pub mod Places
-pub mod Indexing
 pub mod First
 pub mod CallerLemmas

@@ -4,7 +4,7 @@ use Rattle.std.proofs.lemmas.List.{drop_more}
 use Rattle.std.proofs.lemmas.Slice.Eq.{bytes_eq-Decides}
 use Rattle.std.specs.Prelude.{Contains, slice_get}
 use Rattle.typed_values.specs.Denotes.{named_from}
-use Rattle.typed_values.proofs.Found.{other_name}
+use Rattle.descriptors.proofs.CallerLemmas.{other_name}
 use Rattle.schema_values.proofs.CallerLemmas.{contains_later}
 
 module _ {X : Type 0} (name_of : X → List ℕ) (xs : List X) (name : List ℕ) (i : ℕ) (x : X) (h : i < length xs) (is : x ≡ get_or xs i x) where

@@ -7,8 +7,8 @@ use Rattle.std.specs.declared.result.Result.TheVariants.{Ok, Err}
 use Rattle.typed_values.specs.declared.fault.FaultKind.TheVariants.{BadLength}
 use Rattle.typed_values.specs.declared.fault.Stop.{Stop}
 use Rattle.typed_values.specs.declared.fault.Stop.TheVariants as stop
-use Rattle.typed_values.specs.declared.desc.Desc.{Desc}
-use Rattle.typed_values.specs.declared.tree.Tree.{Tree, List as Items, Variant as Choice}
+use Rattle.descriptors.specs.declared.desc.Desc.{Desc}
+use Rattle.descriptors.specs.declared.tree.Tree.{Tree, List as Items, Variant as Choice}
 use Rattle.typed_values.specs.Answer.{Tells, trouble}
 use Rattle.typed_values.specs.Bounds.{is_length_within}
 use Rattle.typed_values.specs.Faults.{Trouble}

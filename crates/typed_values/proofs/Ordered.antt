@@ -11,7 +11,7 @@ use Rattle.schema_values.proofs.CallerLemmas.{Below, below_all, all-push, all_in
 use Rattle.schema_values.specs.Sound.{AreDistinct}
 use Rattle.typed_values.specs.Fits.{is_less, are_ascending}
 use Rattle.schema_values.specs.Order.{at_place, inserted_by, sorted_by}
-use Rattle.typed_values.proofs.Places.{same_text}
+use Rattle.descriptors.proofs.CallerLemmas.{same_text}
 
 -- each name is below all behind it
 abbrev pub Ascends : List (List ℕ) → Type 0

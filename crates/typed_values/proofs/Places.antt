@@ -1,49 +1,16 @@
--- The order of names, and where a search by halves finds a name among things in the order of their names.
-use Rattle.std.proofs.Common.{◌≡◌, ◌≢◌, ℕ, zero, suc, ◌+◌, ◌<◌, ◌≤◌, Bool, true, false, List, [], ◌∷◌, length, map, Some, None, option_map, bytes_eq, cond, Less, Equal, Greater, nat_cmp, is_lt, refl, sym, ◌∙◌, ap, ap₂, arith, get_or, inl, inr, ⊎_elim}
+-- Where a search by halves finds a name among things in the order of their names.
+use Rattle.std.proofs.Common.{◌≡◌, ◌≢◌, ℕ, zero, suc, ◌+◌, ◌<◌, ◌≤◌, Bool, true, false, List, [], ◌∷◌, length, map, Some, None, option_map, bytes_eq, cond, nat_cmp, is_lt, refl, sym, ◌∙◌, ap, ap₂, arith, get_or, inl, inr, ⊎_elim}
 use Rattle.std.proofs.lemmas.Bool.{cases_Bool, cases_lt, cond-true, cond-false}
-use Rattle.std.proofs.lemmas.Cmp.{nat_list_cmp_total, ranked, tied_itself}
+use Rattle.std.proofs.lemmas.Cmp.{nat_list_cmp_total, tied_itself}
 use Rattle.std.proofs.lemmas.List.{length-map}
 use Rattle.std.proofs.lemmas.List.Sorted.{ranks_by, sorted_far}
 use Rattle.std.proofs.lemmas.Slice.Eq.{bytes_eq-Decides}
 use Rattle.std.proofs.Math.ListN.{get_or-map}
 use Rattle.std.specs.Cmp.Lexicographic.{slice_cmp}
-use Rattle.std.specs.declared.cmp.Ordering.{Ordering}
 use Rattle.std.specs.List.{All, AllWithin, find}
 use Rattle.std.specs.List.Sorted.{IsPartitionedBy, IsPartitionPoint, IsSortedByKey}
-use Rattle.std.specs.Ordering.{ordering_reverse, ordering_then}
 use Rattle.typed_values.specs.Order.{first_by}
-use Rattle.typed_values.proofs.Found.{other_name}
-
--- ---- the order of names
-
-same_number : (a b : ℕ) → nat_cmp a b ≡ Equal → a ≡ b
-same_number a b e = ranked a b Equal (sym e)
-
-both_equal : (o p : Ordering) → ordering_then o p ≡ Equal → (o ≡ Equal) × (p ≡ Equal)
-both_equal Less p e = absurd (cc e)
-both_equal Equal p e = (refl, e)
-both_equal Greater p e = absurd (cc e)
-
--- names that tie are one
-pub same_text : (k l : List ℕ) → slice_cmp nat_cmp k l ≡ Equal → k ≡ l
-same_text [] [] e = refl
-same_text [] (y ∷ ys) e = absurd (cc e)
-same_text (x ∷ xs) [] e = absurd (cc e)
-same_text (x ∷ xs) (y ∷ ys) e =
-    let parts = both_equal (nat_cmp x y) (slice_cmp nat_cmp xs ys) e in
-    ap₂ (λ (z : ℕ) (zs : List ℕ). z ∷ zs) (same_number x y parts.0) (same_text xs ys parts.1)
-
-pub apart : (k l : List ℕ) → slice_cmp nat_cmp k l ≢ Equal → k ≢ l
-apart k l other e = other (ap (λ (n : List ℕ). slice_cmp nat_cmp n l) e ∙ tied_itself nat_list_cmp_total l)
-
-pub not_below : (k l : List ℕ) → slice_cmp nat_cmp k l ≡ Less → is_lt (slice_cmp nat_cmp l k) ≡ false
-not_below k l e = ap is_lt (nat_list_cmp_total.antisymm l k ∙ ap ordering_reverse e)
-
--- names of which neither is before the other are one
-same_unless : (k l : List ℕ) (o : Ordering) → slice_cmp nat_cmp k l ≡ o → is_lt o ≡ false → is_lt (ordering_reverse o) ≡ false → k ≡ l
-same_unless k l Less e low high = absurd (cc low)
-same_unless k l Equal e low high = same_text k l e
-same_unless k l Greater e low high = absurd (cc high)
+use Rattle.descriptors.proofs.CallerLemmas.{other_name, same_unless}
 
 -- ---- a search by halves
 

@@ -9,22 +9,22 @@ use Rattle.schema_values.specs.declared.json_value.Json.{Json, Null, Text as Wor
 use Rattle.schema_values.specs.declared.json_value.Json.TheVariants as json
 use Rattle.schema_values.specs.Sound.{AreDistinct, IsWhole, IsSound}
 use Rattle.std.specs.declared.result.Result.TheVariants.{Ok}
-use Rattle.typed_values.specs.declared.desc.Named.{Named}
-use Rattle.typed_values.specs.declared.desc.IntKind.{IntKind}
-use Rattle.typed_values.specs.declared.desc.IntKind.TheVariants.{I8, I16, I32, I64, U8, U16, U32, U64}
+use Rattle.descriptors.specs.declared.desc.Named.{Named}
+use Rattle.descriptors.specs.declared.desc.IntKind.{IntKind}
+use Rattle.descriptors.specs.declared.desc.IntKind.TheVariants.{I8, I16, I32, I64, U8, U16, U32, U64}
 use Rattle.typed_values.specs.declared.fault.FaultKind.TheVariants.{OutOfRange, BadLength, NotListed}
-use Rattle.typed_values.specs.declared.tree.Tree.{Tree, Unit as Nought, Bool as Truth, Int as Number, Text as Words, Variant as Choice, Any as Whole}
-use Rattle.typed_values.specs.declared.tree.Tree.TheOpen.{Tree-F}
-use Rattle.typed_values.specs.declared.tree.Tree.TheVariants as tree
-use Rattle.typed_values.specs.declared.tree.Tree.TheViews.{roll-Tree}
+use Rattle.descriptors.specs.declared.tree.Tree.{Tree, Unit as Nought, Bool as Truth, Int as Number, Text as Words, Variant as Choice, Any as Whole}
+use Rattle.descriptors.specs.declared.tree.Tree.TheOpen.{Tree-F}
+use Rattle.descriptors.specs.declared.tree.Tree.TheVariants as tree
+use Rattle.descriptors.specs.declared.tree.Tree.TheViews.{roll-Tree}
 use Rattle.typed_values.specs.Bounds.{least_of, greatest_of, is_number_of}
 use Rattle.typed_values.specs.Denotes.{Told, if_holds, nought, truth, character, number, words, refused, named_from, where_found, bare, one_of_names}
-use Rattle.typed_values.specs.Definitions.{listed_name}
+use Rattle.descriptors.specs.Definitions.{listed_name}
 use Rattle.typed_values.specs.Encoding.{scalar_written, whole_written, name_written, listed_written}
 use Rattle.typed_values.specs.Fits.{whole_fits, nought_fits, truth_fits, number_fits, words_fit, character_fits, name_fits}
 use Rattle.typed_values.specs.Levels.{TreeOf}
 use Rattle.typed_values.proofs.FitRows.{below_true}
-use Rattle.typed_values.proofs.Found.{other_name, same_name}
+use Rattle.descriptors.proofs.CallerLemmas.{other_name, same_name}
 use Rattle.typed_values.proofs.ToldTrees.{Gives}
 use lib.Dec.{T}
 use lib.Signed.{le_z_yes}

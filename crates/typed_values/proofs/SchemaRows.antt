@@ -2,14 +2,14 @@
 use Rattle.std.proofs.Common.{◌≡◌, ℕ, Bool, List, map, Option, None, refl, sym, ◌∙◌, ap}
 use Rattle.std.specs.Option.{option_map_or}
 use Rattle.schema_values.specs.declared.schema.Schema.{Bool as Truth}
-use Rattle.typed_values.specs.declared.desc.Desc.{Desc, out-Desc}
-use Rattle.typed_values.specs.declared.desc.Desc.TheOpen.{Desc-F}
-use Rattle.typed_values.specs.declared.desc.Desc.TheVariants as desc
-use Rattle.typed_values.specs.declared.desc.Desc.TheViews.{roll-out-Desc, roll-Desc}
-use Rattle.typed_values.specs.declared.desc.Field.{Field}
-use Rattle.typed_values.specs.declared.desc.TaggedVariant.{TaggedVariant}
-use Rattle.typed_values.specs.declared.desc.Variant.{Variant}
-use Rattle.typed_values.specs.declared.table.Definition.{Definition}
+use Rattle.descriptors.specs.declared.desc.Desc.{Desc, out-Desc}
+use Rattle.descriptors.specs.declared.desc.Desc.TheOpen.{Desc-F}
+use Rattle.descriptors.specs.declared.desc.Desc.TheVariants as desc
+use Rattle.descriptors.specs.declared.desc.Desc.TheViews.{roll-out-Desc, roll-Desc}
+use Rattle.descriptors.specs.declared.desc.Field.{Field}
+use Rattle.descriptors.specs.declared.desc.TaggedVariant.{TaggedVariant}
+use Rattle.descriptors.specs.declared.desc.Variant.{Variant}
+use Rattle.descriptors.specs.declared.table.Definition.{Definition}
 use Rattle.typed_values.specs.DescBeside.{Beside, beside_with, level_with}
 use Rattle.typed_values.specs.Schemas.{Sketch, object_of, property_of, required_names, struct_parts, choice_of, one_of, external_choices, tagged_choice, other_members, sketch_step, schema_sketch, schema_parts, schema_value, sketch_of_field, sketch_of_tagged, sketch_of_variant}
 use Rattle.typed_values.specs.Levels.{DescLevel}

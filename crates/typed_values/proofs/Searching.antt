@@ -4,9 +4,9 @@ use Rattle.std.proofs.lemmas.List.{get_or_default}
 use Rattle.std.proofs.lemmas.Slice.Eq.{bytes_eq-Decides}
 use Rattle.std.specs.Prelude.{Contains}
 use Rattle.std.specs.Option.{option_copied}
-use Rattle.typed_values.specs.declared.desc.Desc.{Desc, out-Desc}
-use Rattle.typed_values.specs.declared.desc.Desc.TheOpen.{Desc-F}
-use Rattle.typed_values.specs.declared.table.Definition.{Definition}
+use Rattle.descriptors.specs.declared.desc.Desc.{Desc, out-Desc}
+use Rattle.descriptors.specs.declared.desc.Desc.TheOpen.{Desc-F}
+use Rattle.descriptors.specs.declared.table.Definition.{Definition}
 use Rattle.typed_values.specs.declared.search.Met.{Met, out-Met}
 use Rattle.typed_values.specs.declared.search.Met.TheFolds.{fold_out-Met, fold-roll-Met}
 use Rattle.typed_values.specs.declared.search.Met.TheViews.{roll-Met}
@@ -15,11 +15,11 @@ use Rattle.typed_values.specs.declared.search.Path.TheFolds.{fold_out-Path, fold
 use Rattle.typed_values.specs.declared.search.Path.TheViews.{roll-Path}
 use Rattle.typed_values.specs.declared.search.Sought.{Sought}
 use Rattle.typed_values.specs.declared.search.Sought.TheVariants.{Name, Null}
-use Rattle.typed_values.specs.Definitions.{definition}
+use Rattle.descriptors.specs.Definitions.{definition}
 use Rattle.typed_values.specs.Checks.{TakesNull, any_value, null_itself, an_option, a_reference, an_alternative}
 use Rattle.typed_values.specs.Guarded.{Names, named_here, named_in_option, named_in_alternative, Reaches, at_once, through}
 use Rattle.typed_values.specs.Search.{HoldsNull, any_held, null_held, held_here, held_in_alternative, Meets, Leads, it_meets, it_names, all_met, with_met, on_path, with_path, IsMet, IsDone, IsNext, IsSearch, SomeLeads}
-use Rattle.typed_values.proofs.Found.{eq_false, entry_found}
+use Rattle.descriptors.proofs.CallerLemmas.{eq_false, entry_found}
 use Rattle.schema_values.proofs.CallerLemmas.{contains_first, contains_later, contains_cases}
 
 -- the measure: the definitions of a table that are not met

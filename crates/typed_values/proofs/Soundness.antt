@@ -2,17 +2,17 @@
 use Rattle.std.proofs.Common.{◌≡◌, ℕ, zero, suc, ◌+◌, ◌≤◌, Bool, true, false, List, [], ◌∷◌, Option, Some, None, bytes_eq, cond, refl, sym, ◌∙◌, ap, subst, arith, MatchOption, ◌⊎◌, inl, inr}
 use Rattle.std.proofs.lemmas.Slice.Eq.{bytes_eq-Decides}
 use Rattle.std.specs.Prelude.{⊤, Contains}
-use Rattle.typed_values.specs.declared.desc.Desc.{Desc, out-Desc}
-use Rattle.typed_values.specs.declared.desc.Desc.TheOpen.{Desc-F}
-use Rattle.typed_values.specs.declared.table.Definition.{Definition}
-use Rattle.typed_values.specs.Definitions.{definition}
+use Rattle.descriptors.specs.declared.desc.Desc.{Desc, out-Desc}
+use Rattle.descriptors.specs.declared.desc.Desc.TheOpen.{Desc-F}
+use Rattle.descriptors.specs.declared.table.Definition.{Definition}
+use Rattle.descriptors.specs.Definitions.{definition}
 use Rattle.typed_values.specs.Denotes.{room}
 use Rattle.typed_values.specs.Guarded.{named_here, Reaches, at_once, through, IsGuarded}
 use Rattle.typed_values.specs.Parts.{IsPart, of_whole, of_table}
 use Rattle.typed_values.specs.Resting.{EachRests, RestsBy, Rests, AllRest}
 use Rattle.typed_values.specs.Checks.{IsPlainlyRight, TablePasses, DescPasses}
 use Rattle.typed_values.specs.Levels.{DescLevel}
-use Rattle.typed_values.proofs.Found.{other_name, same_name, same_or_not, entry_found}
+use Rattle.descriptors.proofs.CallerLemmas.{other_name, same_name, same_or_not, entry_found}
 use Rattle.schema_values.proofs.CallerLemmas.{contains_first, contains_later, contains_cases}
 use Rattle.typed_values.proofs.Tops.{top, tops, top_at, top_positive, top_fits, tops_fit, other_tops_fit, map_sum, through_option, through_alternative, stands_inside}
 

@@ -4,10 +4,10 @@ use Rattle.std.specs.Prelude.{⊤}
 use Rattle.schema_values.specs.declared.json_value.Json.{Json, out-Json}
 use Rattle.schema_values.specs.Beside.{level_with}
 use Rattle.schema_values.proofs.CallerLemmas.{made-out}
-use Rattle.typed_values.specs.declared.desc.Desc.{Desc, out-Desc}
-use Rattle.typed_values.specs.declared.desc.Desc.TheOpen.{Desc-F}
-use Rattle.typed_values.specs.declared.table.Definition.{Definition}
-use Rattle.typed_values.specs.Definitions.{definition}
+use Rattle.descriptors.specs.declared.desc.Desc.{Desc, out-Desc}
+use Rattle.descriptors.specs.declared.desc.Desc.TheOpen.{Desc-F}
+use Rattle.descriptors.specs.declared.table.Definition.{Definition}
+use Rattle.descriptors.specs.Definitions.{definition}
 use Rattle.typed_values.specs.Denotes.{Told, Meaning, Level, told_by, first_told, or_else, told_at, told_within, room, told, optional, at_definition}
 use Rattle.typed_values.specs.Resting.{EachRests, RestsBy, Rests}
 use Rattle.typed_values.specs.Levels.{DescLevel}

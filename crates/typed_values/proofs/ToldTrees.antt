@@ -2,8 +2,8 @@
 use Rattle.std.proofs.Common.{◌≡◌, ℕ, zero, suc, ◌+◌, List, [], ◌∷◌, Some, refl, ◌∙◌, ap}
 use Rattle.std.specs.declared.result.Result.{Result}
 use Rattle.std.specs.declared.result.Result.TheVariants.{Ok, Err}
-use Rattle.typed_values.specs.declared.desc.Desc.{Desc}
-use Rattle.typed_values.specs.declared.tree.Tree.{Tree, Some as Just}
+use Rattle.descriptors.specs.declared.desc.Desc.{Desc}
+use Rattle.descriptors.specs.declared.tree.Tree.{Tree, Some as Just}
 use Rattle.typed_values.specs.Denotes.{Told, below, just, and_rest, and_then, as_tree, pair, as_pair, or_else, first_told}
 use Rattle.typed_values.specs.Faults.{Trouble}
 use Rattle.typed_values.specs.Fits.{alternative_at}

@@ -2,14 +2,14 @@
 use Rattle.std.proofs.Common.{◌≡◌, ℕ, zero, suc, ◌+◌, ◌<◌, ◌≤◌, List, [], ◌∷◌, map, Option, Some, None, ◌∙◌, ap, subst, arith, ◌⊎◌, inl, inr, sum, length, slice_index_or}
 use Rattle.std.specs.Prelude.{Contains}
 use Rattle.std.proofs.lemmas.List.Sums.{sum_by-cons}
-use Rattle.typed_values.specs.declared.desc.Desc.{Desc, out-Desc}
-use Rattle.typed_values.specs.declared.desc.Desc.TheOpen.{Desc-F}
-use Rattle.typed_values.specs.declared.desc.Desc.TheFolds.{fold-Desc, fold-Field, fold-TaggedVariant, fold-Variant, fold_out-Desc, fold_out-Field, fold_out-TaggedVariant, fold_out-Variant, fold-roll-Desc, map-Desc, ind-Desc}
-use Rattle.typed_values.specs.declared.desc.Field.{Field}
-use Rattle.typed_values.specs.declared.desc.TaggedVariant.{TaggedVariant}
-use Rattle.typed_values.specs.declared.desc.Variant.{Variant}
-use Rattle.typed_values.specs.declared.table.Definition.{Definition}
-use Rattle.typed_values.specs.Definitions.{tagged_fields}
+use Rattle.descriptors.specs.declared.desc.Desc.{Desc, out-Desc}
+use Rattle.descriptors.specs.declared.desc.Desc.TheOpen.{Desc-F}
+use Rattle.descriptors.specs.declared.desc.Desc.TheFolds.{fold-Desc, fold-Field, fold-TaggedVariant, fold-Variant, fold_out-Desc, fold_out-Field, fold_out-TaggedVariant, fold_out-Variant, fold-roll-Desc, map-Desc, ind-Desc}
+use Rattle.descriptors.specs.declared.desc.Field.{Field}
+use Rattle.descriptors.specs.declared.desc.TaggedVariant.{TaggedVariant}
+use Rattle.descriptors.specs.declared.desc.Variant.{Variant}
+use Rattle.descriptors.specs.declared.table.Definition.{Definition}
+use Rattle.descriptors.specs.Definitions.{tagged_fields}
 use Rattle.typed_values.specs.Denotes.{nodes, nodes_step, field_nodes, tagged_nodes, variant_nodes, nodes_of_table}
 use Rattle.typed_values.specs.Guarded.{named_in_option, named_in_alternative, Reaches, at_once, through}
 use Rattle.typed_values.specs.Parts.{StandsIn, the_whole, in_option, in_list, in_map, in_field, in_payload, in_variant, in_alternative}

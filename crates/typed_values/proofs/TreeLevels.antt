@@ -1,9 +1,9 @@
 -- One level of a tree, where each smaller tree stands as what a fold makes of it.
 use Rattle.std.proofs.Common.{◌≡◌, List, [], ◌∷◌, map, refl, ap, ap₂, ◌∙◌}
-use Rattle.typed_values.specs.declared.tree.Pair.{Pair}
-use Rattle.typed_values.specs.declared.tree.Tree.{Tree, out-Tree}
-use Rattle.typed_values.specs.declared.tree.Tree.TheFolds.{fold-Tree, fold-Pair, fold_out-Tree, fold_out-Pair, map-Tree}
-use Rattle.typed_values.specs.declared.tree.Tree.TheOpen.{Tree-F}
+use Rattle.descriptors.specs.declared.tree.Pair.{Pair}
+use Rattle.descriptors.specs.declared.tree.Tree.{Tree, out-Tree}
+use Rattle.descriptors.specs.declared.tree.Tree.TheFolds.{fold-Tree, fold-Pair, fold_out-Tree, fold_out-Pair, map-Tree}
+use Rattle.descriptors.specs.declared.tree.Tree.TheOpen.{Tree-F}
 use Rattle.typed_values.specs.Levels.{TreeOf, PairOf, same_pair}
 
 abbrev pub pair_with : {X Y : Type 0} → (X → Y) → PairOf X → PairOf Y

@@ -2,11 +2,11 @@
 use Rattle.std.proofs.Common.{List, [], ◌∷◌, map, sym, subst}
 use Rattle.std.specs.List.{AllByRecursion}
 use Rattle.std.specs.Prelude.{⊤}
-use Rattle.typed_values.specs.declared.tree.Pair.{Pair}
-use Rattle.typed_values.specs.declared.tree.Tree.{Tree, out-Tree}
-use Rattle.typed_values.specs.declared.tree.Tree.TheFolds.{ind-Tree, map-Tree}
-use Rattle.typed_values.specs.declared.tree.Tree.TheOpen.{Tree-F, Pair-F}
-use Rattle.typed_values.specs.declared.tree.Tree.TheViews.{roll-Tree, out-roll-Tree}
+use Rattle.descriptors.specs.declared.tree.Pair.{Pair}
+use Rattle.descriptors.specs.declared.tree.Tree.{Tree, out-Tree}
+use Rattle.descriptors.specs.declared.tree.Tree.TheFolds.{ind-Tree, map-Tree}
+use Rattle.descriptors.specs.declared.tree.Tree.TheOpen.{Tree-F, Pair-F}
+use Rattle.descriptors.specs.declared.tree.Tree.TheViews.{roll-Tree, out-roll-Tree}
 use Rattle.typed_values.specs.Levels.{TreeOf}
 
 module _ (P : Tree → Type 0) where

@@ -1,9 +1,9 @@
 -- The sizes of what a tree is made of.
 use Rattle.std.proofs.Common.{◌≡◌, ℕ, suc, ◌<◌, ◌≤◌, List, ◌∙◌, length, get_or, arith}
 use denote.Param.Weighed.{most, at_most}
-use Rattle.typed_values.specs.declared.tree.Pair.{Pair, size-Pair, size_is-Pair}
-use Rattle.typed_values.specs.declared.tree.Tree.{Tree, Some, List as Items, Map as Entries, Fields as Parts, Variant as Choice, size-Tree}
-use Rattle.typed_values.specs.declared.tree.Tree.TheViews.{sized-Some, sized-List, sized-Map, sized-Fields, sized-Variant}
+use Rattle.descriptors.specs.declared.tree.Pair.{Pair, size-Pair, size_is-Pair}
+use Rattle.descriptors.specs.declared.tree.Tree.{Tree, Some, List as Items, Map as Entries, Fields as Parts, Variant as Choice, size-Tree}
+use Rattle.descriptors.specs.declared.tree.Tree.TheViews.{sized-Some, sized-List, sized-Map, sized-Fields, sized-Variant}
 
 pub size_some : (t : Tree) → size-Tree (Some t) ≡ suc (size-Tree t)
 size_some t = sized-Some t ∙ omega arith

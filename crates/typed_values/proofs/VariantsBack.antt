@@ -10,19 +10,19 @@ use Rattle.schema_values.specs.Member.{member}
 use Rattle.schema_values.specs.Sound.{AreDistinct}
 use Rattle.schema_values.proofs.CallerLemmas.{IsSound-Object}
 use Rattle.std.specs.declared.result.Result.TheVariants.{Ok}
-use Rattle.typed_values.specs.declared.desc.Desc.{Desc}
-use Rattle.typed_values.specs.declared.desc.Field.{Field}
-use Rattle.typed_values.specs.declared.desc.TaggedVariant.{TaggedVariant}
-use Rattle.typed_values.specs.declared.desc.Variant.{Variant}
+use Rattle.descriptors.specs.declared.desc.Desc.{Desc}
+use Rattle.descriptors.specs.declared.desc.Field.{Field}
+use Rattle.descriptors.specs.declared.desc.TaggedVariant.{TaggedVariant}
+use Rattle.descriptors.specs.declared.desc.Variant.{Variant}
 use Rattle.typed_values.specs.declared.fault.FaultKind.TheVariants.{NotListed}
 use Rattle.typed_values.specs.declared.fault.Place.TheVariants.{Name}
-use Rattle.typed_values.specs.declared.tree.Tree.{Tree, Unit as Nought, Variant as Choice}
-use Rattle.typed_values.specs.Definitions.{variant_name, tagged_name, tagged_fields}
+use Rattle.descriptors.specs.declared.tree.Tree.{Tree, Unit as Nought, Variant as Choice}
+use Rattle.descriptors.specs.Definitions.{variant_name, tagged_name, tagged_fields}
 use Rattle.typed_values.specs.Denotes.{Told, below, refused, where_found, without_payload, with_payload, chosen, at_tag, external, tagged, value_named}
 use Rattle.typed_values.specs.Encoding.{variant_written}
 use Rattle.typed_values.specs.Fits.{alternative_at, if_there}
 use Rattle.typed_values.proofs.Arms.{bare_told, payload_told, at_tag_text}
-use Rattle.typed_values.proofs.Found.{same_name}
+use Rattle.descriptors.proofs.CallerLemmas.{same_name}
 use Rattle.typed_values.proofs.ScalarsBack.{ReadsBack, named_first}
 use Rattle.typed_values.proofs.ToldTrees.{Gives, gives_below}
 

@@ -14,24 +14,24 @@ use Rattle.schema_values.specs.Sound.{AreDistinct, IsSound as IsSoundValue}
 use Rattle.schema_values.specs.SoundMembers.{HasSoundValue}
 use Rattle.schema_values.proofs.CallerLemmas.{AreDistinct-sorted, IsSound-List, IsSound-Object, contains_first, contains_later}
 use Rattle.schema_values.specs.Member.{member, name_of}
-use Rattle.typed_values.specs.declared.desc.Desc.{Desc, Null as NullDesc, out-Desc}
-use Rattle.typed_values.specs.declared.desc.Desc.TheOpen.{Desc-F}
-use Rattle.typed_values.specs.declared.desc.Field.{Field}
-use Rattle.typed_values.specs.declared.desc.Presence.{Presence}
-use Rattle.typed_values.specs.declared.desc.Presence.TheVariants.{Required, Nullable, Skipped, Default}
-use Rattle.typed_values.specs.declared.desc.TaggedVariant.{TaggedVariant}
-use Rattle.typed_values.specs.declared.desc.Variant.{Variant}
+use Rattle.descriptors.specs.declared.desc.Desc.{Desc, Null as NullDesc, out-Desc}
+use Rattle.descriptors.specs.declared.desc.Desc.TheOpen.{Desc-F}
+use Rattle.descriptors.specs.declared.desc.Field.{Field}
+use Rattle.descriptors.specs.declared.desc.Presence.{Presence}
+use Rattle.descriptors.specs.declared.desc.Presence.TheVariants.{Required, Nullable, Skipped, Default}
+use Rattle.descriptors.specs.declared.desc.TaggedVariant.{TaggedVariant}
+use Rattle.descriptors.specs.declared.desc.Variant.{Variant}
 use Rattle.typed_values.specs.declared.fault.FaultKind.TheVariants.{BadLength}
-use Rattle.typed_values.specs.declared.table.Definition.{Definition}
+use Rattle.descriptors.specs.declared.table.Definition.{Definition}
 use Rattle.typed_values.specs.declared.fault.Place.TheVariants.{Name}
-use Rattle.typed_values.specs.declared.tree.Pair.{Pair}
-use Rattle.typed_values.specs.declared.tree.Tree.{Tree, Unit as Nought, None as Nothing, List as Items, Map as Entries, Fields as Parts, Variant as Choice, out-Tree}
-use Rattle.typed_values.specs.declared.tree.Tree.TheOpen.{Tree-F}
-use Rattle.typed_values.specs.declared.tree.Tree.TheVariants as tree
-use Rattle.typed_values.specs.declared.tree.Tree.TheViews.{roll-Tree, roll-out-Tree}
+use Rattle.descriptors.specs.declared.tree.Pair.{Pair}
+use Rattle.descriptors.specs.declared.tree.Tree.{Tree, Unit as Nought, None as Nothing, List as Items, Map as Entries, Fields as Parts, Variant as Choice, out-Tree}
+use Rattle.descriptors.specs.declared.tree.Tree.TheOpen.{Tree-F}
+use Rattle.descriptors.specs.declared.tree.Tree.TheVariants as tree
+use Rattle.descriptors.specs.declared.tree.Tree.TheViews.{roll-Tree, roll-out-Tree}
 use Rattle.typed_values.specs.Bounds.{is_length_within}
 use Rattle.typed_values.specs.Checks.{names_of_fields, TablePasses, DescPasses}
-use Rattle.typed_values.specs.Definitions.{definition, field_name, tagged_name, tagged_fields}
+use Rattle.descriptors.specs.Definitions.{definition, field_name, tagged_name, tagged_fields}
 use Rattle.typed_values.specs.Denotes.{Told, told, room, below, just, all_told, as_tree, as_pair, member_name, if_holds, optional, by_presence, unless_denied, denied_name, chosen, external, tagged, at_definition, first_told}
 use Rattle.typed_values.specs.Encoding.{unless, members_written, written_if_there, option_written, items_written, pair_written, entries_written, parts_written, choice_written, at_place, variant_written, external_written, with_tag, tagged_written, written_by, is_none_level, written_under, json_of_tree}
 use Rattle.typed_values.specs.Fits.{option_fits, each_fits, items_fit, are_ascending, key_of, entries_fit, field_desc, fields_fit, parts_fit, alternative_at, if_there, choice_fits, payload_or_null, payload_of, struct_of, fits_by, fits_under, Fits}

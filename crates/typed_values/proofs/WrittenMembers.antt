@@ -7,15 +7,15 @@ use Rattle.schema_values.specs.declared.json_value.Json.{Json}
 use Rattle.schema_values.specs.declared.json_value.Member.{Member}
 use Rattle.schema_values.specs.Member.{name_of, member}
 use Rattle.schema_values.specs.Sound.{AreDistinct}
-use Rattle.typed_values.specs.declared.desc.Desc.{Desc}
-use Rattle.typed_values.specs.declared.desc.Field.{Field}
-use Rattle.typed_values.specs.declared.tree.Tree.{Tree}
-use Rattle.typed_values.specs.Definitions.{field_name}
+use Rattle.descriptors.specs.declared.desc.Desc.{Desc}
+use Rattle.descriptors.specs.declared.desc.Field.{Field}
+use Rattle.descriptors.specs.declared.tree.Tree.{Tree}
+use Rattle.descriptors.specs.Definitions.{field_name}
 use Rattle.typed_values.specs.Denotes.{is_declared, value_named}
 use Rattle.typed_values.specs.Encoding.{is_left_out, unless, members_written}
 use Rattle.typed_values.specs.Fits.{field_desc}
 use Rattle.typed_values.proofs.EncodeSteps.{is_none_tree}
-use Rattle.typed_values.proofs.Found.{other_name, same_name}
+use Rattle.descriptors.proofs.CallerLemmas.{other_name, same_name}
 use Rattle.schema_values.proofs.CallerLemmas.{contains_first, contains_later, contains_cases}
 
 -- a fact of each field and its tree

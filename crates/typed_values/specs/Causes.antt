@@ -3,8 +3,8 @@ use Rattle.std.specs.Prelude.{◌≡◌, ℕ, ◌<◌, List, Some, Contains, sli
 use Rattle.std.specs.Str.{chars}
 use Rattle.typed_values.specs.declared.check.TableError.{TableError}
 use Rattle.typed_values.specs.declared.check.TableError.TheVariants.{DoubledName, BadName, Dangling, Unguarded, EmptyEnumeration, NullOfNull, TagClash, BadRange, BadPresence}
-use Rattle.typed_values.specs.declared.desc.Desc.{Desc}
-use Rattle.typed_values.specs.declared.table.Definition.{Definition}
+use Rattle.descriptors.specs.declared.desc.Desc.{Desc}
+use Rattle.descriptors.specs.declared.table.Definition.{Definition}
 use Rattle.typed_values.specs.Checks.{HasDoubledName, IsName, IsDangling, IsEmptyChoice, IsNullOfNull, HasTagClash, HasBadRange, HasBadPresence}
 use Rattle.typed_values.specs.Guarded.{LiesOnCycle}
 use Rattle.typed_values.specs.Parts.{StandsIn}

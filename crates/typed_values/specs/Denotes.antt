@@ -11,24 +11,24 @@ use Rattle.schema_values.specs.declared.json_value.Json.{Json, out-Json}
 use Rattle.schema_values.specs.declared.json_value.Member.{Member}
 use Rattle.schema_values.specs.declared.json_value.Json.TheOpen.{Json-F, Member-F}
 use Rattle.schema_values.specs.Beside.{Beside, LevelBeside, MemberBeside, made_of, value_beside}
-use Rattle.typed_values.specs.declared.desc.Desc.{Desc, out-Desc}
-use Rattle.typed_values.specs.declared.desc.Desc.TheOpen.{Desc-F, Field-F, TaggedVariant-F, Variant-F}
-use Rattle.typed_values.specs.declared.desc.Desc.TheFolds.{fold-Desc}
-use Rattle.typed_values.specs.declared.desc.Field.{Field}
-use Rattle.typed_values.specs.declared.desc.Named.{Named}
-use Rattle.typed_values.specs.declared.desc.IntKind.{IntKind}
-use Rattle.typed_values.specs.declared.desc.TaggedVariant.{TaggedVariant}
-use Rattle.typed_values.specs.declared.desc.Variant.{Variant}
-use Rattle.typed_values.specs.declared.desc.Presence.{Presence}
-use Rattle.typed_values.specs.declared.desc.Presence.TheVariants.{Required, Nullable, Skipped, Default}
-use Rattle.typed_values.specs.declared.tree.Tree.{Tree, Unit as Nought, Bool as Truth, Int as Number, Text as Words, None as Nothing, Some as Just, List as Items, Map as Entries, Fields as Parts, Variant as Choice, Any as Whole}
-use Rattle.typed_values.specs.declared.tree.Pair.{Pair}
+use Rattle.descriptors.specs.declared.desc.Desc.{Desc, out-Desc}
+use Rattle.descriptors.specs.declared.desc.Desc.TheOpen.{Desc-F, Field-F, TaggedVariant-F, Variant-F}
+use Rattle.descriptors.specs.declared.desc.Desc.TheFolds.{fold-Desc}
+use Rattle.descriptors.specs.declared.desc.Field.{Field}
+use Rattle.descriptors.specs.declared.desc.Named.{Named}
+use Rattle.descriptors.specs.declared.desc.IntKind.{IntKind}
+use Rattle.descriptors.specs.declared.desc.TaggedVariant.{TaggedVariant}
+use Rattle.descriptors.specs.declared.desc.Variant.{Variant}
+use Rattle.descriptors.specs.declared.desc.Presence.{Presence}
+use Rattle.descriptors.specs.declared.desc.Presence.TheVariants.{Required, Nullable, Skipped, Default}
+use Rattle.descriptors.specs.declared.tree.Tree.{Tree, Unit as Nought, Bool as Truth, Int as Number, Text as Words, None as Nothing, Some as Just, List as Items, Map as Entries, Fields as Parts, Variant as Choice, Any as Whole}
+use Rattle.descriptors.specs.declared.tree.Pair.{Pair}
 use Rattle.typed_values.specs.declared.fault.FaultKind.{FaultKind}
 use Rattle.typed_values.specs.declared.fault.FaultKind.TheVariants.{Missing, Unknown, WrongKind, OutOfRange, BadLength, NotListed, NoAlternative}
 use Rattle.typed_values.specs.declared.fault.Place.{Place}
 use Rattle.typed_values.specs.declared.fault.Place.TheVariants.{Name, Item}
-use Rattle.typed_values.specs.declared.table.Definition.{Definition}
-use Rattle.typed_values.specs.Definitions.{definition, listed_name, tagged_fields, tagged_name, variant_name}
+use Rattle.descriptors.specs.declared.table.Definition.{Definition}
+use Rattle.descriptors.specs.Definitions.{definition, listed_name, tagged_fields, tagged_name, variant_name}
 use Rattle.typed_values.specs.Bounds.{is_number_of, is_length_within}
 use Rattle.typed_values.specs.Faults.{Trouble, at_root}
 use Rattle.schema_values.specs.Order.{sorted_by}

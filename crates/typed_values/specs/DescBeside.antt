@@ -1,13 +1,13 @@
 -- A fold over a descriptor in which each smaller descriptor stands beside what is made of it.
 use Rattle.std.specs.Prelude.{map}
 use Rattle.std.specs.Option.{option_map}
-use Rattle.typed_values.specs.declared.desc.Desc.{Desc, Any, Never, Null, Bool, Char, Int, Text, Enumeration, Option as OptionOf, List as ListOf, Map, Struct, External, Tagged, Untagged, Ref}
-use Rattle.typed_values.specs.declared.desc.Desc.TheOpen.{Desc-F, Field-F, TaggedVariant-F, Variant-F}
-use Rattle.typed_values.specs.declared.desc.Desc.TheFolds.{fold-Desc}
-use Rattle.typed_values.specs.declared.desc.Field.{Field}
-use Rattle.typed_values.specs.declared.desc.TaggedVariant.{TaggedVariant, roll-TaggedVariant}
-use Rattle.typed_values.specs.declared.desc.Variant.{Variant}
-use Rattle.typed_values.specs.Definitions.{tagged_description, tagged_fields, tagged_name}
+use Rattle.descriptors.specs.declared.desc.Desc.{Desc, Any, Never, Null, Bool, Char, Int, Text, Enumeration, Option as OptionOf, List as ListOf, Map, Struct, External, Tagged, Untagged, Ref}
+use Rattle.descriptors.specs.declared.desc.Desc.TheOpen.{Desc-F, Field-F, TaggedVariant-F, Variant-F}
+use Rattle.descriptors.specs.declared.desc.Desc.TheFolds.{fold-Desc}
+use Rattle.descriptors.specs.declared.desc.Field.{Field}
+use Rattle.descriptors.specs.declared.desc.TaggedVariant.{TaggedVariant, roll-TaggedVariant}
+use Rattle.descriptors.specs.declared.desc.Variant.{Variant}
+use Rattle.descriptors.specs.Definitions.{tagged_description, tagged_fields, tagged_name}
 use Rattle.typed_values.specs.Levels.{DescLevel, FieldOf, TaggedOf, VariantOf}
 
 -- a descriptor, and what is made of it

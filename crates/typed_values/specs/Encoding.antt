@@ -4,19 +4,19 @@ use Rattle.schema_values.specs.declared.json_value.Json.TheOpen.{Json-F}
 use Rattle.schema_values.specs.declared.json_value.Json.{Json, out-Json, Null, Bool as Truth, Int as Number, Text as Words, List as Items, Object}
 use Rattle.schema_values.specs.declared.json_value.Member.{Member}
 use Rattle.schema_values.specs.Member.{member}
-use Rattle.typed_values.specs.declared.desc.Desc.{Desc, out-Desc}
-use Rattle.typed_values.specs.declared.desc.Desc.TheOpen.{Desc-F}
-use Rattle.typed_values.specs.declared.desc.Field.{Field}
-use Rattle.typed_values.specs.declared.desc.Named.{Named}
-use Rattle.typed_values.specs.declared.desc.TaggedVariant.{TaggedVariant}
-use Rattle.typed_values.specs.declared.desc.Variant.{Variant}
-use Rattle.typed_values.specs.declared.desc.Presence.{Presence}
-use Rattle.typed_values.specs.declared.desc.Presence.TheVariants.{Required, Nullable, Skipped, Default}
-use Rattle.typed_values.specs.declared.tree.Tree.{Tree}
-use Rattle.typed_values.specs.declared.tree.Tree.TheOpen.{Tree-F}
-use Rattle.typed_values.specs.declared.tree.Tree.TheFolds.{fold-Tree}
-use Rattle.typed_values.specs.declared.table.Definition.{Definition}
-use Rattle.typed_values.specs.Definitions.{definition, tagged_name}
+use Rattle.descriptors.specs.declared.desc.Desc.{Desc, out-Desc}
+use Rattle.descriptors.specs.declared.desc.Desc.TheOpen.{Desc-F}
+use Rattle.descriptors.specs.declared.desc.Field.{Field}
+use Rattle.descriptors.specs.declared.desc.Named.{Named}
+use Rattle.descriptors.specs.declared.desc.TaggedVariant.{TaggedVariant}
+use Rattle.descriptors.specs.declared.desc.Variant.{Variant}
+use Rattle.descriptors.specs.declared.desc.Presence.{Presence}
+use Rattle.descriptors.specs.declared.desc.Presence.TheVariants.{Required, Nullable, Skipped, Default}
+use Rattle.descriptors.specs.declared.tree.Tree.{Tree}
+use Rattle.descriptors.specs.declared.tree.Tree.TheOpen.{Tree-F}
+use Rattle.descriptors.specs.declared.tree.Tree.TheFolds.{fold-Tree}
+use Rattle.descriptors.specs.declared.table.Definition.{Definition}
+use Rattle.descriptors.specs.Definitions.{definition, tagged_name}
 use Rattle.typed_values.specs.Denotes.{room}
 use Rattle.typed_values.specs.Fits.{field_desc, alternative_at, struct_of}
 use Rattle.typed_values.specs.Levels.{DescLevel, TreeOf, PairOf, same_pair}

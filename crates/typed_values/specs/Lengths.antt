@@ -1,8 +1,8 @@
 -- Lengths have 32 bits, as their type gives in the code.
 use Rattle.std.specs.Prelude.{ℕ, Bool, true, nat_le, ◌&&◌, IsTrue, List, Option, Some, None, Contains}
-use Rattle.typed_values.specs.declared.desc.Desc.{Desc, out-Desc}
-use Rattle.typed_values.specs.declared.desc.Desc.TheOpen.{Desc-F}
-use Rattle.typed_values.specs.declared.table.Definition.{Definition}
+use Rattle.descriptors.specs.declared.desc.Desc.{Desc, out-Desc}
+use Rattle.descriptors.specs.declared.desc.Desc.TheOpen.{Desc-F}
+use Rattle.descriptors.specs.declared.table.Definition.{Definition}
 use Rattle.typed_values.specs.Levels.{DescLevel}
 use Rattle.typed_values.specs.Parts.{StandsIn}
 

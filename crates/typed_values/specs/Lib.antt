@@ -1,7 +1,3 @@
-pub mod Definitions
-pub mod Index
-pub mod Slots
-pub mod Adding
 pub mod Bounds
 pub mod Faults
 pub mod Denotes

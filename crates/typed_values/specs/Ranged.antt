@@ -1,7 +1,7 @@
 -- What checks of a table give: bounds are in order and of their kind, and there are no more alternatives than places.
 use Rattle.std.specs.Prelude.{List}
-use Rattle.typed_values.specs.declared.desc.Desc.{Desc}
-use Rattle.typed_values.specs.declared.table.Definition.{Definition}
+use Rattle.descriptors.specs.declared.desc.Desc.{Desc}
+use Rattle.descriptors.specs.declared.table.Definition.{Definition}
 use Rattle.typed_values.specs.Checks.{HasBadRange}
 use Rattle.typed_values.specs.Parts.{IsPart}
 

@@ -5,17 +5,17 @@ use Rattle.std.specs.declared.result.Result.TheVariants.{Ok}
 use Rattle.schema_values.specs.declared.json_value.Json.{Json}
 use Rattle.schema_values.specs.declared.json_value.Json.TheOpen.{Json-F}
 use Rattle.schema_values.specs.declared.json_value.Member.{Member}
-use Rattle.typed_values.specs.declared.desc.Desc.{Desc}
-use Rattle.typed_values.specs.declared.desc.Desc.TheOpen.{Desc-F}
-use Rattle.typed_values.specs.declared.desc.Field.{Field}
-use Rattle.typed_values.specs.declared.desc.TaggedVariant.{TaggedVariant}
-use Rattle.typed_values.specs.declared.desc.Variant.{Variant}
-use Rattle.typed_values.specs.declared.tree.Pair.{Pair}
-use Rattle.typed_values.specs.declared.tree.Tree.{Tree, Fields as Parts, Any as Whole}
+use Rattle.descriptors.specs.declared.desc.Desc.{Desc}
+use Rattle.descriptors.specs.declared.desc.Desc.TheOpen.{Desc-F}
+use Rattle.descriptors.specs.declared.desc.Field.{Field}
+use Rattle.descriptors.specs.declared.desc.TaggedVariant.{TaggedVariant}
+use Rattle.descriptors.specs.declared.desc.Variant.{Variant}
+use Rattle.descriptors.specs.declared.tree.Pair.{Pair}
+use Rattle.descriptors.specs.declared.tree.Tree.{Tree, Fields as Parts, Any as Whole}
 use Rattle.typed_values.specs.declared.fault.FaultKind.TheVariants.{WrongKind}
 use Rattle.typed_values.specs.declared.fault.Place.TheVariants.{Name, Item}
-use Rattle.typed_values.specs.declared.table.Definition.{Definition}
-use Rattle.typed_values.specs.Definitions.{definition, tagged_fields}
+use Rattle.descriptors.specs.declared.table.Definition.{Definition}
+use Rattle.descriptors.specs.Definitions.{definition, tagged_fields}
 use Rattle.typed_values.specs.Faults.{Trouble}
 use Rattle.typed_values.specs.Denotes.{Told, below, told, all_told, as_tree, as_pair, refused, nought, truth, character, number, words, one_of_names, optional, items_told, entries_told, by_presence, value_named, unless_denied, denied_name, at_definition, first_told, external, tagged}
 use Rattle.typed_values.specs.Parts.{IsPart}

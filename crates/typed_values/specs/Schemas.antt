@@ -16,16 +16,16 @@ use Rattle.schema_values.specs.declared.schema.NumberBounds.{NumberBounds}
 use Rattle.schema_values.specs.declared.schema.LengthBounds.{LengthBounds}
 use Rattle.schema_values.specs.declared.schema.Items.{Items, One}
 use Rattle.schema_values.specs.Parts.{Parts, no_parts}
-use Rattle.typed_values.specs.declared.desc.Desc.{Desc, out-Desc}
-use Rattle.typed_values.specs.declared.desc.Desc.TheOpen.{Desc-F}
-use Rattle.typed_values.specs.declared.desc.Field.{Field}
-use Rattle.typed_values.specs.declared.desc.IntKind.{IntKind}
-use Rattle.typed_values.specs.declared.desc.Named.{Named}
-use Rattle.typed_values.specs.declared.desc.TaggedVariant.{TaggedVariant}
-use Rattle.typed_values.specs.declared.desc.Variant.{Variant}
-use Rattle.typed_values.specs.declared.desc.Presence.{Presence}
-use Rattle.typed_values.specs.declared.desc.Presence.TheVariants.{Required, Nullable, Skipped, Default}
-use Rattle.typed_values.specs.declared.table.Definition.{Definition}
+use Rattle.descriptors.specs.declared.desc.Desc.{Desc, out-Desc}
+use Rattle.descriptors.specs.declared.desc.Desc.TheOpen.{Desc-F}
+use Rattle.descriptors.specs.declared.desc.Field.{Field}
+use Rattle.descriptors.specs.declared.desc.IntKind.{IntKind}
+use Rattle.descriptors.specs.declared.desc.Named.{Named}
+use Rattle.descriptors.specs.declared.desc.TaggedVariant.{TaggedVariant}
+use Rattle.descriptors.specs.declared.desc.Variant.{Variant}
+use Rattle.descriptors.specs.declared.desc.Presence.{Presence}
+use Rattle.descriptors.specs.declared.desc.Presence.TheVariants.{Required, Nullable, Skipped, Default}
+use Rattle.descriptors.specs.declared.table.Definition.{Definition}
 use Rattle.typed_values.specs.DescBeside.{Beside, FieldBeside, TaggedBeside, VariantBeside, LevelBeside, made_of, field_with, variant_with, tagged_with}
 use Rattle.schema_values.specs.Order.{sorted_by, same_name, property_name}
 use Rattle.typed_values.specs.SchemaTable.{bare_names, default_of, format_of, least_shown, is_described}

@@ -1,8 +1,8 @@
 -- A search along references: the definitions met, and the descriptors on the way.
 use Rattle.std.specs.Prelude.{◌≡◌, ◌⊎◌, List, [], ◌∷◌, Option, Some, None, ℕ, Contains}
-use Rattle.typed_values.specs.declared.desc.Desc.{Desc, out-Desc}
-use Rattle.typed_values.specs.declared.desc.Desc.TheOpen.{Desc-F}
-use Rattle.typed_values.specs.declared.table.Definition.{Definition}
+use Rattle.descriptors.specs.declared.desc.Desc.{Desc, out-Desc}
+use Rattle.descriptors.specs.declared.desc.Desc.TheOpen.{Desc-F}
+use Rattle.descriptors.specs.declared.table.Definition.{Definition}
 use Rattle.typed_values.specs.declared.search.Met.{Met}
 use Rattle.typed_values.specs.declared.search.Met.TheOpen.{Met-F}
 use Rattle.typed_values.specs.declared.search.Met.TheFolds.{fold-Met}
@@ -11,7 +11,7 @@ use Rattle.typed_values.specs.declared.search.Path.TheOpen.{Path-F}
 use Rattle.typed_values.specs.declared.search.Path.TheFolds.{fold-Path}
 use Rattle.typed_values.specs.declared.search.Sought.{Sought}
 use Rattle.typed_values.specs.declared.search.Sought.TheVariants.{Name, Null}
-use Rattle.typed_values.specs.Definitions.{definition}
+use Rattle.descriptors.specs.Definitions.{definition}
 use Rattle.typed_values.specs.Guarded.{Names}
 
 -- what takes null at once stands in a descriptor, under alternatives alone: any value, null itself or an option

@@ -1,7 +1,7 @@
 ghost use Rattle.std.specs.Prelude.{◌≡◌, length};
 ghost use Rattle.typed_values.specs.Bounds as bounds;
 
-use crate::desc::IntKind;
+use descriptors::IntKind;
 use schema_values::Text;
 
 /// The least number of a kind.

@@ -2,18 +2,17 @@ ghost use Rattle.std.specs.Prelude.{◌≡◌, ◌↔◌, false, IsTrue, IsOk, I
 ghost use Rattle.std.specs.Prelude.{Contains, map};
 ghost use Rattle.schema_values.specs.Sound.{AreDistinct};
 ghost use Rattle.typed_values.specs.declared.check.TableError.TheVariants.{BadPresence, BadRange};
-ghost use Rattle.typed_values.specs.declared.table.Definition.{Definition};
+ghost use Rattle.descriptors.specs.declared.table.Definition.{Definition};
 ghost use Rattle.typed_values.specs.Causes.{AppliesToDesc, AppliesToTable, IsFirst, IsFirstOnCycle};
 ghost use Rattle.typed_values.specs.Checks as checks;
 ghost use Rattle.typed_values.specs.Checks.{IsName, TablePasses, DescPasses};
-ghost use Rattle.typed_values.specs.Definitions.{definition_name};
+ghost use Rattle.descriptors.specs.Definitions.{definition_name};
 ghost use Rattle.typed_values.specs.Guarded.{IsGuarded};
 ghost use Rattle.typed_values.specs.Lengths.{HasShortLengths, TableHasShortLengths};
 
-use crate::desc::Desc;
 use crate::parts::applies;
 use crate::search::lies_on_cycle;
-use crate::table::{Definition, DescTable};
+use descriptors::{Definition, Desc, DescTable};
 use schema_values::Text;
 
 /// What is wrong with a table or a descriptor.

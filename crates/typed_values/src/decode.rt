@@ -3,7 +3,7 @@ ghost use Rattle.std.specs.Option.{option_copied};
 ghost use Rattle.schema_values.specs.Sound.{IsSound};
 ghost use Rattle.schema_values.specs.declared.json_value.Json.{out-Json};
 ghost use Rattle.typed_values.specs.declared.fault.Place.TheVariants.{Item, Name};
-ghost use Rattle.typed_values.specs.declared.tree.Tree.{Tree};
+ghost use Rattle.descriptors.specs.declared.tree.Tree.{Tree};
 ghost use Rattle.typed_values.specs.Answer.{Tells, IfFault, IsFaultOf};
 ghost use Rattle.typed_values.specs.Checks.{TablePasses, DescPasses};
 ghost use Rattle.typed_values.specs.Denotes as denotes;
@@ -15,16 +15,14 @@ ghost use Rattle.typed_values.specs.Rows.{told_field, told_fields};
 ghost use Rattle.typed_values.specs.Rows.{list_row, map_row, struct_row, AreFieldsOf, AreParts};
 
 use crate::bounds::is_length_within;
-use crate::desc::{Desc, Field, Presence};
 use crate::fault::{DecodeError, FaultKind, Place, Stop};
 use crate::members::Members;
 use crate::scalars::{
     decode_any, decode_bool, decode_char, decode_int, decode_name, decode_null, decode_text,
 };
 use crate::scope::Decoder;
-use crate::table::DescTable;
-use crate::tree::{Pair, Tree};
 use crate::wrapped::{in_some, some, variant};
+use descriptors::{Desc, DescTable, Field, Pair, Presence, Tree};
 use schema_values::{Json, List, Member, Text, in_order};
 use std::alloc::Global;
 

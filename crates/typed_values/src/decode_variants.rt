@@ -2,20 +2,19 @@
 ghost use Rattle.std.specs.Prelude.{◌≤◌, false, length};
 ghost use Rattle.schema_values.specs.declared.json_value.Json.{out-Json};
 ghost use Rattle.typed_values.specs.Answer.{Tells};
-ghost use Rattle.typed_values.specs.Definitions.{tagged_fields, variant_name};
+ghost use Rattle.descriptors.specs.Definitions.{tagged_fields, variant_name};
 ghost use Rattle.typed_values.specs.Denotes.{Told, told, below, external, tagged, at_tag, chosen};
 ghost use Rattle.typed_values.specs.Denotes.{where_found, named_from, refused, with_payload, without_payload};
 ghost use Rattle.typed_values.specs.Rows.{struct_row, told_struct, ArePayloadsOf, AreVariantsOf};
 ghost use Rattle.typed_values.specs.declared.fault.FaultKind.TheVariants.{NotListed};
 ghost use Rattle.typed_values.specs.declared.fault.Place.TheVariants.{Name};
 
-use crate::desc::{TaggedVariant, Variant};
 use crate::fault::{FaultKind, Stop};
 use crate::members::Members;
 use crate::order::find_named;
 use crate::scope::Decoder;
-use crate::tree::Tree;
 use crate::wrapped::{in_variant, variant};
+use descriptors::{TaggedVariant, Tree, Variant};
 use schema_values::{Json, Member, Text};
 use std::alloc::Global;
 

@@ -1,7 +1,7 @@
 ghost use Rattle.std.specs.Prelude.{◌≡◌, ◌∷◌, ◌++◌, [], IfOk, OnOk};
 ghost use Rattle.schema_values.specs.Member.{member};
 ghost use Rattle.schema_values.specs.Sound.{IsSound};
-ghost use Rattle.typed_values.specs.declared.tree.Tree.{Tree, out-Tree};
+ghost use Rattle.descriptors.specs.declared.tree.Tree.{Tree, out-Tree};
 ghost use Rattle.typed_values.specs.Checks.{TablePasses, DescPasses};
 ghost use Rattle.typed_values.specs.Denotes.{JsonDenotes};
 ghost use Rattle.typed_values.specs.Encoding as meant;
@@ -11,10 +11,8 @@ ghost use Rattle.typed_values.specs.Parts.{IsPart};
 ghost use Rattle.typed_values.specs.Reached.{ReachesNoUntagged};
 ghost use Rattle.typed_values.specs.Rows.{AreParts, AreFieldsOf};
 
-use crate::desc::{Desc, Field, Named, Presence};
 use crate::scope::Scope;
-use crate::table::DescTable;
-use crate::tree::Tree;
+use descriptors::{Desc, DescTable, Field, Named, Presence, Tree};
 use schema_values::{Json, List, Member, Text};
 use std::alloc::{AllocError, Global};
 

@@ -2,18 +2,17 @@
 ghost use Rattle.std.specs.Prelude.{◌≡◌, ◌∷◌, [], IfOk, IfSome};
 ghost use Rattle.schema_values.specs.declared.json_value.Json.{Object, Text as Words};
 ghost use Rattle.schema_values.specs.Member.{member};
-ghost use Rattle.typed_values.specs.declared.tree.Tree.{out-Tree};
-ghost use Rattle.typed_values.specs.Definitions.{tagged_fields, tagged_name};
+ghost use Rattle.descriptors.specs.declared.tree.Tree.{out-Tree};
+ghost use Rattle.descriptors.specs.Definitions.{tagged_fields, tagged_name};
 ghost use Rattle.typed_values.specs.Encoding as meant;
 ghost use Rattle.typed_values.specs.Encoding.{written_under};
 ghost use Rattle.typed_values.specs.Fits.{struct_of};
 ghost use Rattle.typed_values.specs.Parts.{IsPart};
 ghost use Rattle.typed_values.specs.Rows.{AreFieldsOf, ArePayloadsOf, AreVariantsOf};
 
-use crate::desc::{TaggedVariant, Variant};
 use crate::lists::only;
 use crate::scope::Scope;
-use crate::tree::Tree;
+use descriptors::{TaggedVariant, Tree, Variant};
 use schema_values::{Json, List, Member, Text};
 use std::alloc::{AllocError, Global};
 

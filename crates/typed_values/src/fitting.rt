@@ -1,5 +1,5 @@
 ghost use Rattle.std.specs.Prelude.{◌≡◌, ◌↔◌, IsTrue, IfSome, length, map};
-ghost use Rattle.typed_values.specs.declared.tree.Tree.{out-Tree};
+ghost use Rattle.descriptors.specs.declared.tree.Tree.{out-Tree};
 ghost use Rattle.typed_values.specs.Checks.{TablePasses, DescPasses};
 ghost use Rattle.typed_values.specs.Fits as meant;
 ghost use Rattle.typed_values.specs.Fits.{Fits, fits_under, field_desc, payload_of, struct_of};
@@ -8,10 +8,10 @@ ghost use Rattle.typed_values.specs.Parts.{IsPart};
 ghost use Rattle.typed_values.specs.Rows.{AreParts, AreFieldsOf, ArePayloadsOf, AreVariantsOf};
 
 use crate::bounds::{character_count, is_length_within, is_number_of};
-use crate::desc::{Desc, Field, IntKind, Named, Presence, TaggedVariant, Variant};
 use crate::scope::Scope;
-use crate::table::DescTable;
-use crate::tree::{Pair, Tree};
+use descriptors::{
+    Desc, DescTable, Field, IntKind, Named, Pair, Presence, TaggedVariant, Tree, Variant,
+};
 
 /// Whether a tree is a value of a descriptor.
 pub fn fits(table: &DescTable, desc: &Desc, tree: &Tree) -> bool

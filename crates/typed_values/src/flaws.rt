@@ -3,22 +3,21 @@ ghost use Rattle.std.specs.Prelude.{◌≡◌, ◌≢◌, ◌↔◌, IsTrue, map
 ghost use Rattle.std.specs.List.{AllByRecursion, list_any};
 ghost use Rattle.schema_values.specs.Sound.{AreDistinct};
 ghost use Rattle.typed_values.specs.declared.check.TableError.TheVariants.{BadPresence, BadRange};
-ghost use Rattle.typed_values.specs.declared.desc.Field.{Field};
-ghost use Rattle.typed_values.specs.declared.desc.TaggedVariant.{TaggedVariant};
+ghost use Rattle.descriptors.specs.declared.desc.Field.{Field};
+ghost use Rattle.descriptors.specs.declared.desc.TaggedVariant.{TaggedVariant};
 ghost use Rattle.typed_values.specs.Causes.{Tells};
 ghost use Rattle.typed_values.specs.Checks as meant;
-ghost use Rattle.typed_values.specs.Definitions.{tagged_fields};
+ghost use Rattle.descriptors.specs.Definitions.{tagged_fields};
 ghost use Rattle.typed_values.specs.Guarded.{IsGuarded};
 ghost use Rattle.typed_values.specs.Lengths.{IsShort};
 ghost use Rattle.typed_values.specs.Checks.{HasDoubledName, names_of_fields, IsDangling, IsEmptyChoice};
 ghost use Rattle.typed_values.specs.Checks.{IsNullOfNull, HasTagClash, IsOption, IsBadField, HasBadPresence};
 
 use crate::check::TableError;
-use crate::desc::{Desc, Field, Presence, TaggedVariant, Variant};
 use crate::fitting::is_value;
 use crate::ranges::are_bounds_right;
 use crate::search::takes_null;
-use crate::table::DescTable;
+use descriptors::{Desc, DescTable, Field, Presence, TaggedVariant, Variant};
 use schema_values::{HasName, Text};
 
 /// Whether what an error tells holds of a descriptor.

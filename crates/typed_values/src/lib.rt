@@ -1,20 +1,16 @@
-//! Descriptors of types, the trees that are their values, and what of JSON denotes which tree.
+//! What of JSON denotes which tree under a descriptor. The types of `descriptors` are passed on.
 #![tactic(auto)]
 
 mod bounds;
 mod check;
 mod decode;
 mod decode_variants;
-mod desc;
 mod encode;
 mod encode_variants;
-mod equal;
-mod equal_trees;
 mod fault;
 mod fault_text;
 mod fitting;
 mod flaws;
-mod index;
 mod lists;
 mod members;
 mod misfit;
@@ -30,17 +26,16 @@ mod schema_variants;
 mod schemas;
 mod scope;
 mod search;
-mod table;
-mod tree;
 mod wrapped;
 
 pub use bounds::{character_count, is_length_within, is_number_of};
 pub use check::{TableError, check_desc, check_table};
 pub use decode::decode_json;
-pub use desc::{Desc, Field, IntKind, Named, Presence, TaggedVariant, Variant};
+pub use descriptors::{
+    AddError, Added, Definition, Desc, DescTable, Field, IntKind, Named, Pair, Presence, TaggedVariant,
+    Tree, Variant,
+};
 pub use encode::encode_json;
 pub use fault::{DecodeError, Fault, FaultKind, Misfit, Place, Stop};
 pub use fitting::fits;
 pub use schemas::{SchemaPlace, schema_of, schema_of_definition};
-pub use table::{AddError, Added, Definition, DescTable};
-pub use tree::{Pair, Tree};

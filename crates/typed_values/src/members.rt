@@ -4,8 +4,8 @@ ghost use Rattle.typed_values.specs.Denotes as denotes;
 ghost use Rattle.typed_values.specs.Denotes.{member_name as name_of};
 ghost use Rattle.schema_values.specs.Order.{sorted_by};
 
-use crate::desc::Field;
 use crate::order::first_named;
+use descriptors::Field;
 use schema_values::{Json, Member, Text, in_order};
 use std::alloc::{AllocError, Global};
 

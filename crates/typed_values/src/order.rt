@@ -7,48 +7,7 @@ ghost use Rattle.std.specs.Ordering.{nat_cmp};
 ghost use Rattle.typed_values.specs.Denotes.{named_from};
 ghost use Rattle.typed_values.specs.Order.{first_by};
 
-use crate::desc::{Field, Named, TaggedVariant, Variant};
 use schema_values::{HasName, Text};
-
-impl HasName for Field {
-    ghost use Rattle.typed_values.specs.Definitions.{field_name};
-
-    ghost name_of = { field_name };
-
-    fn name(&self) -> &Text {
-        &self.name
-    }
-}
-
-impl HasName for Named {
-    ghost use Rattle.typed_values.specs.Definitions.{listed_name};
-
-    ghost name_of = { listed_name };
-
-    fn name(&self) -> &Text {
-        &self.name
-    }
-}
-
-impl HasName for Variant {
-    ghost use Rattle.typed_values.specs.Definitions.{variant_name};
-
-    ghost name_of = { variant_name };
-
-    fn name(&self) -> &Text {
-        &self.name
-    }
-}
-
-impl HasName for TaggedVariant {
-    ghost use Rattle.typed_values.specs.Definitions.{tagged_name};
-
-    ghost name_of = { tagged_name };
-
-    fn name(&self) -> &Text {
-        &self.name
-    }
-}
 
 /// The first item of a name, and its place.
 pub(crate) fn find_named<'a, T: HasName>(items: &'a [T], name: &Text) -> Option<(usize, &'a T)>

@@ -1,19 +1,18 @@
 // Whether what an error tells holds of a descriptor that stands in another.
 ghost use Rattle.std.specs.Prelude.{◌≡◌, ◌↔◌, false, IsTrue, Some, Contains};
 ghost use Rattle.typed_values.specs.declared.check.TableError.TheVariants.{BadPresence, BadRange};
-ghost use Rattle.typed_values.specs.declared.desc.Desc.{Desc};
-ghost use Rattle.typed_values.specs.declared.desc.Field.{Field};
-ghost use Rattle.typed_values.specs.declared.desc.TaggedVariant.{TaggedVariant};
-ghost use Rattle.typed_values.specs.declared.desc.Variant.{Variant};
+ghost use Rattle.descriptors.specs.declared.desc.Desc.{Desc};
+ghost use Rattle.descriptors.specs.declared.desc.Field.{Field};
+ghost use Rattle.descriptors.specs.declared.desc.TaggedVariant.{TaggedVariant};
+ghost use Rattle.descriptors.specs.declared.desc.Variant.{Variant};
 ghost use Rattle.typed_values.specs.Causes.{AppliesToDesc};
-ghost use Rattle.typed_values.specs.Definitions.{tagged_fields};
+ghost use Rattle.descriptors.specs.Definitions.{tagged_fields};
 ghost use Rattle.typed_values.specs.Guarded.{IsGuarded};
 ghost use Rattle.typed_values.specs.Lengths.{HasShortLengths};
 
 use crate::check::TableError;
-use crate::desc::{Desc, Field, TaggedVariant, Variant};
 use crate::flaws::tells;
-use crate::table::DescTable;
+use descriptors::{Desc, DescTable, Field, TaggedVariant, Variant};
 
 /// Whether an error applies to a descriptor or to one that stands in it.
 #[cycle(applies)]

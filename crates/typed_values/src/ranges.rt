@@ -1,11 +1,11 @@
 // Whether the bounds of a descriptor are in order, and within its kind.
 ghost use Rattle.std.specs.Prelude.{◌≡◌, IsTrue};
-ghost use Rattle.typed_values.specs.declared.desc.Desc.{out-Desc};
+ghost use Rattle.descriptors.specs.declared.desc.Desc.{out-Desc};
 ghost use Rattle.typed_values.specs.Checks as checks;
 ghost use Rattle.typed_values.specs.Lengths.{is_short, IsShort};
 
 use crate::bounds::{greatest_of, least_of};
-use crate::desc::{Desc, IntKind};
+use descriptors::{Desc, IntKind};
 
 pub(crate) fn are_bounds_right(desc: &Desc) -> bool
     ensures bounds { result ≡ checks.are_bounds_right (out-Desc desc.now) }

@@ -4,11 +4,10 @@ ghost use Rattle.typed_values.specs.Answer.{Tells};
 ghost use Rattle.typed_values.specs.Denotes.{nought, truth, character, number, words, one_of_names};
 
 use crate::bounds::{character_count, is_length_within, is_number_of};
-use crate::desc::{IntKind, Named};
 use crate::fault::{FaultKind, Stop};
 use crate::order::find_named;
-use crate::tree::Tree;
 use crate::wrapped::variant;
+use descriptors::{IntKind, Named, Tree};
 use schema_values::Json;
 use std::alloc::Global;
 

@@ -5,9 +5,9 @@ ghost use Rattle.schema_values.specs.declared.schema.SchemaObject.{out-SchemaObj
 ghost use Rattle.typed_values.specs.SchemaTable.{is_described};
 ghost use Rattle.typed_values.specs.Schemas as meant;
 
-use crate::desc::Named;
 use crate::lists::only;
 use crate::schema_parts::{no_subschemas, object_of, of_single, with_description};
+use descriptors::Named;
 use schema_values::{InstanceType, Json, List, Schema, SchemaObject, copy_text};
 use std::alloc::{AllocError, Global};
 

@@ -3,8 +3,8 @@ ghost use Rattle.schema_values.specs.declared.schema.SchemaObject.{out-SchemaObj
 ghost use Rattle.typed_values.specs.SchemaTable as table;
 ghost use Rattle.typed_values.specs.Schemas as meant;
 
-use crate::desc::IntKind;
 use crate::schema_parts::{length_bounds, no_subschemas, number_bounds, object_of, of_single};
+use descriptors::IntKind;
 use schema_values::{
     ArrayParts, InstanceType, Items, List, ObjectParts, Property, Schema, SchemaObject, Text,
     copy_text,

@@ -3,19 +3,18 @@ ghost use Rattle.std.specs.Prelude.{◌≡◌, ◌∷◌, ◌++◌, List, [], ma
 ghost use Rattle.schema_values.specs.declared.json_value.Json.{Text as Words};
 ghost use Rattle.schema_values.specs.declared.schema.SchemaObject.{out-SchemaObject};
 ghost use Rattle.schema_values.specs.Order.{same_name, sorted_by};
-ghost use Rattle.typed_values.specs.declared.table.Definition.{Definition};
+ghost use Rattle.descriptors.specs.declared.table.Definition.{Definition};
 ghost use Rattle.typed_values.specs.Checks.{TablePasses};
-ghost use Rattle.typed_values.specs.Definitions.{tagged_description, tagged_fields};
+ghost use Rattle.descriptors.specs.Definitions.{tagged_description, tagged_fields};
 ghost use Rattle.typed_values.specs.SchemaTable.{bare_names as names_alone};
 ghost use Rattle.typed_values.specs.Schemas as meant;
 
-use crate::desc::{Named, TaggedVariant, Variant};
 use crate::lists::only;
 use crate::schema_names::{choices_of, enumerated, one_of};
 use crate::schema_parts::{object_of, with_description};
 use crate::schema_rows::struct_parts;
 use crate::schemas::{parts_of, properties_of, property, required_names};
-use crate::table::DescTable;
+use descriptors::{DescTable, Named, TaggedVariant, Variant};
 use schema_values::{Json, List, Property, Schema, SchemaObject, Text, copy_text};
 use std::alloc::{AllocError, Global};
 

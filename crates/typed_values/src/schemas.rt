@@ -1,7 +1,7 @@
 ghost use Rattle.std.specs.Prelude.{◌≡◌, ◌∷◌, ◌++◌, List, [], map, IfOk, OnOk};
 ghost use Rattle.schema_values.specs.declared.schema.SchemaObject.{out-SchemaObject};
 ghost use Rattle.typed_values.specs.declared.schemas.SchemaPlace.TheVariants.{Plain, Header, Query};
-ghost use Rattle.typed_values.specs.declared.table.Definition.{Definition as DefinitionModel};
+ghost use Rattle.descriptors.specs.declared.table.Definition.{Definition as DefinitionModel};
 ghost use Rattle.typed_values.specs.Checks.{TablePasses};
 ghost use Rattle.schema_values.specs.Order.{property_name, same_name, sorted_by};
 ghost use Rattle.typed_values.specs.SchemaTable.{default_of};
@@ -9,7 +9,6 @@ ghost use Rattle.typed_values.specs.Schemas as meant;
 ghost use Rattle.typed_values.specs.Schemas.{schema_value, schema_sketch, schema_parts};
 ghost use Rattle.typed_values.specs.Schemas.{definition_value, in_header, in_query};
 
-use crate::desc::{Desc, Field, Presence};
 use crate::encode::written;
 use crate::schema_names::enumeration_parts;
 use crate::schema_parts::{object_of, of_single, with_default, with_description, with_null};
@@ -18,7 +17,7 @@ use crate::schema_rows::{
     struct_parts, text_parts,
 };
 use crate::schema_variants::{external_parts, tagged_parts};
-use crate::table::{Definition, DescTable};
+use descriptors::{Definition, Desc, DescTable, Field, Presence};
 use schema_values::{
     InstanceType, Json, List, Property, Schema, SchemaObject, Text, copy_text, sort_by_name,
 };

@@ -5,8 +5,7 @@ ghost use Rattle.typed_values.specs.Once.{once_all_rest};
 ghost use Rattle.typed_values.specs.Ranged.{AreRangesRight};
 ghost use Rattle.typed_values.specs.Resting.{AllRest};
 
-use crate::desc::Desc;
-use crate::table::DescTable;
+use descriptors::{Desc, DescTable};
 
 /// A whole descriptor, and the guarded table in which its references are looked up.
 #[derive(Clone, Copy)]

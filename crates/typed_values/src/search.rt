@@ -2,14 +2,13 @@
 // recursion.
 ghost use Rattle.std.specs.Prelude.{◌↔◌, IsTrue, IfNone, IfSome, Contains};
 ghost use Rattle.std.specs.Option.{option_copied};
-ghost use Rattle.typed_values.specs.declared.desc.Desc.{Desc};
+ghost use Rattle.descriptors.specs.declared.desc.Desc.{Desc};
 ghost use Rattle.typed_values.specs.Checks.{TakesNull};
 ghost use Rattle.typed_values.specs.Guarded.{Names, LiesOnCycle};
 ghost use Rattle.typed_values.specs.Search.{HoldsNull, Meets, all_met, on_path, IsMet, IsDone, IsNext};
 ghost use Rattle.typed_values.specs.Search.{IsSearch, SomeLeads};
 
-use crate::desc::Desc;
-use crate::table::{Definition, DescTable};
+use descriptors::{Definition, Desc, DescTable};
 use schema_values::Text;
 
 /// What is sought: a reference of a name, or what takes null.

@@ -4,7 +4,7 @@ ghost use Rattle.typed_values.specs.Answer.{Tells};
 ghost use Rattle.typed_values.specs.Denotes.{Told, chosen, just};
 
 use crate::fault::Stop;
-use crate::tree::Tree;
+use descriptors::Tree;
 use schema_values::Boxed;
 use std::alloc::Global;
 

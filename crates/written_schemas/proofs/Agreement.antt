@@ -4,18 +4,19 @@ use Rattle.std.specs.Prelude.{Contains, ⊤}
 use denote.Param.Weighed.{most}
 use Rattle.schema_values.specs.declared.json_value.Json.{Json, out-Json}
 use Rattle.openapi_values.specs.Smaller.{smaller_admits}
-use Rattle.typed_values.specs.declared.desc.Desc.{Desc, out-Desc}
-use Rattle.typed_values.specs.declared.desc.Desc.TheOpen.{Desc-F}
-use Rattle.typed_values.specs.declared.table.Definition.{Definition}
+use Rattle.descriptors.specs.declared.desc.Desc.{Desc, out-Desc}
+use Rattle.descriptors.specs.declared.desc.Desc.TheOpen.{Desc-F}
+use Rattle.descriptors.specs.declared.table.Definition.{Definition}
 use Rattle.typed_values.specs.Checks.{TablePasses, DescPasses}
-use Rattle.typed_values.specs.Definitions.{definition, entry_of}
+use Rattle.descriptors.specs.Definitions.{definition, entry_of}
 use Rattle.typed_values.specs.Denotes.{Told, told, nought, truth, character, number, words, at_definition}
 use Rattle.typed_values.specs.Rows.{row}
 use Rattle.typed_values.specs.Resting.{EachRests, RestsBy, Rests, AllRest}
 use Rattle.typed_values.specs.SchemaTable.{drawn, other_members, schema_json}
 use Rattle.typed_values.specs.Levels.{DescLevel}
 use Rattle.schema_values.proofs.CallerLemmas.{contains_cases}
-use Rattle.typed_values.proofs.CallerLemmas.{names_apart, fields_distinct, definition_is, IsNeeded, needed_part, option_needed, list_needed, map_needed, field_needed, payload_needed, variant_needed, alternative_needed, reference_reached, reference_needed, row_at, each_of, is_right}
+use Rattle.descriptors.proofs.CallerLemmas.{definition_is}
+use Rattle.typed_values.proofs.CallerLemmas.{names_apart, fields_distinct, IsNeeded, needed_part, option_needed, list_needed, map_needed, field_needed, payload_needed, variant_needed, alternative_needed, reference_reached, reference_needed, row_at, each_of, is_right}
 use Rattle.written_schemas.specs.Reached.{DefinesReached}
 use Rattle.written_schemas.proofs.Scalars.{any_admits, never_admits, null_admits, truth_admits, character_admits, number_admits, words_admit}
 use Rattle.written_schemas.proofs.Composites.{is_list_of, list_admits}

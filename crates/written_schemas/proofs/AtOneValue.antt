@@ -16,12 +16,12 @@ use Rattle.openapi_values.specs.Options.{is_some_and}
 use Rattle.openapi_values.specs.JsonAdmits.{members_admit, schema_admits, admits_within}
 use Rattle.openapi_values.specs.Smaller.{smaller_admits}
 use Rattle.openapi_values.proofs.CallerLemmas.{admits-zero, admits-suc}
-use Rattle.typed_values.specs.declared.desc.Desc.{Desc}
-use Rattle.typed_values.specs.declared.desc.Field.{Field}
-use Rattle.typed_values.specs.declared.desc.Named.{Named}
-use Rattle.typed_values.specs.declared.table.Definition.{Definition}
+use Rattle.descriptors.specs.declared.desc.Desc.{Desc}
+use Rattle.descriptors.specs.declared.desc.Field.{Field}
+use Rattle.descriptors.specs.declared.desc.Named.{Named}
+use Rattle.descriptors.specs.declared.table.Definition.{Definition}
 use Rattle.typed_values.specs.Bounds.{is_length_within}
-use Rattle.typed_values.specs.Definitions.{field_name, listed_name}
+use Rattle.descriptors.specs.Definitions.{field_name, listed_name}
 use Rattle.typed_values.specs.Denotes.{Told, told, one_of_names, member_name, optional, first_told}
 use Rattle.typed_values.specs.DescBeside.{field_with}
 use Rattle.schema_values.specs.Order.{sorted_by, same_name}

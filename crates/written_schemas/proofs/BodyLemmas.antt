@@ -10,9 +10,9 @@ use Rattle.openapi_values.specs.Admits.{Admits}
 use Rattle.openapi_values.specs.Document.{open_api_json}
 use Rattle.openapi_values.specs.JsonAdmits.{JsonAdmits}
 use Rattle.openapi_values.proofs.CallerLemmas.{json_bodies}
-use Rattle.typed_values.specs.declared.desc.Desc.{Desc}
-use Rattle.typed_values.specs.declared.table.Definition.{Definition}
-use Rattle.typed_values.specs.declared.tree.Tree.{Tree}
+use Rattle.descriptors.specs.declared.desc.Desc.{Desc}
+use Rattle.descriptors.specs.declared.table.Definition.{Definition}
+use Rattle.descriptors.specs.declared.tree.Tree.{Tree}
 use Rattle.typed_values.specs.Denotes.{JsonDenotes}
 use Rattle.written_schemas.specs.Bodies.{TakesJson}
 use Rattle.written_schemas.specs.Written.{IsWritten}

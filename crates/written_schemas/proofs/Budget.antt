@@ -5,7 +5,7 @@ use Rattle.std.proofs.lemmas.Slice.Eq.{bytes_eq-Decides}
 use Rattle.schema_values.specs.declared.json_value.Json.{Json}
 use Rattle.schema_values.specs.declared.json_value.Member.{Member}
 use Rattle.schema_values.specs.Get.{first_named}
-use Rattle.typed_values.proofs.CallerLemmas.{other_name}
+use Rattle.descriptors.proofs.CallerLemmas.{other_name}
 
 -- the members without the first of a name
 unfoldable pub without : List ℕ → List Member → List Member

@@ -1,10 +1,10 @@
 -- How many steps of a document the schema of a descriptor takes at one value.
 use Rattle.std.proofs.Common.{ℕ, zero, suc, List, Option, Some, None}
 use denote.Param.Weighed.{most}
-use Rattle.typed_values.specs.declared.desc.Desc.{Desc, out-Desc}
-use Rattle.typed_values.specs.declared.desc.Desc.TheOpen.{Desc-F}
-use Rattle.typed_values.specs.declared.table.Definition.{Definition}
-use Rattle.typed_values.specs.Definitions.{definition}
+use Rattle.descriptors.specs.declared.desc.Desc.{Desc, out-Desc}
+use Rattle.descriptors.specs.declared.desc.Desc.TheOpen.{Desc-F}
+use Rattle.descriptors.specs.declared.table.Definition.{Definition}
+use Rattle.descriptors.specs.Definitions.{definition}
 use Rattle.typed_values.specs.Levels.{DescLevel}
 
 -- a reference takes two steps, since its schema or that of its definition may be an `allOf` of one

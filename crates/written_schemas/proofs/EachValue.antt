@@ -9,8 +9,8 @@ use Rattle.schema_values.specs.declared.json_value.Member.{Member}
 use Rattle.schema_values.specs.Sound.{IsSound as IsSoundValue}
 use Rattle.schema_values.specs.SoundMembers.{HasSoundValue}
 use Rattle.schema_values.proofs.CallerLemmas.{IsSound-List, IsSound-Object, OfParts, by_parts}
-use Rattle.typed_values.specs.declared.desc.Desc.{Desc}
-use Rattle.typed_values.specs.declared.table.Definition.{Definition}
+use Rattle.descriptors.specs.declared.desc.Desc.{Desc}
+use Rattle.descriptors.specs.declared.table.Definition.{Definition}
 use Rattle.typed_values.specs.Checks.{TablePasses, DescPasses}
 use Rattle.typed_values.specs.Denotes.{room}
 use Rattle.typed_values.specs.Resting.{AllRest}

@@ -17,8 +17,8 @@ use Rattle.openapi_values.specs.Lookup.{is_of_type, is_null_alone, is_null_form}
 use Rattle.openapi_values.specs.Options.{is_some_and}
 use Rattle.openapi_values.specs.Rows.{is_listed}
 use Rattle.openapi_values.specs.JsonAdmits.{schema_admits}
-use Rattle.typed_values.specs.declared.desc.Named.{Named}
-use Rattle.typed_values.specs.Definitions.{listed_name}
+use Rattle.descriptors.specs.declared.desc.Named.{Named}
+use Rattle.descriptors.specs.Definitions.{listed_name}
 use Rattle.typed_values.specs.declared.fault.FaultKind.TheVariants.{NotListed}
 use Rattle.typed_values.specs.Denotes.{refused, named_from, where_found, bare, one_of_names}
 use Rattle.typed_values.specs.SchemaTable.{Remarks, annotations, plain, enumerated, is_described, described_choice, plain_choice, choices_of, drawn_json}

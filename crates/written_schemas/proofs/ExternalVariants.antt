@@ -10,16 +10,17 @@ use Rattle.schema_values.specs.declared.json_value.Json.TheOpen.{Json-F}
 use Rattle.schema_values.specs.declared.json_value.Member.{Member}
 use Rattle.schema_values.specs.Member.{name_of}
 use Rattle.schema_values.specs.Sound.{AreDistinct}
-use Rattle.typed_values.specs.declared.desc.Desc.{Desc}
-use Rattle.typed_values.specs.declared.desc.Variant.{Variant}
+use Rattle.descriptors.specs.declared.desc.Desc.{Desc}
+use Rattle.descriptors.specs.declared.desc.Variant.{Variant}
 use Rattle.typed_values.specs.declared.fault.FaultKind.TheVariants.{NotListed}
-use Rattle.typed_values.specs.declared.table.Definition.{Definition}
-use Rattle.typed_values.specs.Definitions.{listed_name, variant_name}
+use Rattle.descriptors.specs.declared.table.Definition.{Definition}
+use Rattle.descriptors.specs.Definitions.{listed_name, variant_name}
 use Rattle.typed_values.specs.Denotes.{told, refused, without_payload, with_payload, external, is_declared, member_name}
 use Rattle.typed_values.specs.DescBeside.{variant_with}
 use Rattle.typed_values.specs.Rows.{told_field, told_fields, struct_row}
 use Rattle.typed_values.specs.SchemaTable.{bare_names, drawn}
-use Rattle.typed_values.proofs.CallerLemmas.{ok_below, ok_all, ok_struct, other_name}
+use Rattle.descriptors.proofs.CallerLemmas.{other_name}
+use Rattle.typed_values.proofs.CallerLemmas.{ok_below, ok_all, ok_struct}
 use Rattle.written_schemas.proofs.Counted.{none_of}
 use Rattle.written_schemas.proofs.Enumerations.{is_named, turned}
 use Rattle.written_schemas.proofs.FoundByName.{any_same, ok_found, ok_chosen}

@@ -13,17 +13,18 @@ use Rattle.schema_values.specs.Sound.{AreDistinct}
 use Rattle.openapi_values.specs.Levels.{has_member}
 use Rattle.openapi_values.specs.Options.{is_none_or}
 use Rattle.openapi_values.specs.Rows.{property_admitted}
-use Rattle.typed_values.specs.declared.desc.Desc.{Desc}
-use Rattle.typed_values.specs.declared.desc.Field.{Field}
-use Rattle.typed_values.specs.declared.desc.Presence.{Presence}
-use Rattle.typed_values.specs.declared.desc.Presence.TheVariants.{Required, Nullable, Skipped, Default}
-use Rattle.typed_values.specs.declared.table.Definition.{Definition}
-use Rattle.typed_values.specs.Definitions.{field_name}
+use Rattle.descriptors.specs.declared.desc.Desc.{Desc}
+use Rattle.descriptors.specs.declared.desc.Field.{Field}
+use Rattle.descriptors.specs.declared.desc.Presence.{Presence}
+use Rattle.descriptors.specs.declared.desc.Presence.TheVariants.{Required, Nullable, Skipped, Default}
+use Rattle.descriptors.specs.declared.table.Definition.{Definition}
+use Rattle.descriptors.specs.Definitions.{field_name}
 use Rattle.typed_values.specs.Denotes.{Told, value_named, is_declared, told, by_presence, if_absent, if_present}
 use Rattle.schema_values.specs.Order.{sorted_by, same_name}
 use Rattle.typed_values.specs.Rows.{value_denotes, told_field, told_fields, told_struct}
 use Rattle.schema_values.proofs.CallerLemmas.{contains_first, contains_later}
-use Rattle.typed_values.proofs.CallerLemmas.{ok_below, ok_just, ok_all, ok_struct, other_name}
+use Rattle.descriptors.proofs.CallerLemmas.{other_name}
+use Rattle.typed_values.proofs.CallerLemmas.{ok_below, ok_just, ok_all, ok_struct}
 use Rattle.openapi_values.proofs.CallerLemmas.{all_same}
 use Rattle.written_schemas.proofs.Forms.{field_property, names_required}
 use Rattle.written_schemas.proofs.Structs.{is_struct_of, other_passes}

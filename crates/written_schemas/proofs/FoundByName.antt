@@ -7,7 +7,8 @@ use Rattle.std.specs.Prelude.{◌≢◌}
 use Rattle.std.specs.declared.result.Result.TheVariants.{Ok, Err}
 use Rattle.schema_values.specs.Sound.{AreDistinct}
 use Rattle.typed_values.specs.Denotes.{Told, chosen, named_from, where_found}
-use Rattle.typed_values.proofs.CallerLemmas.{AreDistinct-cons, other_name}
+use Rattle.descriptors.proofs.CallerLemmas.{other_name}
+use Rattle.typed_values.proofs.CallerLemmas.{AreDistinct-cons}
 
 pub any_same : {X : Type 0} (p q : X → Bool) → ((x : X) → p x ≡ q x) → (xs : List X) → list_any p xs ≡ list_any q xs
 any_same p q h [] = refl

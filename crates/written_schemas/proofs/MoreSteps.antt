@@ -6,18 +6,18 @@ use Rattle.std.specs.declared.result.Result.{Result}
 use Rattle.schema_values.specs.declared.json_value.Json.{Json, out-Json}
 use Rattle.schema_values.specs.declared.json_value.Json.TheOpen.{Json-F}
 use Rattle.schema_values.specs.declared.json_value.Member.{Member}
-use Rattle.typed_values.specs.declared.desc.Desc.{Desc, out-Desc, Option as OptionOf}
-use Rattle.typed_values.specs.declared.desc.Desc.TheOpen.{Desc-F}
-use Rattle.typed_values.specs.declared.desc.Desc.TheVariants as desc
-use Rattle.typed_values.specs.declared.desc.Field.{Field}
-use Rattle.typed_values.specs.declared.desc.TaggedVariant.{TaggedVariant}
-use Rattle.typed_values.specs.declared.desc.Variant.{Variant}
-use Rattle.typed_values.specs.declared.table.Definition.{Definition}
-use Rattle.typed_values.specs.declared.tree.Tree.{Tree, List as Items, Map as Entries, Fields as Parts}
+use Rattle.descriptors.specs.declared.desc.Desc.{Desc, out-Desc, Option as OptionOf}
+use Rattle.descriptors.specs.declared.desc.Desc.TheOpen.{Desc-F}
+use Rattle.descriptors.specs.declared.desc.Desc.TheVariants as desc
+use Rattle.descriptors.specs.declared.desc.Field.{Field}
+use Rattle.descriptors.specs.declared.desc.TaggedVariant.{TaggedVariant}
+use Rattle.descriptors.specs.declared.desc.Variant.{Variant}
+use Rattle.descriptors.specs.declared.table.Definition.{Definition}
+use Rattle.descriptors.specs.declared.tree.Tree.{Tree, List as Items, Map as Entries, Fields as Parts}
 use Rattle.typed_values.specs.declared.fault.FaultKind.TheVariants.{BadLength, NotListed}
 use Rattle.typed_values.specs.Bounds.{is_length_within}
 use Rattle.typed_values.specs.Checks.{TablePasses, DescPasses}
-use Rattle.typed_values.specs.Definitions.{definition, entry_of, variant_name, tagged_name, tagged_fields}
+use Rattle.descriptors.specs.Definitions.{definition, entry_of, variant_name, tagged_name, tagged_fields}
 use Rattle.typed_values.specs.Denotes.{Told, told, told_within, room, nodes, refused, below, chosen, named_from, where_found, with_payload, external, at_tag, by_tag, tagged, and_then, all_told, as_tree, as_pair, if_holds, member_name, optional, or_else, first_told, value_named, by_presence, unless_denied, denied_name, at_definition}
 use Rattle.typed_values.specs.Faults.{Trouble}
 use Rattle.schema_values.specs.Order.{sorted_by}
@@ -26,7 +26,8 @@ use Rattle.typed_values.specs.Rows.{told_item, told_entry, value_denotes, told_f
 use Rattle.typed_values.specs.Resting.{EachRests, RestsBy, Rests, AllRest}
 use Rattle.typed_values.specs.Levels.{DescLevel}
 use Rattle.schema_values.proofs.CallerLemmas.{contains_first, contains_later, OfParts, by_parts, all_sorted}
-use Rattle.typed_values.proofs.CallerLemmas.{definition_is, IsNeeded, of_whole, needed_part, option_needed, list_needed, map_needed, field_needed, payload_needed, variant_needed, alternative_needed, reference_needed, row_at, guarded_rests, each_of, nodes_at}
+use Rattle.descriptors.proofs.CallerLemmas.{definition_is}
+use Rattle.typed_values.proofs.CallerLemmas.{IsNeeded, of_whole, needed_part, option_needed, list_needed, map_needed, field_needed, payload_needed, variant_needed, alternative_needed, reference_needed, row_at, guarded_rests, each_of, nodes_at}
 
 -- a descriptor under so many options
 options : ℕ → Desc → Desc

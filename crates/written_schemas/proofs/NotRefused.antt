@@ -17,16 +17,16 @@ use Rattle.schema_values.specs.declared.schema.Subschemas.{Subschemas, roll-Subs
 use Rattle.openapi_values.specs.declared.j2oas.J2oasError.TheVariants.{BadEnumValue, BadSubschema}
 use Rattle.openapi_values.specs.Refusal.{Refusal, Within, Level, first_of, own_items_refusal, is_value_of, values_refusal, bounds_refusal, object_step, refusal_of, array_within, object_parts_refusal, property_refusal, subschemas_inner}
 use Rattle.openapi_values.proofs.CallerLemmas.{truth-refusal, object-refusal, item-refusal, property-refusal, array-refusal, object_parts-refusal, one_kind-refusal, inner-refusal, parts-refusal}
-use Rattle.typed_values.specs.declared.desc.Desc.{Desc}
-use Rattle.typed_values.specs.declared.desc.Desc.TheOpen.{Desc-F}
-use Rattle.typed_values.specs.declared.desc.Desc.TheViews.{out-roll-Desc}
-use Rattle.typed_values.specs.declared.desc.Field.{Field}
-use Rattle.typed_values.specs.declared.desc.IntKind.{IntKind}
-use Rattle.typed_values.specs.declared.desc.Named.{Named}
-use Rattle.typed_values.specs.declared.desc.TaggedVariant.{TaggedVariant}
-use Rattle.typed_values.specs.declared.desc.Variant.{Variant}
-use Rattle.typed_values.specs.declared.table.Definition.{Definition}
-use Rattle.typed_values.specs.Definitions.{tagged_description, tagged_fields, tagged_name}
+use Rattle.descriptors.specs.declared.desc.Desc.{Desc}
+use Rattle.descriptors.specs.declared.desc.Desc.TheOpen.{Desc-F}
+use Rattle.descriptors.specs.declared.desc.Desc.TheViews.{out-roll-Desc}
+use Rattle.descriptors.specs.declared.desc.Field.{Field}
+use Rattle.descriptors.specs.declared.desc.IntKind.{IntKind}
+use Rattle.descriptors.specs.declared.desc.Named.{Named}
+use Rattle.descriptors.specs.declared.desc.TaggedVariant.{TaggedVariant}
+use Rattle.descriptors.specs.declared.desc.Variant.{Variant}
+use Rattle.descriptors.specs.declared.table.Definition.{Definition}
+use Rattle.descriptors.specs.Definitions.{tagged_description, tagged_fields, tagged_name}
 use Rattle.typed_values.specs.DescBeside.{Beside, beside_with}
 use Rattle.schema_values.specs.Order.{sorted_by, property_name, same_name}
 use Rattle.typed_values.specs.SchemaTable.{bare_names, default_of, is_described, least_shown}

@@ -9,17 +9,18 @@ use Rattle.schema_values.specs.declared.json_value.Member.{Member}
 use Rattle.schema_values.specs.Get.{first_named}
 use Rattle.openapi_values.specs.Room.{values}
 use Rattle.openapi_values.specs.ValuesOfMembers.{member_values}
-use Rattle.typed_values.specs.declared.desc.Desc.{Desc, out-Desc}
-use Rattle.typed_values.specs.declared.desc.Desc.TheOpen.{Desc-F}
-use Rattle.typed_values.specs.declared.table.Definition.{Definition}
+use Rattle.descriptors.specs.declared.desc.Desc.{Desc, out-Desc}
+use Rattle.descriptors.specs.declared.desc.Desc.TheOpen.{Desc-F}
+use Rattle.descriptors.specs.declared.table.Definition.{Definition}
 use Rattle.typed_values.specs.Checks.{TablePasses}
-use Rattle.typed_values.specs.Definitions.{entry_of}
+use Rattle.descriptors.specs.Definitions.{entry_of}
 use Rattle.typed_values.specs.Guarded.{named_here, Reaches, at_once, through}
 use Rattle.typed_values.specs.SchemaTable.{schema_json_described}
 use Rattle.typed_values.specs.Reached.{IsReached}
 use Rattle.typed_values.specs.Levels.{DescLevel}
 use Rattle.schema_values.proofs.CallerLemmas.{contains_first, contains_later}
-use Rattle.typed_values.proofs.CallerLemmas.{definition_is, entry_name, same_or_not, IsNeeded, of_whole, of_reached, entry_inside, option_needed, alternative_needed, reference_reached, reference_needed, through_option, through_alternative}
+use Rattle.descriptors.proofs.CallerLemmas.{definition_is, entry_name, same_or_not}
+use Rattle.typed_values.proofs.CallerLemmas.{IsNeeded, of_whole, of_reached, entry_inside, option_needed, alternative_needed, reference_reached, reference_needed, through_option, through_alternative}
 use Rattle.openapi_values.proofs.CallerLemmas.{total, schemas_in, definition_found, schemas_fit}
 use Rattle.written_schemas.specs.Reached.{DefinesReached}
 use Rattle.written_schemas.proofs.Costs.{cost_after, cost_by, cost}

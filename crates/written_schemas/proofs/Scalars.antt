@@ -14,8 +14,8 @@ use Rattle.openapi_values.specs.Lookup.{is_set, is_integer, is_null_alone, is_nu
 use Rattle.openapi_values.specs.Options.{is_some_and}
 use Rattle.openapi_values.specs.Rows.{row, in_subset, in_format, is_under}
 use Rattle.openapi_values.specs.JsonAdmits.{schema_admits}
-use Rattle.typed_values.specs.declared.desc.IntKind.{IntKind}
-use Rattle.typed_values.specs.declared.desc.IntKind.TheVariants.{I8, I16, I32, I64, U8, U16, U32, U64}
+use Rattle.descriptors.specs.declared.desc.IntKind.{IntKind}
+use Rattle.descriptors.specs.declared.desc.IntKind.TheVariants.{I8, I16, I32, I64, U8, U16, U32, U64}
 use Rattle.typed_values.specs.Bounds.{least_of, greatest_of, is_at_least, is_at_most, is_number_of, is_long_enough, is_short_enough, is_length_within}
 use Rattle.typed_values.specs.Denotes.{Told, nought, truth, character, number, words, if_holds}
 use Rattle.typed_values.specs.declared.fault.FaultKind.{FaultKind}

@@ -8,7 +8,7 @@ use Rattle.schema_values.specs.declared.schema.Property.{Property}
 use Rattle.schema_values.specs.declared.schema.Schema.{Schema}
 use Rattle.schema_values.specs.declared.schema.SchemaObject.{SchemaObject, SchemaObject-F}
 use Rattle.schema_values.specs.declared.schema.Subschemas.{Subschemas, roll-Subschemas}
-use Rattle.typed_values.specs.declared.desc.Named.{Named}
+use Rattle.descriptors.specs.declared.desc.Named.{Named}
 use Rattle.typed_values.specs.SchemaTable.{is_described}
 use Rattle.schema_values.specs.Parts.{Parts, no_parts}
 use Rattle.typed_values.specs.Schemas.{object_of, no_subschemas, annotatable, nothing_more, one_of, choices_of, enumerated, texts_of, enumeration}

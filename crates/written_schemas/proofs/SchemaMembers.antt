@@ -18,7 +18,7 @@ use Rattle.openapi_values.specs.IfTrue.{if_true as truth_if}
 use Rattle.openapi_values.specs.Objects.{Entry, pair_member, present, members_of, object_of as entries_object, reference_json, unless_empty}
 use Rattle.openapi_values.specs.SchemaJson.{Written, Level, untitled, additional_json, count_json, names_json, annotations as annotation_entries, nothing_entries, type_entries, without_values, entries_behind, object_step, schema_written, array_written, object_parts_written, property_written, subschemas_written, schema_json}
 use Rattle.openapi_values.proofs.CallerLemmas.{members_of-append, truth-is, object-under, item-is, array-is, subschemas-are, object_parts-are, object-is}
-use Rattle.typed_values.specs.declared.desc.IntKind.{IntKind}
+use Rattle.descriptors.specs.declared.desc.IntKind.{IntKind}
 use Rattle.typed_values.specs.SchemaTable.{Remarks, annotations, nothing, if_true, if_text, if_value, if_number, if_count, if_members, if_names, if_denied, of_type, format_of, reference}
 use Rattle.schema_values.specs.Parts.{Parts}
 use Rattle.typed_values.specs.Schemas.{object_of, of_single, no_subschemas, number_bounds, length_bounds, nothing_more, list_of, struct_of, map_of, choice_of, one_of, all_or_none}

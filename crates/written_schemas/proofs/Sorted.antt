@@ -13,7 +13,7 @@ use Rattle.schema_values.specs.Member.{name_of}
 use Rattle.schema_values.specs.Order.{at_place, inserted_by, sorted_by}
 use Rattle.typed_values.specs.Order.{first_by}
 use Rattle.typed_values.proofs.CallerLemmas as typed
-use Rattle.typed_values.proofs.CallerLemmas.{other_name}
+use Rattle.descriptors.proofs.CallerLemmas.{other_name}
 
 pub and_swapped : (a b c : Bool) → (a && (b && c)) ≡ (b && (a && c))
 and_swapped true b c = refl

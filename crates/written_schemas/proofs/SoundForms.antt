@@ -12,10 +12,10 @@ use Rattle.schema_values.specs.Order.{sorted_by, same_name}
 use Rattle.schema_values.specs.Sound.{IsSound, IsWhole}
 use Rattle.schema_values.specs.SoundMembers.{HasSoundValue, HasSoundMembers}
 use Rattle.schema_values.proofs.CallerLemmas.{AreDistinct-sorted, all_sorted, IsSound-List, IsSound-Object}
-use Rattle.typed_values.specs.declared.desc.IntKind.{IntKind}
-use Rattle.typed_values.specs.declared.desc.Named.{Named}
+use Rattle.descriptors.specs.declared.desc.IntKind.{IntKind}
+use Rattle.descriptors.specs.declared.desc.Named.{Named}
 use Rattle.typed_values.specs.SchemaTable.{Drawn, plain, all_or_none, reference, enumerated, enumeration, described, described_choice, plain_choice, choices_of, drawn_json, format_of, if_count, if_denied, if_number, if_text, is_described, null_alone, of_type, one_character, other_members, struct_drawn}
-use Rattle.typed_values.specs.Definitions.{listed_name}
+use Rattle.descriptors.specs.Definitions.{listed_name}
 use Rattle.typed_values.proofs.CallerLemmas.{sorted_ascends}
 use Rattle.openapi_values.specs.SoundContents.{IsCount}
 use Rattle.openapi_values.proofs.CallerLemmas.{IsKeyed, is_new, none_keyed, put}

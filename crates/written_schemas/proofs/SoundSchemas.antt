@@ -9,19 +9,19 @@ use Rattle.schema_values.specs.Sound.{IsSound, IsWhole, AreDistinct}
 use Rattle.schema_values.specs.SoundMembers.{HasSoundValue, HasSoundMembers}
 use Rattle.schema_values.proofs.CallerLemmas.{contains_first, contains_later}
 use Rattle.openapi_values.specs.SoundContents.{IsCount}
-use Rattle.typed_values.specs.declared.desc.Desc.{Desc, out-Desc}
-use Rattle.typed_values.specs.declared.desc.Desc.TheOpen.{Desc-F}
-use Rattle.typed_values.specs.declared.desc.Desc.TheViews.{out-roll-Desc, roll-Desc}
-use Rattle.typed_values.specs.declared.desc.Field.{Field}
-use Rattle.typed_values.specs.declared.desc.IntKind.{IntKind}
-use Rattle.typed_values.specs.declared.desc.IntKind.TheVariants.{I8, I16, I32, I64, U8, U16, U32, U64}
-use Rattle.typed_values.specs.declared.desc.Presence.{Presence}
-use Rattle.typed_values.specs.declared.desc.Presence.TheVariants.{Required, Nullable, Skipped, Default}
-use Rattle.typed_values.specs.declared.desc.TaggedVariant.{TaggedVariant}
-use Rattle.typed_values.specs.declared.desc.Variant.{Variant}
-use Rattle.typed_values.specs.declared.table.Definition.{Definition}
+use Rattle.descriptors.specs.declared.desc.Desc.{Desc, out-Desc}
+use Rattle.descriptors.specs.declared.desc.Desc.TheOpen.{Desc-F}
+use Rattle.descriptors.specs.declared.desc.Desc.TheViews.{out-roll-Desc, roll-Desc}
+use Rattle.descriptors.specs.declared.desc.Field.{Field}
+use Rattle.descriptors.specs.declared.desc.IntKind.{IntKind}
+use Rattle.descriptors.specs.declared.desc.IntKind.TheVariants.{I8, I16, I32, I64, U8, U16, U32, U64}
+use Rattle.descriptors.specs.declared.desc.Presence.{Presence}
+use Rattle.descriptors.specs.declared.desc.Presence.TheVariants.{Required, Nullable, Skipped, Default}
+use Rattle.descriptors.specs.declared.desc.TaggedVariant.{TaggedVariant}
+use Rattle.descriptors.specs.declared.desc.Variant.{Variant}
+use Rattle.descriptors.specs.declared.table.Definition.{Definition}
 use Rattle.typed_values.specs.Checks.{are_bounds_right, is_bound_of, is_number_order, names_of_fields, IsBadField, IsPlainlyRight, default_misfits, of_struct, of_variant, TablePasses, DescPasses}
-use Rattle.typed_values.specs.Definitions.{field_name, tagged_description, tagged_fields, tagged_name}
+use Rattle.descriptors.specs.Definitions.{field_name, tagged_description, tagged_fields, tagged_name}
 use Rattle.typed_values.specs.DescBeside.{Beside, beside_with, field_with, level_with, tagged_with, variant_with}
 use Rattle.typed_values.specs.Fits.{fits_under}
 use Rattle.typed_values.specs.Lengths.{are_lengths_short, is_short, HasShortLengths}

@@ -8,14 +8,14 @@ use Rattle.schema_values.specs.declared.json_value.Json.{Json, out-Json}
 use Rattle.schema_values.specs.declared.json_value.Json.TheOpen.{Json-F}
 use Rattle.schema_values.specs.declared.json_value.Member.{Member}
 use Rattle.schema_values.specs.Sound.{AreDistinct}
-use Rattle.typed_values.specs.declared.desc.Desc.{Desc, out-Desc, Enumeration}
-use Rattle.typed_values.specs.declared.desc.Desc.TheOpen.{Desc-F}
-use Rattle.typed_values.specs.declared.desc.Desc.TheVariants as desc
-use Rattle.typed_values.specs.declared.desc.Field.{Field}
-use Rattle.typed_values.specs.declared.desc.TaggedVariant.{TaggedVariant}
-use Rattle.typed_values.specs.declared.table.Definition.{Definition}
+use Rattle.descriptors.specs.declared.desc.Desc.{Desc, out-Desc, Enumeration}
+use Rattle.descriptors.specs.declared.desc.Desc.TheOpen.{Desc-F}
+use Rattle.descriptors.specs.declared.desc.Desc.TheVariants as desc
+use Rattle.descriptors.specs.declared.desc.Field.{Field}
+use Rattle.descriptors.specs.declared.desc.TaggedVariant.{TaggedVariant}
+use Rattle.descriptors.specs.declared.table.Definition.{Definition}
 use Rattle.typed_values.specs.Checks.{IsPlainlyRight, names_of_fields}
-use Rattle.typed_values.specs.Definitions.{field_name, tagged_name, tagged_fields}
+use Rattle.descriptors.specs.Definitions.{field_name, tagged_name, tagged_fields}
 use Rattle.typed_values.specs.Denotes.{Told, told, room, nodes, nodes_of_table, chosen, at_tag, by_tag, tagged, one_of_names, by_presence, value_named}
 use Rattle.typed_values.specs.Rows.{value_denotes, told_field, told_fields, told_struct, struct_row}
 use Rattle.typed_values.specs.Resting.{RestsBy, Rests}

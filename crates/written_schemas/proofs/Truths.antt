@@ -1,10 +1,10 @@
 -- Which descriptors say by a truth value what other members are: any value, and no value.
 use Rattle.std.proofs.Common.{◌≡◌, Bool, true, false, List, map, Some, None, cond, refl, sym, ◌∙◌, ap, ◌⊎◌, inl, inr}
 use Rattle.std.specs.List.{list_any}
-use Rattle.typed_values.specs.declared.desc.Desc.{Desc, out-Desc}
-use Rattle.typed_values.specs.declared.desc.Desc.TheOpen.{Desc-F}
-use Rattle.typed_values.specs.declared.table.Definition.{Definition}
-use Rattle.typed_values.specs.Definitions.{listed_name}
+use Rattle.descriptors.specs.declared.desc.Desc.{Desc, out-Desc}
+use Rattle.descriptors.specs.declared.desc.Desc.TheOpen.{Desc-F}
+use Rattle.descriptors.specs.declared.table.Definition.{Definition}
+use Rattle.descriptors.specs.Definitions.{listed_name}
 use Rattle.typed_values.specs.SchemaTable.{Drawn, drawn, drawn_step, is_described}
 use Rattle.typed_values.specs.Levels.{DescLevel}
 use Rattle.written_schemas.proofs.Enumerations.{enumerated_is}

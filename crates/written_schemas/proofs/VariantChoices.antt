@@ -11,12 +11,12 @@ use Rattle.schema_values.specs.Sound.{AreDistinct}
 use Rattle.openapi_values.specs.JsonAdmits.{admits_within}
 use Rattle.openapi_values.specs.Smaller.{smaller_admits}
 use Rattle.openapi_values.proofs.CallerLemmas.{admits-suc}
-use Rattle.typed_values.specs.declared.desc.Desc.{Desc, Enumeration}
-use Rattle.typed_values.specs.declared.desc.Field.{Field}
-use Rattle.typed_values.specs.declared.desc.TaggedVariant.{TaggedVariant}
-use Rattle.typed_values.specs.declared.desc.Variant.{Variant}
-use Rattle.typed_values.specs.declared.table.Definition.{Definition}
-use Rattle.typed_values.specs.Definitions.{field_name, tagged_description, tagged_fields, tagged_name, variant_name}
+use Rattle.descriptors.specs.declared.desc.Desc.{Desc, Enumeration}
+use Rattle.descriptors.specs.declared.desc.Field.{Field}
+use Rattle.descriptors.specs.declared.desc.TaggedVariant.{TaggedVariant}
+use Rattle.descriptors.specs.declared.desc.Variant.{Variant}
+use Rattle.descriptors.specs.declared.table.Definition.{Definition}
+use Rattle.descriptors.specs.Definitions.{field_name, tagged_description, tagged_fields, tagged_name, variant_name}
 use Rattle.typed_values.specs.Denotes.{Told, told, external, tagged}
 use Rattle.typed_values.specs.DescBeside.{tagged_with, variant_with}
 use Rattle.typed_values.specs.Rows.{struct_row}

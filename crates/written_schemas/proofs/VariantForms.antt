@@ -1,14 +1,14 @@
 -- The choices of enumerations with data as the schemas of structs.
 use Rattle.std.proofs.Common.{◌≡◌, ℕ, false, List, [], ◌∷◌, None, sym, ap}
-use Rattle.typed_values.specs.declared.desc.Desc.{Desc, Enumeration}
-use Rattle.typed_values.specs.declared.desc.Desc.TheOpen.{Desc-F}
-use Rattle.typed_values.specs.declared.desc.Desc.TheVariants as desc
-use Rattle.typed_values.specs.declared.desc.Field.{Field}
-use Rattle.typed_values.specs.declared.desc.Named.{Named}
-use Rattle.typed_values.specs.declared.desc.Presence.TheVariants.{Required}
-use Rattle.typed_values.specs.declared.desc.TaggedVariant.{TaggedVariant}
-use Rattle.typed_values.specs.declared.table.Definition.{Definition}
-use Rattle.typed_values.specs.Definitions.{tagged_description, tagged_name, tagged_fields}
+use Rattle.descriptors.specs.declared.desc.Desc.{Desc, Enumeration}
+use Rattle.descriptors.specs.declared.desc.Desc.TheOpen.{Desc-F}
+use Rattle.descriptors.specs.declared.desc.Desc.TheVariants as desc
+use Rattle.descriptors.specs.declared.desc.Field.{Field}
+use Rattle.descriptors.specs.declared.desc.Named.{Named}
+use Rattle.descriptors.specs.declared.desc.Presence.TheVariants.{Required}
+use Rattle.descriptors.specs.declared.desc.TaggedVariant.{TaggedVariant}
+use Rattle.descriptors.specs.declared.table.Definition.{Definition}
+use Rattle.descriptors.specs.Definitions.{tagged_description, tagged_name, tagged_fields}
 use Rattle.typed_values.specs.DescBeside.{tagged_with}
 use Rattle.typed_values.specs.SchemaTable.{Drawn, drawn, drawn_json, described, enumerated, property, struct_drawn, tagged_choice}
 use Rattle.written_schemas.proofs.Forms.{properties_drawn, names_required, fields_drawn, drawn_row}

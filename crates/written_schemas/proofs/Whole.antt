@@ -5,10 +5,10 @@ use Rattle.schema_values.specs.declared.json_value.Json.{Json}
 use Rattle.schema_values.specs.Sound.{IsSound as IsSoundValue}
 use Rattle.openapi_values.specs.JsonAdmits.{admits_within}
 use Rattle.openapi_values.specs.Room.{values, room}
-use Rattle.typed_values.specs.declared.desc.Desc.{Desc, out-Desc}
-use Rattle.typed_values.specs.declared.desc.Desc.TheOpen.{Desc-F}
-use Rattle.typed_values.specs.declared.table.Definition.{Definition}
-use Rattle.typed_values.specs.declared.tree.Tree.{Tree}
+use Rattle.descriptors.specs.declared.desc.Desc.{Desc, out-Desc}
+use Rattle.descriptors.specs.declared.desc.Desc.TheOpen.{Desc-F}
+use Rattle.descriptors.specs.declared.table.Definition.{Definition}
+use Rattle.descriptors.specs.declared.tree.Tree.{Tree}
 use Rattle.typed_values.specs.Denotes.{Told, told, room as table_room}
 use Rattle.typed_values.specs.Parts.{the_whole}
 use Rattle.typed_values.specs.SchemaTable.{Remarks, drawn, drawn_json, schema_json, schema_json_titled, schema_json_described}

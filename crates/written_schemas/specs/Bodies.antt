@@ -5,8 +5,8 @@ use Rattle.openapi_values.specs.declared.media.MediaType.{MediaType}
 use Rattle.openapi_values.specs.declared.media.RequestBody.{RequestBody}
 use Rattle.openapi_values.specs.declared.operation.Operation.{Operation}
 use Rattle.openapi_values.specs.Find.{value_at, operation_in}
-use Rattle.typed_values.specs.declared.desc.Desc.{Desc}
-use Rattle.typed_values.specs.declared.table.Definition.{Definition}
+use Rattle.descriptors.specs.declared.desc.Desc.{Desc}
+use Rattle.descriptors.specs.declared.table.Definition.{Definition}
 use Rattle.typed_values.specs.SchemaTable.{schema_json_titled}
 
 -- the operation of a path and a method does not answer in pages, has no parameters, takes no octet stream, and takes JSON

@@ -1,6 +1,6 @@
 use Rattle.std.proofs.Common.{subst, take}
 use Rattle.std.proofs.lemmas.Result.{err_from_is_err_and}
-use Rattle.typed_values.specs.Adding.{IsRefused}
+use Rattle.descriptors.specs.Adding.{IsRefused}
 use Rattle.api_types.specs.Types.{HoldsAll}
 use Rattle.api_types.proofs.AddedInOrder.{added_next, held_next, refused_at}
 use Rattle.api_types.proofs.additions.add_all.Goals as goal

@@ -3,7 +3,7 @@ use Rattle.std.proofs.lemmas.List.{append_assoc, append-nil, map-append}
 use Rattle.std.specs.List.{AllByRecursion}
 use Rattle.std.specs.Map.{keys_of}
 use Rattle.schema_values.proofs.CallerLemmas.{all-push}
-use Rattle.typed_values.specs.declared.tree.Pair.{Pair}
+use Rattle.descriptors.specs.declared.tree.Pair.{Pair}
 use Rattle.api_types.specs.Maps.{pair_of, value_of}
 use Rattle.api_types.specs.Types.{FitsEach}
 use Rattle.api_types.proofs.Entries.{ascending_of, pair_keys}

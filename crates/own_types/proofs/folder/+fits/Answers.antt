@@ -1,5 +1,5 @@
 use Rattle.std.proofs.Common.{[], ◌∷◌, map}
-use Rattle.typed_values.specs.declared.tree.Tree.TheVariants as trees
+use Rattle.descriptors.specs.declared.tree.Tree.TheVariants as trees
 use Rattle.api_types.proofs.CallerLemmas.{list_each}
 use Rattle.own_types.specs.declared.folder.Folder.{out-Folder}
 use Rattle.own_types.specs.Folders.{folder_definitions, folder_desc, folder_tree}

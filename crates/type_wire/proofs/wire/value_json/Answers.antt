@@ -1,5 +1,5 @@
 use Rattle.std.proofs.Common.{subst, IfOk}
-use Rattle.typed_values.specs.declared.tree.Tree.{Tree}
+use Rattle.descriptors.specs.declared.tree.Tree.{Tree}
 use Rattle.typed_values.specs.Denotes.{JsonDenotes}
 use Rattle.typed_values.specs.SchemaTable.{schema_json, schema_json_titled}
 use Rattle.written_schemas.proofs.Whole.{plain_agrees, titled_agrees}

@@ -1,5 +1,5 @@
 use Rattle.std.proofs.Common.{◌≡◌, ◌<◌, ◌≤◌, length, get_or, arith, refl, sym, true≢false}
-use Rattle.typed_values.specs.declared.table.Definition.{Definition}
+use Rattle.descriptors.specs.declared.table.Definition.{Definition}
 use Rattle.typed_values.proofs.Searching.{one_more}
 use Rattle.typed_values.proofs.Within.{IsClear, clear_of}
 use Rattle.typed_values.proofs.check.applies_somewhere.Goals as goal

@@ -1,5 +1,5 @@
 use Rattle.std.proofs.Common.{sym, arith}
-use Rattle.typed_values.specs.Definitions.{variant_name}
+use Rattle.descriptors.specs.Definitions.{variant_name}
 use Rattle.typed_values.proofs.Listed.{place_below}
 use Rattle.typed_values.proofs.decode_variants.decode_bare.Goals as goal
 

@@ -1,7 +1,7 @@
 use Rattle.std.proofs.Common.{◌≡◌, ℕ, Bool, true, false, List, bytes_eq, refl, ◌∙◌, sym, ap}
 use Rattle.std.specs.Prelude.{codes, ◌↔◌, IsTrue}
 use Rattle.std.specs.Str.{chars}
-use Rattle.typed_values.proofs.Found.{same_name, other_name}
+use Rattle.descriptors.proofs.CallerLemmas.{same_name, other_name}
 use Rattle.typed_values.proofs.fault_text.is_root.Goals as goal
 
 dot : chars (codes ".") ≡ codes "."

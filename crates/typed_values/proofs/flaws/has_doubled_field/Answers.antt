@@ -1,6 +1,6 @@
 use Rattle.std.proofs.Common.{arith, refl, sym}
 use Rattle.schema_values.specs.Sound.{AreDistinct}
-use Rattle.typed_values.specs.declared.desc.TaggedVariant.{TaggedVariant}
+use Rattle.descriptors.specs.declared.desc.TaggedVariant.{TaggedVariant}
 use Rattle.typed_values.specs.Checks.{names_of_fields}
 use Rattle.typed_values.proofs.Searching.{one_more}
 use Rattle.typed_values.proofs.Within.{untrue}

@@ -1,6 +1,6 @@
 use Rattle.std.proofs.Common.{◌≡◌, ℕ, ◌<◌, get_or}
 use Rattle.schema_values.specs.Sound.{AreDistinct}
-use Rattle.typed_values.specs.declared.desc.TaggedVariant.{TaggedVariant}
+use Rattle.descriptors.specs.declared.desc.TaggedVariant.{TaggedVariant}
 use Rattle.typed_values.specs.Checks.{names_of_fields}
 use Rattle.typed_values.proofs.flaws.has_doubled_field.Given as goal
 

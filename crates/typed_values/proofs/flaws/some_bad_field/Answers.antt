@@ -1,5 +1,5 @@
 use Rattle.std.proofs.Common.{arith, refl, sym, true≢false}
-use Rattle.typed_values.specs.declared.desc.Field.{Field}
+use Rattle.descriptors.specs.declared.desc.Field.{Field}
 use Rattle.typed_values.specs.Checks.{IsBadField}
 use Rattle.typed_values.proofs.Searching.{one_more}
 use Rattle.typed_values.proofs.Within.{untrue}

@@ -1,5 +1,5 @@
 use Rattle.std.proofs.Common.{◌≡◌, ℕ, ◌<◌, get_or}
-use Rattle.typed_values.specs.declared.desc.Field.{Field}
+use Rattle.descriptors.specs.declared.desc.Field.{Field}
 use Rattle.typed_values.specs.Checks.{IsBadField}
 use Rattle.typed_values.proofs.flaws.some_bad_field.Given as goal
 

@@ -1,9 +1,9 @@
 use Rattle.std.proofs.Common.{arith, refl, sym, true≢false}
 use Rattle.std.specs.Prelude.{Contains}
-use Rattle.typed_values.specs.declared.desc.Field.{Field}
-use Rattle.typed_values.specs.declared.desc.TaggedVariant.{TaggedVariant}
+use Rattle.descriptors.specs.declared.desc.Field.{Field}
+use Rattle.descriptors.specs.declared.desc.TaggedVariant.{TaggedVariant}
 use Rattle.typed_values.specs.Checks.{IsBadField}
-use Rattle.typed_values.specs.Definitions.{tagged_fields}
+use Rattle.descriptors.specs.Definitions.{tagged_fields}
 use Rattle.typed_values.proofs.Searching.{one_more}
 use Rattle.typed_values.proofs.Within.{untrue}
 use Rattle.typed_values.proofs.flaws.some_bad_variant.Goals as goal

@@ -1,7 +1,7 @@
 use Rattle.std.proofs.Common.{◌≢◌, arith, refl, sym, true≢false}
 use Rattle.std.specs.List.{AllByRecursion}
-use Rattle.typed_values.specs.declared.desc.TaggedVariant.{TaggedVariant}
-use Rattle.typed_values.specs.Definitions.{field_name, tagged_fields}
+use Rattle.descriptors.specs.declared.desc.TaggedVariant.{TaggedVariant}
+use Rattle.descriptors.specs.Definitions.{field_name, tagged_fields}
 use Rattle.typed_values.proofs.Fields.{named_field, other_named}
 use Rattle.typed_values.proofs.Searching.{one_more}
 use Rattle.typed_values.proofs.Within.{untrue}

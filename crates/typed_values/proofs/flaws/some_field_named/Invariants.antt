@@ -1,7 +1,7 @@
 use Rattle.std.proofs.Common.{◌≡◌, ◌≢◌, ℕ, ◌<◌, get_or}
 use Rattle.std.specs.List.{AllByRecursion}
-use Rattle.typed_values.specs.declared.desc.TaggedVariant.{TaggedVariant}
-use Rattle.typed_values.specs.Definitions.{field_name, tagged_fields}
+use Rattle.descriptors.specs.declared.desc.TaggedVariant.{TaggedVariant}
+use Rattle.descriptors.specs.Definitions.{field_name, tagged_fields}
 use Rattle.typed_values.proofs.flaws.some_field_named.Given as goal
 
 abbrev pub invariant-loop-variant : goal.invariant-loop-variant

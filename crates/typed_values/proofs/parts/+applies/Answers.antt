@@ -1,13 +1,13 @@
 use Rattle.std.proofs.Common.{◌≡◌, ◌∙◌, Some, ap, sym, subst, refl, arith, true≢false}
 use Rattle.std.specs.Prelude.{Contains}
-use Rattle.typed_values.specs.declared.desc.Desc.{Desc, out-Desc}
-use Rattle.typed_values.specs.declared.desc.Desc.TheOpen.{Desc-F}
-use Rattle.typed_values.specs.declared.desc.Desc.TheVariants as desc
-use Rattle.typed_values.specs.declared.desc.Field.{Field}
-use Rattle.typed_values.specs.declared.desc.TaggedVariant.{TaggedVariant}
-use Rattle.typed_values.specs.declared.desc.Variant.{Variant}
+use Rattle.descriptors.specs.declared.desc.Desc.{Desc, out-Desc}
+use Rattle.descriptors.specs.declared.desc.Desc.TheOpen.{Desc-F}
+use Rattle.descriptors.specs.declared.desc.Desc.TheVariants as desc
+use Rattle.descriptors.specs.declared.desc.Field.{Field}
+use Rattle.descriptors.specs.declared.desc.TaggedVariant.{TaggedVariant}
+use Rattle.descriptors.specs.declared.desc.Variant.{Variant}
 use Rattle.typed_values.specs.Causes.{Tells}
-use Rattle.typed_values.specs.Definitions.{tagged_fields}
+use Rattle.descriptors.specs.Definitions.{tagged_fields}
 use Rattle.typed_values.specs.Lengths.{IsShort}
 use Rattle.typed_values.proofs.Searching.{one_more}
 use Rattle.typed_values.proofs.Within.{untrue, part_here, parts_at, all_parts, IsAlone, none_within, all_within, IsClear, clear_of}

@@ -1,5 +1,5 @@
 use Rattle.std.proofs.Common.{sym, arith}
-use Rattle.typed_values.specs.Definitions.{listed_name}
+use Rattle.descriptors.specs.Definitions.{listed_name}
 use Rattle.typed_values.proofs.Listed.{place_below}
 use Rattle.typed_values.proofs.scalars.decode_name.Goals as goal
 

@@ -1,5 +1,5 @@
 use Rattle.std.proofs.Common.{◌≡◌, ◌++◌, List, map, drop}
-use Rattle.typed_values.specs.declared.table.Definition.{Definition}
+use Rattle.descriptors.specs.declared.table.Definition.{Definition}
 use Rattle.typed_values.specs.SchemaTable.{bare_names}
 use Rattle.typed_values.specs.Schemas.{sketch_of_variant}
 use Rattle.typed_values.proofs.schema_variants.bare_names.Given as goal

@@ -1,5 +1,5 @@
 use Rattle.std.proofs.Common.{◌≡◌, ◌++◌, List, map, drop}
-use Rattle.typed_values.specs.declared.table.Definition.{Definition}
+use Rattle.descriptors.specs.declared.table.Definition.{Definition}
 use Rattle.typed_values.specs.Schemas.{required_names, sketch_of_field}
 use Rattle.typed_values.proofs.schemas.required_names.Given as goal
 

@@ -1,5 +1,5 @@
 use Rattle.std.proofs.Common.{◌≡◌, ℕ, ◌<◌, get_or}
-use Rattle.typed_values.specs.declared.desc.Desc.{Desc}
+use Rattle.descriptors.specs.declared.desc.Desc.{Desc}
 use Rattle.typed_values.specs.Search.{HoldsNull}
 use Rattle.typed_values.proofs.search.+holds_null.Given as goal
 

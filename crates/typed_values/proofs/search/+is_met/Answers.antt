@@ -1,7 +1,7 @@
 use Rattle.std.proofs.Common.{◌≡◌, List, ◌∷◌, sym, ◌∙◌, ap, subst}
 use Rattle.std.specs.Option.{option_copied}
 use Rattle.typed_values.specs.declared.search.Met.{out-Met}
-use Rattle.typed_values.specs.declared.table.Definition.{Definition}
+use Rattle.descriptors.specs.declared.table.Definition.{Definition}
 use Rattle.typed_values.specs.Search.{all_met, IsMet}
 use Rattle.typed_values.proofs.Searching.{met_split, met_first, met_cases, met_later}
 use Rattle.typed_values.proofs.Within.{untrue}

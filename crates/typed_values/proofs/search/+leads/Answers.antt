@@ -1,6 +1,6 @@
 use Rattle.std.proofs.Common.{◌≡◌, List, [], ◌∷◌, length, sym, refl, ap, ◌∙◌, subst, arith, true≢false}
 use Rattle.std.specs.Option.{option_copied}
-use Rattle.typed_values.specs.declared.desc.Desc.{Desc}
+use Rattle.descriptors.specs.declared.desc.Desc.{Desc}
 use Rattle.typed_values.specs.declared.search.Path.{out-Path}
 use Rattle.typed_values.specs.Search.{Meets, it_meets, all_met, on_path, IsSearch, SomeLeads}
 use Rattle.schema_values.proofs.CallerLemmas.{contains_first}

@@ -1,9 +1,9 @@
 use Rattle.std.proofs.Common.{◌≡◌, ◌<◌, length, get_or, sym, arith}
 use Rattle.std.specs.Option.{option_copied}
-use Rattle.typed_values.specs.declared.table.Definition.{Definition}
+use Rattle.descriptors.specs.declared.table.Definition.{Definition}
 use Rattle.typed_values.specs.Guarded.{Names}
 use Rattle.typed_values.specs.Search.{all_met, IsMet}
-use Rattle.typed_values.proofs.Found.{definition_found}
+use Rattle.descriptors.proofs.CallerLemmas.{definition_found}
 use Rattle.typed_values.proofs.Searching.{one_more}
 use Rattle.typed_values.proofs.Within.{untrue}
 use Rattle.typed_values.proofs.search.next_met.Goals as goal

@@ -1,6 +1,6 @@
 use Rattle.std.proofs.Common.{◌≡◌, ℕ, ◌<◌, get_or}
 use Rattle.std.specs.Option.{option_copied}
-use Rattle.typed_values.specs.declared.table.Definition.{Definition}
+use Rattle.descriptors.specs.declared.table.Definition.{Definition}
 use Rattle.typed_values.specs.Guarded.{Names}
 use Rattle.typed_values.specs.Search.{all_met, IsMet}
 use Rattle.typed_values.proofs.search.next_met.Given as goal

@@ -1,7 +1,7 @@
 use Rattle.std.proofs.Common.{◌≡◌, ℕ, ◌+◌, ◌<◌, List, ◌∷◌, length, drop, fold, get_or, map, filter, suc, Bool, true, false, cond, refl, sym, ◌∙◌, ap, add-one}
 use Rattle.std.proofs.Math.Seq.{drop-cons}
 use Rattle.schema_values.specs.declared.json_value.Json.{Json}
-use Rattle.typed_values.specs.declared.table.Definition.{Definition}
+use Rattle.descriptors.specs.declared.table.Definition.{Definition}
 use Rattle.api_description.specs.Documents.{is_among, schema_entry, with_entry}
 use Rattle.api_description.proofs.document.components.add_schemas.Goals as goal
 use Rattle.api_description.proofs.document.components.add_schemas.Goals.{then-contains+in_ok-add_schema, else-contains}

@@ -3,8 +3,8 @@ use Rattle.std.specs.Cmp.Lexicographic.{slice_cmp}
 use Rattle.std.specs.List.Sorted.{IsSortedByKey}
 use Rattle.schema_values.specs.declared.json_value.Member.{Member}
 use Rattle.schema_values.specs.Member.{name_of}
-use Rattle.typed_values.specs.declared.desc.Field.{Field}
-use Rattle.typed_values.specs.Definitions.{field_name}
+use Rattle.descriptors.specs.declared.desc.Field.{Field}
+use Rattle.descriptors.specs.Definitions.{field_name}
 use Rattle.typed_values.specs.Denotes.{is_declared, denied_name}
 use Rattle.schema_values.specs.Order.{sorted_by}
 use Rattle.typed_values.specs.Order.{first_by}

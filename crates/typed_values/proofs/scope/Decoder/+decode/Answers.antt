@@ -7,16 +7,16 @@ use denote.Param.Weighed.{most}
 use Rattle.schema_values.specs.declared.json_value.Json.{Json, out-Json, size-Json}
 use Rattle.schema_values.specs.declared.json_value.Json.TheVariants as json
 use Rattle.schema_values.specs.declared.json_value.Member.{Member, size-Member}
-use Rattle.typed_values.specs.declared.desc.Desc.{Desc}
-use Rattle.typed_values.specs.declared.desc.Field.{Field}
-use Rattle.typed_values.specs.declared.desc.TaggedVariant.{TaggedVariant}
+use Rattle.descriptors.specs.declared.desc.Desc.{Desc}
+use Rattle.descriptors.specs.declared.desc.Field.{Field}
+use Rattle.descriptors.specs.declared.desc.TaggedVariant.{TaggedVariant}
 use Rattle.typed_values.specs.declared.fault.FaultKind.TheVariants.{NotListed}
 use Rattle.typed_values.specs.declared.fault.Place.TheVariants.{Item, Name}
-use Rattle.typed_values.specs.declared.tree.Pair.{Pair}
-use Rattle.typed_values.specs.declared.tree.Tree.{Tree, List as Items, Map as Entries, Fields as Parts}
+use Rattle.descriptors.specs.declared.tree.Pair.{Pair}
+use Rattle.descriptors.specs.declared.tree.Tree.{Tree, List as Items, Map as Entries, Fields as Parts}
 use Rattle.typed_values.specs.Answer.{Tells}
 use Rattle.typed_values.specs.Bounds.{is_length_within}
-use Rattle.typed_values.specs.Definitions.{tagged_fields, tagged_name, variant_name}
+use Rattle.descriptors.specs.Definitions.{tagged_fields, tagged_name, variant_name}
 use Rattle.typed_values.specs.Denotes.{Told, below, chosen, told, all_told, as_tree, member_name, refused, where_found}
 use Rattle.typed_values.specs.Faults.{Trouble}
 use Rattle.schema_values.specs.Order.{sorted_by}

@@ -4,9 +4,9 @@ use Rattle.std.proofs.lemmas.Option.{slice_get_read, slice_get_past}
 use Rattle.std.proofs.lemmas.Slice.Zip.{zip_turn, zip_end}
 use denote.Param.Weighed.{most}
 use Rattle.schema_values.specs.Member.{member}
-use Rattle.typed_values.specs.declared.tree.Pair.{size-Pair}
-use Rattle.typed_values.specs.declared.tree.Tree.{size-Tree}
-use Rattle.typed_values.specs.Definitions.{tagged_name}
+use Rattle.descriptors.specs.declared.tree.Pair.{size-Pair}
+use Rattle.descriptors.specs.declared.tree.Tree.{size-Tree}
+use Rattle.descriptors.specs.Definitions.{tagged_name}
 use Rattle.typed_values.specs.Encoding.{written_under}
 use Rattle.typed_values.specs.Parts.{IsPart}
 use Rattle.typed_values.proofs.Arms.{definition_is_part}

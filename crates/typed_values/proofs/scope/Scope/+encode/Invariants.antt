@@ -1,6 +1,6 @@
 use Rattle.std.proofs.Common.{◌≡◌, ◌++◌, suc, map, take, drop, length}
 use denote.Param.Weighed.{most}
-use Rattle.typed_values.specs.declared.tree.Tree.{size-Tree, out-Tree}
+use Rattle.descriptors.specs.declared.tree.Tree.{size-Tree, out-Tree}
 use Rattle.typed_values.specs.Encoding.{is_none_level, pair_written, members_written, written_under}
 use Rattle.typed_values.proofs.Measure.{at_size, any_at_size, size_alone}
 use Rattle.typed_values.proofs.scope.Scope.+encode.Given as goal

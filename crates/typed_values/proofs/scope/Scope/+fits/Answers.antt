@@ -2,11 +2,11 @@ use Rattle.std.proofs.Common.{rules, suc, ◌≡◌, false, Some, None, IfSome, 
 use Rattle.std.proofs.lemmas.Option.{slice_get_read, slice_get_past}
 use Rattle.std.proofs.lemmas.Slice.Zip.{zip_turn}
 use denote.Param.Weighed.{most}
-use Rattle.typed_values.specs.declared.tree.Pair.{size-Pair}
-use Rattle.typed_values.specs.declared.tree.Tree.{size-Tree, out-Tree}
-use Rattle.typed_values.specs.declared.tree.Tree.TheVariants as tree
+use Rattle.descriptors.specs.declared.tree.Pair.{size-Pair}
+use Rattle.descriptors.specs.declared.tree.Tree.{size-Tree, out-Tree}
+use Rattle.descriptors.specs.declared.tree.Tree.TheVariants as tree
 use Rattle.typed_values.specs.Fits.{fits_under, parts_fit, payload_of, struct_of}
-use Rattle.typed_values.specs.Definitions.{tagged_fields}
+use Rattle.descriptors.specs.Definitions.{tagged_fields}
 use Rattle.typed_values.specs.Parts.{IsPart}
 use Rattle.typed_values.proofs.Arms.{definition_is_part}
 use Rattle.typed_values.proofs.FitRows.{choice_row, given_row, skipped_desc, below_true, below_false, unequal, fits_any, fits_never, fits_null, fits_bool, fits_char, fits_int, fits_text, fits_enumeration, fits_option, fits_list, fits_map, fits_struct, fits_external, fits_tagged, fits_untagged, fits_ref, lengths_differ}

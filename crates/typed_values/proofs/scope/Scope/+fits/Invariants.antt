@@ -1,7 +1,7 @@
 use Rattle.std.proofs.Common.{◌≡◌, suc, drop, length}
 use denote.Param.Weighed.{most}
-use Rattle.typed_values.specs.declared.tree.Pair.{size-Pair}
-use Rattle.typed_values.specs.declared.tree.Tree.{size-Tree}
+use Rattle.descriptors.specs.declared.tree.Pair.{size-Pair}
+use Rattle.descriptors.specs.declared.tree.Tree.{size-Tree}
 use Rattle.typed_values.specs.Fits.{each_fits, fields_fit, fits_under}
 use Rattle.typed_values.proofs.Measure.{at_size, any_at_size, size_alone}
 use Rattle.typed_values.proofs.scope.Scope.+fits.Given as goal

@@ -1,4 +1,4 @@
-use Rattle.typed_values.specs.declared.desc.Desc.{Null}
+use Rattle.descriptors.specs.declared.desc.Desc.{Null}
 use Rattle.typed_values.specs.Fits.{fits_under}
 use Rattle.typed_values.proofs.FitRows.{place_row}
 use Rattle.typed_values.proofs.FitSteps.{nought_row}

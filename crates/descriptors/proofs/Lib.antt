@@ -1,0 +1,5 @@
+pub mod Found
+pub mod NameOrder
+pub mod Indexing
+pub mod Copied
+pub mod CallerLemmas

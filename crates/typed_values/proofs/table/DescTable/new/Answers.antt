@@ -1,5 +1,0 @@
-use Rattle.typed_values.proofs.Indexing.{no_table}
-use Rattle.typed_values.proofs.table.DescTable.new.Goals as goal
-
-pub invariant_of-result : goal.invariant_of-result
-invariant_of-result c = rw (c.new.ensures, c.new-2.ensures.items) no_table
