@@ -16,7 +16,7 @@ use Rattle.descriptors.specs.declared.table.Definition.{Definition}
 use Rattle.descriptors.specs.Definitions.{entry_of}
 use Rattle.typed_values.specs.SchemaTable.{schema_json_described}
 use Rattle.openapi_values.specs.Find.{value_at}
-use Rattle.request_words.proofs.WordLemmas.{same_test}
+use Rattle.request_words.proofs.CallerLemmas.{same_test}
 use Rattle.api_description.specs.declared.endpoint.ApiEndpoint.{ApiEndpoint}
 use Rattle.api_description.specs.Documents.{text_order, is_among, reached_within, roots_of, reached_definitions, schema_entry, schema_entries, with_entry, by_name, components_of}
 use Rattle.api_description.specs.Endpoints.{Meanings, shape_at}

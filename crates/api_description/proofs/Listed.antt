@@ -10,7 +10,7 @@ use Rattle.openapi_values.specs.Admits.{method_member}
 use Rattle.openapi_values.specs.Operation.{operation_json}
 use Rattle.openapi_values.proofs.CallerLemmas.{operation-stands}
 use Rattle.openapi_values.specs.Find.{value_at, method_of, operation_in}
-use Rattle.request_words.proofs.WordLemmas.{same_test}
+use Rattle.request_words.proofs.CallerLemmas.{same_test}
 use Rattle.semver.specs.Parse.{Parts}
 use Rattle.api_description.specs.declared.endpoint.ApiEndpoint.{ApiEndpoint}
 use Rattle.api_description.specs.Agreement.{IsListed}

@@ -1,6 +1,5 @@
 -- The texts that a reply line is written of: digits, lists, header lines and members.
 use Rattle.std.proofs.Common.{◌≡◌, ℕ, zero, suc, ◌+◌, ◌/◌, ◌%◌, ◌<◌, Bool, true, ◌&&◌, List, [], ◌∷◌, ◌++◌, append_assoc, append-nil, map, length, take, get_or, slice_index, bytes_eq, decimal, refl, sym, ap, ◌∙◌, arith}
-use mathlib.Core.Former.{Count}
 use Rattle.std.specs.List.{flat_map}
 use Rattle.std.proofs.lemmas.Bool.Decides.{Decides-below_and}
 use Rattle.std.proofs.lemmas.Fmt.{decimal_digit, decimal_step}
@@ -10,8 +9,9 @@ use Rattle.std.proofs.lemmas.Slice.Eq.{bytes_eq-Decides}
 use Rattle.hex.specs.Hex.{encode_lower, encode_with, lower_digits}
 use Rattle.http.specs.StatusCode.{IsStatusCode, code_digits}
 use Rattle.http_header.specs.FieldValue.{FieldValue}
-use Rattle.schema_values.specs.declared.json_value.Json.{Json, List as Items, List', Row_of-Json, end_of-Json, more_of-Json, items-the_row-Json, items_hidden-the_row-Json-0}
-use Rattle.schema_values.specs.Print.{comma_before, compact_items, compact_of, escape, joined, joined_from}
+use Rattle.schema_values.specs.declared.json_value.Json.{Json, List as Items}
+use Rattle.schema_values.specs.Print.{comma_before, compact_of, escape, joined}
+use Rattle.schema_values.proofs.CallerLemmas.{compact-List, joined_from-push}
 use Rattle.contract_tool.specs.ReplyLines.{ArePairsOf, IsPairOf}
 use Rattle.contract_tool.proofs.ReplyLemmas.{pairs-next}
 
@@ -68,25 +68,12 @@ status_digits n is =
 
 -- ---- lists
 
-items_printed : (n : _) (row : Row_of-Json n) → compact_items row ≡ map compact_of (items-the_row-Json n row)
-items_printed n end_of-Json = refl
-items_printed n (more_of-Json item rest) = ap (λ texts. compact_of item ∷ texts) (items_printed _ rest)
-
-abbrev items_row : Json → (n : Count) × Row_of-Json n
-items_row (List' shape row) = (_, row)
-items_row _ = (_, end_of-Json)
-
-compact-Items : (jsons : List Json) → compact_of (Items jsons) ≡ 91 ∷ joined (map compact_of jsons) ++ 93 ∷ []
-compact-Items jsons =
-    let row = items_row (Items jsons) in
-    ap (λ texts. 91 ∷ joined texts ++ 93 ∷ []) (items_printed row.0 row.1 ∙ ap (map compact_of) (items_hidden-the_row-Json-0 jsons))
-
 between : (start open_mark texts close_mark : List ℕ) → ((start ++ open_mark) ++ texts) ++ close_mark ≡ start ++ (open_mark ++ (texts ++ close_mark))
 between start open_mark texts close_mark = simp append_assoc
 
 -- items between brackets are a list
 pub list_text : (start : List ℕ) (jsons : List Json) → ((start ++ 91 ∷ []) ++ joined (map compact_of jsons)) ++ 93 ∷ [] ≡ start ++ compact_of (Items jsons)
-list_text start jsons = between start (91 ∷ []) (joined (map compact_of jsons)) (93 ∷ []) ∙ ap (λ text. start ++ text) (sym (compact-Items jsons))
+list_text start jsons = between start (91 ∷ []) (joined (map compact_of jsons)) (93 ∷ []) ∙ ap (λ text. start ++ text) (sym (compact-List jsons))
 
 two_joined : (start one comma other : List ℕ) → ((start ++ one) ++ comma) ++ other ≡ start ++ (one ++ (comma ++ (other ++ [])))
 two_joined start one comma other = simp (append_assoc, append-nil)
@@ -96,16 +83,10 @@ pub pair_text : (start : List ℕ) (one other : Json) → ((((start ++ 91 ∷ []
 pair_text start one other =
     ap (λ text. text ++ 93 ∷ []) (two_joined (start ++ 91 ∷ []) (compact_of one) (44 ∷ []) (compact_of other)) ∙ list_text start (one ∷ other ∷ [])
 
-joined_push : (n k : ℕ) (texts : List (List ℕ)) (text : List ℕ) → k ≡ n + length texts
-    → joined_from n (texts ++ text ∷ []) ≡ joined_from n texts ++ (comma_before k ++ text)
-joined_push n k [] text is = append-nil _ ∙ ap (λ m. comma_before m ++ text) (omega arith)
-joined_push n k (first ∷ texts) text is =
-    ap (λ more. comma_before n ++ first ++ more) (joined_push (suc n) k texts text (omega arith)) ∙ sym (append_assoc (comma_before n ++ first) (joined_from (suc n) texts) _)
-
 joined_items : (jsons : List Json) (json : Json)
     → joined (map compact_of (jsons ++ json ∷ [])) ≡ joined (map compact_of jsons) ++ (comma_before (length jsons) ++ compact_of json)
 joined_items jsons json =
-    ap joined (map-append compact_of jsons (json ∷ [])) ∙ joined_push 0 (length jsons) (map compact_of jsons) (compact_of json) (omega (arith, length-map jsons compact_of))
+    ap joined (map-append compact_of jsons (json ∷ [])) ∙ joined_from-push 0 (length jsons) (map compact_of jsons) (compact_of json) (omega (arith, length-map jsons compact_of))
 
 -- ---- header lines
 

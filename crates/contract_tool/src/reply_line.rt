@@ -17,7 +17,7 @@ use api_description::http_status::Response;
 use api_description::{Exchange, ExchangeError};
 use http::StatusCode;
 use http_header::{HeaderName, HeaderValue};
-use schema_values::{List, Text, write_name, write_quoted_str, write_text_member};
+use schema_values::{List, Text, write_comma, write_name, write_quoted_str, write_text_member};
 use std::alloc::{AllocError, Global};
 use std::str;
 
@@ -117,12 +117,6 @@ fn write_pairs(lines: &[(HeaderName, HeaderValue)], out: &mut Text) -> Result<()
         write_pair(line, out)?;
     }
     Ok(())
-}
-
-fn write_comma(index: usize, out: &mut Text) -> Result<(), AllocError>
-    ensures { OnOk result (out.new ≡ out.old ++ comma_before index) }
-{
-    if index == 0 { Ok(()) } else { out.push(',') }
 }
 
 fn write_pair(line: &(HeaderName, HeaderValue), out: &mut Text) -> Result<(), AllocError>

@@ -6,7 +6,7 @@ use Rattle.std.specs.Prelude.{IsSomeAnd}
 use Rattle.schema_values.specs.declared.json_value.Json.{Json}
 use Rattle.request_words.specs.declared.request.WireRequest.{WireRequest}
 use Rattle.request_words.specs.MediaTypes.{HasJsonType}
-use Rattle.request_words.proofs.OneMediaType.{json_or_form}
+use Rattle.request_words.proofs.CallerLemmas.{json_or_form}
 use Rattle.openapi_values.specs.declared.document.OpenApi.{OpenApi}
 use Rattle.openapi_values.specs.declared.media.MediaType.{MediaType}
 use Rattle.openapi_values.specs.declared.media.RequestBody.{RequestBody}

@@ -2,7 +2,7 @@
 use Rattle.std.proofs.Common.{◌≡◌, ◌≢◌, ℕ, List, Some, None, IsTrue, IsUtf8, chars, codes, refl, sym, ◌∙◌, ap}
 use Rattle.schema_values.specs.Ascii.{all_ascii}
 use Rattle.openapi_values.specs.Admits.{method_member}
-use Rattle.request_words.proofs.WordLemmas.{chars-word}
+use Rattle.request_words.proofs.CallerLemmas.{chars-word}
 use Rattle.request_admission.proofs.WordLemmas.{chars-is, other_word}
 
 -- a method, and the name of its member

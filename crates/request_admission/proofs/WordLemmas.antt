@@ -3,7 +3,7 @@ use Rattle.std.proofs.Common.{◌≡◌, ◌≢◌, ℕ, false, List, IsTrue, Is
 use Rattle.std.proofs.lemmas.Bool.{false_from_ne_true}
 use Rattle.std.proofs.lemmas.Slice.Eq.{bytes_eq-Decides}
 use Rattle.schema_values.specs.Ascii.{all_ascii}
-use Rattle.request_words.proofs.WordLemmas.{word_in_bytes, chars-word}
+use Rattle.request_words.proofs.CallerLemmas.{word_in_bytes, chars-word}
 
 -- the characters of a text that is a word
 pub chars-is : (text word : List ℕ) → text ≡ word → IsTrue (all_ascii word) → chars text ≡ word

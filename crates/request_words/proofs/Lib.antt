@@ -1,6 +1,7 @@
 pub mod After
 pub mod AfterPrefix
 pub mod BlankLemmas
+pub mod CallerLemmas
 pub mod DigitLemmas
 pub mod LastLine
 pub mod Named

@@ -1,6 +1,6 @@
 //! The media type of a request.
 
-ghost use Rattle.std.specs.Prelude.{◌≡◌, IfOk, option_map, codes};
+ghost use Rattle.std.specs.Prelude.{◌≡◌, IfOk, None, Ok, option_map, codes};
 ghost use Rattle.std.specs.Option.{option_map_or};
 ghost use Rattle.request_words.specs.HeaderLines.{is_blank};
 ghost use Rattle.request_words.specs.MediaTypes.{before_parameters, without_end, type_of_value, media_type};
@@ -15,9 +15,10 @@ use std::alloc::{AllocError, Global};
 
 /// The media type of a request with these header lines, in lower case: that of its first `content-type` line,
 /// none where a byte of its value is not shown, and `application/json` where there is no such line (RFC 9110,
-/// section 8.3). Fails only for want of memory.
+/// section 8.3). Fails only for want of memory, and never where there is none.
 pub fn media_type(alloc: Global, lines: &[HeaderLine]) -> Result<Option<List<u8>>, AllocError>
-    ensures { IfOk result (λ media. media ≡ media_type lines.now) }
+    ensures media { IfOk result (λ media. media ≡ media_type lines.now) }
+    ensures hidden { media_type lines.now ≡ None → result ≡ Ok None }
 {
     match first_line(lines, b"content-type") {
         Some(value) => type_of_value(alloc, value),
@@ -27,7 +28,8 @@ pub fn media_type(alloc: Global, lines: &[HeaderLine]) -> Result<Option<List<u8>
 
 // The media type that a value gives.
 fn type_of_value(alloc: Global, value: &[u8]) -> Result<Option<List<u8>>, AllocError>
-    ensures { IfOk result (λ media. media ≡ type_of_value value.now) }
+    ensures media { IfOk result (λ media. media ≡ type_of_value value.now) }
+    ensures hidden { type_of_value value.now ≡ None → result ≡ Ok None }
 {
     if !all_shown(value) {
         return Ok(None);

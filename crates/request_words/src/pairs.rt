@@ -18,6 +18,18 @@ pub struct NamedText {
     pub value: Text,
 }
 
+impl NamedText {
+    /// A pair equal to this one. Fails only for want of memory.
+    pub fn copy(&self, alloc: Global) -> Result<NamedText, AllocError>
+        ensures { IfOk result (λ copy. copy ≡ self.now) }
+    {
+        Ok(NamedText {
+            name: self.name.copy(alloc)?,
+            value: self.value.copy(alloc)?,
+        })
+    }
+}
+
 impl HasName for NamedText {
     ghost use Rattle.request_words.specs.Pairs.{pair_name};
 

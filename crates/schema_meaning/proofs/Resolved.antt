@@ -23,7 +23,7 @@ use Rattle.openapi_values.specs.Lookup.{name_in as name_of}
 use Rattle.openapi_values.specs.Options.{is_some_and}
 use Rattle.openapi_values.specs.Room.{room as written_room}
 use Rattle.openapi_values.specs.SchemaJson.{schema_json}
-use Rattle.request_words.proofs.After.{after_prefix}
+use Rattle.request_words.proofs.CallerLemmas.{after_prefix}
 use Rattle.schema_util.specs.Forms.{SchemaForm, truth, form_of, by_parts, is_limited, other}
 use Rattle.schema_util.specs.References.{definitions_prefix, name_in, follow, follow_name, is_met, look_up, cycle, reference_in, reference_of, ComesTo, stays, breaks, goes_on, Names, Unresolved}
 use Rattle.schema_util.proofs.Steps.{followed}

@@ -21,5 +21,7 @@ pub use Rattle.schema_values.proofs.SameLemmas.{same_told}
 pub use Rattle.schema_values.proofs.SoundTests.{sound-decides}
 pub use Rattle.schema_values.proofs.OneReading.{one_reading}
 pub use Rattle.schema_values.proofs.SoundReadings.{reading_sound}
+-- ---- lists of texts with commas between them, and what is printed of lists
+pub use Rattle.schema_values.proofs.PrintLemmas.{compact-List, joined_from-push}
 -- ---- objects that are written member by member
 pub use Rattle.schema_values.proofs.MemberLemmas.{value_written, no_member_written, member_written, object_written}

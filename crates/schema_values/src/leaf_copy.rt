@@ -1,6 +1,6 @@
 //! Copies of the parts of a schema that have no schema within them.
 
-ghost use Rattle.std.specs.Prelude.{◌≡◌, IfOk};
+ghost use Rattle.std.specs.Prelude.{◌≡◌, IfOk, Ok};
 ghost use Rattle.schema_values.specs.declared.schema.SchemaObject.{out-SchemaObject};
 
 use crate::copy::copy_members;
@@ -120,9 +120,10 @@ impl InstanceTypes {
 }
 
 impl NumberBounds {
-    /// Bounds equal to these.
+    /// Bounds equal to these. Takes no memory, and always succeeds.
     pub fn copy(&self, _alloc: Global) -> Result<NumberBounds, AllocError>
-        ensures { IfOk result (λ copy. copy ≡ self.now) }
+        ensures copy { IfOk result (λ copy. copy ≡ self.now) }
+        ensures always { result ≡ Ok self.now }
     {
         Ok(self.same())
     }
@@ -140,9 +141,10 @@ impl NumberBounds {
 }
 
 impl LengthBounds {
-    /// Bounds equal to these.
+    /// Bounds equal to these. Takes no memory, and always succeeds.
     pub fn copy(&self, _alloc: Global) -> Result<LengthBounds, AllocError>
-        ensures { IfOk result (λ copy. copy ≡ self.now) }
+        ensures copy { IfOk result (λ copy. copy ≡ self.now) }
+        ensures always { result ≡ Ok self.now }
     {
         Ok(self.same())
     }

@@ -34,6 +34,7 @@ pub use leaf_copy::copy_text;
 pub use list::List;
 pub use member_text::{write_member, write_name, write_number_member, write_text_member};
 pub use order::{HasName, in_order, sort_by_name};
+pub use print::write_comma;
 pub use quoting::{write_quoted, write_quoted_str};
 pub use read::ReadError;
 pub use schema::{

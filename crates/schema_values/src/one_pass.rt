@@ -1,10 +1,12 @@
 //! A JSON text read in one pass over its tokens.
-ghost use Rattle.std.specs.Prelude.{◌≡◌, ◌≢◌, ◌<◌, ◌≤◌, ◌==◌, true, false, Some, None, Err, IfOk, IfSome, OnOk, length, map, option_and_then, slice_index};
+ghost use Rattle.std.specs.Prelude.{◌≡◌, ◌≢◌, ◌<◌, ◌≤◌, ◌==◌, true, false, Some, None, Err};
+ghost use Rattle.std.specs.Prelude.{IfOk, IfSome, OnOk, length, map, option_and_then, slice_index};
 ghost use Rattle.std.specs.Cmp.Lexicographic.{slice_cmp};
 ghost use Rattle.std.specs.List.{insert};
 ghost use Rattle.std.specs.List.Sorted.{IsStrictlySortedBy};
 ghost use Rattle.std.specs.Ordering.{nat_cmp};
-ghost use Rattle.json.specs.Json.{Json as Tree, Items as TreeItems, Members as TreeMembers, value, items, members};
+ghost use Rattle.json.specs.Json.{Json as Tree, Items as TreeItems, Members as TreeMembers};
+ghost use Rattle.json.specs.Json.{value, items, members};
 ghost use Rattle.schema_values.specs.declared.json_value.Member.{Member as MemberValue};
 ghost use Rattle.schema_values.specs.Member.{name_of};
 ghost use Rattle.schema_values.specs.Reading.{json_of, items_of, members_of, whole_of};

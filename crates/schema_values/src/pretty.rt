@@ -1,4 +1,4 @@
-ghost use Rattle.std.specs.Prelude.{◌≡◌, ◌≤◌, ◌++◌, [], IfOk, OnOk, map, suc};
+ghost use Rattle.std.specs.Prelude.{◌≡◌, ◌≤◌, ◌-◌, ◌^◌, ◌++◌, [], IfOk, OnErr, OnOk, map, suc};
 ghost use Rattle.std.specs.Str.{encode_utf8_all};
 ghost use Rattle.schema_values.specs.Depth.{depth};
 ghost use Rattle.schema_values.specs.Pretty.{new_line, on_line, grouped, pretty_at, pretty_member, pretty_of};
@@ -112,7 +112,8 @@ fn write_member_lines(
 
 // One more than the depth. No value nests so deep that there is none.
 fn deeper(depth: usize) -> Result<usize, AllocError>
-    ensures { IfOk result (λ inner. inner ≡ suc depth) }
+    ensures more { IfOk result (λ inner. inner ≡ suc depth) }
+    ensures last { OnErr result (2 ^ 64 - 1 ≤ depth) }
 {
     match depth.checked_add(1) {
         Some(inner) => Ok(inner),

@@ -71,7 +71,8 @@ fn write_members(alloc: Global, members: &[Member], out: &mut Text) -> Result<()
     Ok(())
 }
 
-pub(crate) fn write_comma(index: usize, out: &mut Text) -> Result<(), AllocError>
+/// Puts a comma at the end where texts stand before the next one. The index is how many stand before it.
+pub fn write_comma(index: usize, out: &mut Text) -> Result<(), AllocError>
     ensures { OnOk result (out.new ≡ out.old ++ comma_before index) }
 {
     if index == 0 { Ok(()) } else { out.push(',') }

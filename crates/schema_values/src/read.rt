@@ -1,4 +1,4 @@
-ghost use Rattle.std.specs.Prelude.{◌≡◌, ◌≤◌, IfOk, IfErr, IsOkUnless};
+ghost use Rattle.std.specs.Prelude.{◌≡◌, ◌≤◌, Err, IfOk, IfErr, IsOkUnless, IsUtf8};
 ghost use Rattle.serde_json.specs.Errors.{IsMemory};
 ghost use Rattle.schema_values.specs.Ascending.{IsAscending};
 ghost use Rattle.schema_values.specs.Depth.{depth};
@@ -32,6 +32,7 @@ impl Json {
     /// order of names. Of a repeated name the last value counts.
     ///
     /// `Unreadable` exactly where there is no such value with integers of 64 bits and at most 127 levels.
+    /// Bytes that are no UTF-8 are told so before memory is asked for.
     pub fn read(alloc: Global, bytes: &[u8]) -> Result<Json, ReadError>
         ensures ok { IfOk result (λ json. Reads bytes.now json) }
         ensures sound { IfOk result (λ json. IsSound json) }
@@ -41,6 +42,7 @@ impl Json {
             → IsOkUnless result ReadError.OutOfMemory }
         ensures unreadable { IfErr result (λ e. e ≡ ReadError.Unreadable → (json : JsonValue)
             → Reads bytes.now json → ⊥) }
+        ensures no_text { (IsUtf8 bytes.now → ⊥) → result ≡ Err ReadError.Unreadable }
     {
         let mut scratch = Scratch::new(alloc);
         Json::read_with(alloc, &mut scratch, bytes)
@@ -56,6 +58,7 @@ impl Json {
             → IsOkUnless result ReadError.OutOfMemory }
         ensures unreadable { IfErr result (λ e. e ≡ ReadError.Unreadable → (json : JsonValue)
             → Reads bytes.now json → ⊥) }
+        ensures no_text { (IsUtf8 bytes.now → ⊥) → result ≡ Err ReadError.Unreadable }
     {
         read_bytes(alloc, scratch, bytes)
     }
@@ -65,6 +68,7 @@ fn read_bytes(alloc: Global, scratch: &mut Scratch, bytes: &[u8]) -> Result<Json
     ensures ok { IfOk result (λ json. Reads bytes.now json) }
     ensures unreadable { IfErr result (λ e. e ≡ ReadError.Unreadable → (json : JsonValue)
         → Reads bytes.now json → ⊥) }
+    ensures no_text { (IsUtf8 bytes.now → ⊥) → result ≡ Err ReadError.Unreadable }
 {
     let Ok(text) = str::from_utf8(bytes) else {
         return Err(ReadError::Unreadable);
@@ -95,7 +99,8 @@ fn read_through_value(alloc: Global, bytes: &[u8]) -> Result<Json, ReadError>
 }
 
 fn read_error(error: &serde_json::Error) -> ReadError
-    ensures { result ≡ ReadError.Unreadable → ¬ IsMemory error.now }
+    ensures unreadable { result ≡ ReadError.Unreadable → ¬ IsMemory error.now }
+    ensures told { result ≡ ReadError.OutOfMemory → IsMemory error.now }
 {
     if error.is_memory() {
         ReadError::OutOfMemory

@@ -1,4 +1,5 @@
-ghost use Rattle.std.specs.Prelude.{◌≡◌, IfOk, IfErr, IfSome, None, Some, [], map, option_map};
+ghost use Rattle.std.specs.Prelude.{◌≡◌, ◌↔◌, Err, IfOk, IfErr, IfSome, IsTrue, None, Some, [], map};
+ghost use Rattle.std.specs.Prelude.{option_map};
 ghost use Rattle.std.specs.List.{AllByRecursion};
 ghost use Rattle.schema_values.specs.Ascending.{IsAscending};
 ghost use Rattle.schema_values.specs.AscendingMembers.{HasAscendingMembers};
@@ -42,36 +43,36 @@ impl Json {
     /// The same value, with the members of each object in ascending order of names. Its texts are taken over
     /// without a copy.
     ///
-    /// `HoldsFloat` exactly where it holds a number that is no integer of 64 bits, but for want of
-    /// memory.
-    #[cycle(from_value)]
+    /// `HoldsFloat` exactly where it holds a number that is no integer of 64 bits. That is looked for first,
+    /// so want of memory is never told of such a value.
     pub fn from_value(alloc: Global, value: Value) -> Result<Json, ValueError>
         ensures ok { IfOk result (λ json. json_of (view value) ≡ Some json) }
         ensures sound { IfOk result (λ json. IsSound json) }
         ensures ascending { IfOk result (λ json. IsAscending json) }
         ensures err { IfErr result (λ e. e ≡ ValueError.HoldsFloat → json_of (view value) ≡ None) }
+        ensures refused { json_of (view value) ≡ None → result ≡ Err ValueError.HoldsFloat }
     {
-        match value {
-            Value::Null => Ok(Json::Null),
-            Value::Bool(truth) => Ok(Json::Bool(truth)),
-            Value::Number(number) => int_of_number(&number),
-            Value::String(text) => Ok(Json::Text(Text::from_string(text))),
-            Value::Array(values) => Ok(Json::List(items_of_values(alloc, values)?)),
-            Value::Object(members) => Ok(Json::Object(members_of_map(alloc, members)?)),
+        if holds_float(&value) {
+            return Err(ValueError::HoldsFloat);
         }
+        taken_over(alloc, value)
     }
 
     /// The same value, as `from_value` gives it of a copy.
     ///
-    /// `HoldsFloat` exactly where it holds a number that is no integer of 64 bits, but for want of
-    /// memory.
+    /// `HoldsFloat` exactly where it holds a number that is no integer of 64 bits. That is looked for first,
+    /// so want of memory is never told of such a value.
     pub fn of_value(alloc: Global, value: &Value) -> Result<Json, ValueError>
         ensures ok { IfOk result (λ json. json_of (view value.now) ≡ Some json) }
         ensures sound { IfOk result (λ json. IsSound json) }
         ensures ascending { IfOk result (λ json. IsAscending json) }
         ensures err { IfErr result (λ e. e ≡ ValueError.HoldsFloat → json_of (view value.now) ≡ None) }
+        ensures refused { json_of (view value.now) ≡ None → result ≡ Err ValueError.HoldsFloat }
     {
-        Json::from_value(alloc, value.clone()?)
+        if holds_float(value) {
+            return Err(ValueError::HoldsFloat);
+        }
+        taken_over(alloc, value.clone()?)
     }
 
     /// The same value as one of `serde_json`, whose objects have their members in ascending order of names.
@@ -94,7 +95,62 @@ impl Json {
     }
 }
 
-#[cycle(from_value)]
+// Whether a number that is no integer of 64 bits stands in the value.
+#[cycle(holds_float)]
+fn holds_float(value: &Value) -> bool
+    ensures { IsTrue result ↔ (json_of (view value.now) ≡ None) }
+{
+    match value {
+        Value::Null | Value::Bool(_) | Value::String(_) => false,
+        Value::Number(number) => whole_number(number).is_none(),
+        Value::Array(values) => some_item_holds_float(values),
+        Value::Object(members) => some_member_holds_float(members),
+    }
+}
+
+#[cycle(holds_float)]
+fn some_item_holds_float(values: &Vec<Value>) -> bool
+    ensures { IsTrue result ↔ (items_of (items_view values.now.items) ≡ None) }
+{
+    for value in values {
+        if holds_float(value) {
+            return true;
+        }
+    }
+    false
+}
+
+#[cycle(holds_float)]
+fn some_member_holds_float(map: &Map<String, Value>) -> bool
+    ensures { IsTrue result ↔ (members_of (members_view map.now.entries) ≡ None) }
+{
+    for (_name, value) in map.iter() {
+        if holds_float(value) {
+            return true;
+        }
+    }
+    false
+}
+
+// The value as `from_value` gives it, in one pass, which may run out of memory before it comes to a float.
+#[cycle(taken_over)]
+fn taken_over(alloc: Global, value: Value) -> Result<Json, ValueError>
+    ensures ok { IfOk result (λ json. json_of (view value) ≡ Some json) }
+    ensures sound { IfOk result (λ json. IsSound json) }
+    ensures ascending { IfOk result (λ json. IsAscending json) }
+    ensures err { IfErr result (λ e. e ≡ ValueError.HoldsFloat → json_of (view value) ≡ None) }
+{
+    match value {
+        Value::Null => Ok(Json::Null),
+        Value::Bool(truth) => Ok(Json::Bool(truth)),
+        Value::Number(number) => int_of_number(&number),
+        Value::String(text) => Ok(Json::Text(Text::from_string(text))),
+        Value::Array(values) => Ok(Json::List(items_of_values(alloc, values)?)),
+        Value::Object(members) => Ok(Json::Object(members_of_map(alloc, members)?)),
+    }
+}
+
+#[cycle(taken_over)]
 fn items_of_values(alloc: Global, values: Vec<Value>) -> Result<List<Json>, ValueError>
     ensures ok { IfOk result (λ items. items_of (items_view values.items) ≡ Some items) }
     ensures sound { IfOk result (λ items. AllByRecursion IsSound items) }
@@ -104,12 +160,12 @@ fn items_of_values(alloc: Global, values: Vec<Value>) -> Result<List<Json>, Valu
 {
     let mut items = List::new(alloc);
     for value in values {
-        items.push(Json::from_value(alloc, value)?)?;
+        items.push(taken_over(alloc, value)?)?;
     }
     Ok(items)
 }
 
-#[cycle(from_value)]
+#[cycle(taken_over)]
 fn members_of_map(alloc: Global, map: Map<String, Value>) -> Result<List<Member>, ValueError>
     ensures ok { IfOk result (λ members. members_of (members_view map.entries) ≡ Some members) }
     ensures sound { IfOk result (λ members. HasSoundMembers members) }
@@ -120,7 +176,7 @@ fn members_of_map(alloc: Global, map: Map<String, Value>) -> Result<List<Member>
     let mut members = List::new(alloc);
     for (key, value) in map {
         let name = Text::from_string(key);
-        let value = Json::from_value(alloc, value)?;
+        let value = taken_over(alloc, value)?;
         members.push(Member { name, value })?;
     }
     Ok(members)
@@ -131,6 +187,7 @@ fn int_of_number(number: &Number) -> Result<Json, ValueError>
     ensures sound { IfOk result (λ json. IsSound json) }
     ensures ascending { IfOk result (λ json. IsAscending json) }
     ensures err { IfErr result (λ _. whole_of (number_view number.now) ≡ None) }
+    ensures told { IfErr result (λ e. e ≡ ValueError.HoldsFloat) }
 {
     match whole_number(number) {
         Some(whole) => Ok(Json::Int(whole)),

@@ -15,7 +15,7 @@ use Rattle.openapi_values.specs.Lookup.{definition}
 use Rattle.openapi_values.specs.Options.{is_some_and}
 use Rattle.openapi_values.specs.Rows.{in_subset}
 use Rattle.openapi_values.specs.JsonAdmits.{members_admit, object_admits, schema_admits}
-use Rattle.request_words.proofs.After.{after_prefix}
+use Rattle.request_words.proofs.CallerLemmas.{after_prefix}
 use Rattle.typed_values.specs.Bounds.{is_long_enough, is_short_enough, is_length_within}
 use Rattle.typed_values.specs.SchemaTable.{Remarks, annotations, of_type, if_count}
 use Rattle.written_schemas.proofs.Notes.{hold, noted_admits}

@@ -1,6 +1,6 @@
 use Rattle.std.proofs.Common.{◌∙◌, ap}
 use Rattle.schema_values.specs.Get.{get_of}
-use Rattle.request_words.proofs.WordLemmas.{chars-word}
+use Rattle.request_words.proofs.CallerLemmas.{chars-word}
 use Rattle.openapi_values.proofs.schema_members.get_word.Goals as goal
 
 pub returns : goal.returns

@@ -18,23 +18,23 @@ use Rattle.schema_values.proofs.AscendingLemmas.{IsAscending-List, IsAscending-O
 use Rattle.schema_values.proofs.DistinctLemmas.{AreDistinct-sorted}
 use Rattle.schema_values.proofs.ReadingLemmas.{items-after, items-none_in, members-more, members-none, member_from, entry_name}
 use Rattle.schema_values.proofs.SoundLemmas.{all-push, IsSound-List, IsSound-Object}
-use Rattle.schema_values.proofs.+from_value.Goals as goal
+use Rattle.schema_values.proofs.value.+taken_over.Goals as goal
 
-pub value::items_of_values-returns-in_err-from_value-clause-err : goal.value::items_of_values-returns-in_err-from_value-clause-err
-value::items_of_values-returns-in_err-from_value-clause-err t c =
+pub items_of_values-returns-in_err-taken_over-clause-err : goal.items_of_values-returns-in_err-taken_over-clause-err
+items_of_values-returns-in_err-taken_over-clause-err t c =
     let p = err_from_is_err_and c.from_residual.result c.from_residual.ensures.1 in
     let l = c.loop-value in
     let done = l.invariant.0 in
     rw (p.1, p.2) (λ is_float.
     ap (λ vs. items_of (items_view vs)) (l.invariant.1 ∙ ap (λ vs. done ++ vs) c.in-Some.ensures.steps.0)
-    ∙ items-none_in done c.in-Some.value (into_iter_items c.next.new.self) (c.in_err-from_value.ensures.err is_float))
+    ∙ items-none_in done c.in-Some.value (into_iter_items c.next.new.self) (c.in_err-taken_over.ensures.err is_float))
 
-pub value::items_of_values-loop-value-preserved : goal.value::items_of_values-loop-value-preserved
-value::items_of_values-loop-value-preserved t c =
+pub items_of_values-loop-value-preserved : goal.items_of_values-loop-value-preserved
+items_of_values-loop-value-preserved t c =
     let l = c.loop-value in
     let done = l.invariant.0 in
     let value = c.in-Some.value in
-    let made = c.in_ok-from_value in (
+    let made = c.in_ok-taken_over in (
       done ++ value ∷ [],
       l.invariant.1 ∙ ap (λ vs. done ++ vs) c.in-Some.ensures.steps.0 ∙ sym (append_assoc done (value ∷ []) (into_iter_items c.next.new.self)),
       rw c.in_ok-push.ensures.ok (items-after done value l.items made.field-0 l.invariant.2 made.ensures.ok),
@@ -42,8 +42,8 @@ value::items_of_values-loop-value-preserved t c =
       rw c.in_ok-push.ensures.ok (all-push IsAscending l.items made.field-0 l.invariant.4 made.ensures.ascending),
     )
 
-pub value::members_of_map-returns-in_err-value-clause-err : goal.value::members_of_map-returns-in_err-value-clause-err
-value::members_of_map-returns-in_err-value-clause-err t c =
+pub members_of_map-returns-in_err-value-clause-err : goal.members_of_map-returns-in_err-value-clause-err
+members_of_map-returns-in_err-value-clause-err t c =
     let p = err_from_is_err_and c.from_residual.result c.from_residual.ensures.1 in
     let l = c.loop-key in
     let done = l.invariant.0 in
@@ -52,8 +52,8 @@ value::members_of_map-returns-in_err-value-clause-err t c =
     ap (λ es. members_of (members_view es)) (l.invariant.1 ∙ ap (λ es. done ++ es) c.in-Some.ensures.steps)
     ∙ members-none done entry c.next.new.self (c.in_err-value.ensures.err is_float))
 
-pub value::members_of_map-loop-key-preserved : goal.value::members_of_map-loop-key-preserved
-value::members_of_map-loop-key-preserved t c =
+pub members_of_map-loop-key-preserved : goal.members_of_map-loop-key-preserved
+members_of_map-loop-key-preserved t c =
     let l = c.loop-key in
     let done = l.invariant.0 in
     let entry : Entry = (c.in-Some.key, c.in-Some.value) in
@@ -66,33 +66,33 @@ value::members_of_map-loop-key-preserved t c =
       rw (c.in_ok-push.ensures.ok, c.from_string-name.ensures) (all-push HasAscendingValue l.members made l.invariant.5 c.in_ok-value.ensures.ascending),
     )
 
-pub json_value::Json::from_value-returns-in_ok-items_of_values-in-Array-clause-sound : goal.json_value::Json::from_value-returns-in_ok-items_of_values-in-Array-clause-sound
-json_value::Json::from_value-returns-in_ok-items_of_values-in-Array-clause-sound t c =
+pub taken_over-returns-in_ok-items_of_values-in-Array-clause-sound : goal.taken_over-returns-in_ok-items_of_values-in-Array-clause-sound
+taken_over-returns-in_ok-items_of_values-in-Array-clause-sound t c =
     let made = c.in_ok-items_of_values-in-Array in (IsSound-List made.field-0).1 made.ensures.sound
 
-pub json_value::Json::from_value-returns-in_ok-members_of_map-in-Object-clause-sound : goal.json_value::Json::from_value-returns-in_ok-members_of_map-in-Object-clause-sound
-json_value::Json::from_value-returns-in_ok-members_of_map-in-Object-clause-sound t c =
+pub taken_over-returns-in_ok-members_of_map-in-Object-clause-sound : goal.taken_over-returns-in_ok-members_of_map-in-Object-clause-sound
+taken_over-returns-in_ok-members_of_map-in-Object-clause-sound t c =
     let made = c.in_ok-members_of_map-in-Object in (IsSound-Object made.field-0).1 made.ensures.sound
 
-pub json_value::Json::from_value-returns-in_ok-items_of_values-in-Array-clause-ascending : goal.json_value::Json::from_value-returns-in_ok-items_of_values-in-Array-clause-ascending
-json_value::Json::from_value-returns-in_ok-items_of_values-in-Array-clause-ascending t c =
+pub taken_over-returns-in_ok-items_of_values-in-Array-clause-ascending : goal.taken_over-returns-in_ok-items_of_values-in-Array-clause-ascending
+taken_over-returns-in_ok-items_of_values-in-Array-clause-ascending t c =
     let made = c.in_ok-items_of_values-in-Array in IsAscending-List made.field-0 made.ensures.ascending
 
-pub json_value::Json::from_value-returns-in_ok-members_of_map-in-Object-clause-ascending : goal.json_value::Json::from_value-returns-in_ok-members_of_map-in-Object-clause-ascending
-json_value::Json::from_value-returns-in_ok-members_of_map-in-Object-clause-ascending t c =
+pub taken_over-returns-in_ok-members_of_map-in-Object-clause-ascending : goal.taken_over-returns-in_ok-members_of_map-in-Object-clause-ascending
+taken_over-returns-in_ok-members_of_map-in-Object-clause-ascending t c =
     let made = c.in_ok-members_of_map-in-Object in IsAscending-Object made.field-0 made.ensures.ascending
 
 -- the names of a map's entries ascend, once all are taken
-pub value::members_of_map-returns-clause-sound : goal.value::members_of_map-returns-clause-sound
-value::members_of_map-returns-clause-sound t c =
+pub members_of_map-returns-clause-sound : goal.members_of_map-returns-clause-sound
+members_of_map-returns-clause-sound t c =
     let l = c.loop-key in
     let done = l.invariant.0 in
     let all : c.args.map.entries ≡ done = l.invariant.1 ∙ ap (λ es. done ++ es) c.in-None.ensures.steps.0 ∙ append-nil done in
     let sorted = subst (λ es. IsStrictlySortedBy string_cmp (keys_of es)) all c.into_iter-key-iterator.ensures.into_iter_gives.5 in
     (l.invariant.3, subst AreDistinct (sym l.invariant.4) (AreDistinct-sorted _ (names-sorted done sorted)))
 
-pub value::members_of_map-returns-clause-ascending : goal.value::members_of_map-returns-clause-ascending
-value::members_of_map-returns-clause-ascending t c =
+pub members_of_map-returns-clause-ascending : goal.members_of_map-returns-clause-ascending
+members_of_map-returns-clause-ascending t c =
     let l = c.loop-key in
     let done = l.invariant.0 in
     let all : c.args.map.entries ≡ done = l.invariant.1 ∙ ap (λ es. done ++ es) c.in-None.ensures.steps.0 ∙ append-nil done in
