@@ -10,4 +10,6 @@ mod points;
 #[cfg(test)]
 mod schemas;
 #[cfg(test)]
+mod stores;
+#[cfg(test)]
 mod values;
