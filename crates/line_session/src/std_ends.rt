@@ -59,8 +59,8 @@ impl<R: Read> Source for StdSource<R> {
     /// Makes one call. An error raises the count by one, up to the last value of a counter.
     fn read(&mut self, buf: &mut [u8]) -> Result<usize, Failed>
         ensures bound { ReadsAtMost result buf.new }
-        ensures bytes { ReadConsumes (R.remaining (source_reader self.old)) (R.remaining (source_reader self.new))
-            result buf.new }
+        ensures bytes { ReadConsumes (R.remaining (source_reader self.old))
+            (R.remaining (source_reader self.new)) result buf.new }
         ensures cause { HasCause (source_faults self.old) (source_faults self.new) result }
         ensures counts { OnOk result (source_faults self.new ≡ source_faults self.old) }
         ensures raised { OnErr result (source_faults self.new ≡ one_more (source_faults self.old)) }
@@ -92,10 +92,11 @@ impl<W: Write> Sink for StdSink<W> {
     fn write(&mut self, piece: &[u8]) -> Result<usize, SinkError>
         ensures bound { WritesAtMost result piece.now }
         ensures progress { 0 < length piece.now → IfOk result (λ n. 0 < n) }
-        ensures bytes { WriteAppends (W.contents (sink_writer self.old)) (W.contents (sink_writer self.new)) result
-            piece.now }
+        ensures bytes { WriteAppends (W.contents (sink_writer self.old))
+            (W.contents (sink_writer self.new)) result piece.now }
         ensures later { sink_faults self.old ≤ sink_faults self.new }
-        ensures failed { IsErrOf result SinkError.Failed → HasRisen (sink_faults self.old) (sink_faults self.new) }
+        ensures failed { IsErrOf result SinkError.Failed
+            → HasRisen (sink_faults self.old) (sink_faults self.new) }
         ensures counts { ¬ IsErrOf result SinkError.Failed → sink_faults self.new ≡ sink_faults self.old }
         ensures raised { OnErr result (sink_faults self.new ≡ one_more (sink_faults self.old)) }
     {

@@ -2,8 +2,8 @@
 ghost use Rattle.std.specs.Prelude.{◌≡◌, [], IfOk, IsSome, None, OnErr, OnOk, bytes_eq, length, map};
 ghost use Rattle.std.specs.Prelude.{option_map, take};
 ghost use Rattle.std.specs.List.{position};
-ghost use Rattle.tree_store.specs.Tables.{Ascend, changed, pair_of, pairs_above, pairs_of, pairs_with, pairs_without};
-ghost use Rattle.tree_store.specs.Tables.{stored};
+ghost use Rattle.tree_store.specs.Tables.{Ascend, changed, pair_of, pairs_above, pairs_of};
+ghost use Rattle.tree_store.specs.Tables.{pairs_with, pairs_without, stored};
 
 use crate::table::Table;
 use descriptors::{Pair, Tree};
