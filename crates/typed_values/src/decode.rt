@@ -119,11 +119,7 @@ fn unless_denied(
 }
 
 /// What the alternative at a place settles: nothing where it does not take the value.
-fn settled(
-    alloc: Global,
-    place: usize,
-    answer: Result<Tree, Stop>,
-) -> Option<Result<Tree, Stop>>
+fn settled(alloc: Global, place: usize, answer: Result<Tree, Stop>) -> Option<Result<Tree, Stop>>
     requires { place < 2 ^ 32 }
     ensures { (told rest : Told) → Tells answer told → MatchOption result
         (or_else place told rest ≡ rest) (λ settled. Tells settled (or_else place told rest)) }
