@@ -1,6 +1,6 @@
 -- On a sound table the steps are never spent: each row of what is written holds with no steps in it.
-use Rattle.std.proofs.Common.{rules, ◌≡◌, ℕ, zero, suc, ◌+◌, Bool, List, [], ◌∷◌, map, Option, Some, None, refl, sym, ◌∙◌, ap, MatchOption}
-use Rattle.std.specs.Prelude.{⊤}
+use Rattle.std.proofs.Common.{rules, ◌≡◌, ℕ, zero, suc, ◌+◌, Bool, List, [], ◌∷◌, ◌++◌, map, Result, Ok, Err, Option, Some, None, refl, sym, ◌∙◌, ap, MatchOption}
+use Rattle.std.specs.Prelude.{⊤, IsOkAnd, IfOk}
 use Rattle.schema_values.specs.declared.json_value.Json.{Json, List as Items, Object}
 use Rattle.schema_values.specs.Member.{member}
 use Rattle.descriptors.specs.declared.desc.Desc.{Desc, Option as OptionOf, Struct as StructOf, out-Desc}
@@ -21,6 +21,11 @@ use Rattle.typed_values.specs.Levels.{DescLevel, TreeOf}
 use Rattle.typed_values.specs.Resting.{RestsBy, Rests}
 use Rattle.typed_values.proofs.Rows.{two_maps}
 use Rattle.typed_values.proofs.TreeLevels.{pair_with, level_with, folded_level}
+
+-- what is meant stands behind the others, where it was written and put there
+pub put_behind : {T X E : Type 0} (written : Result T E) (g : T → X) (old new : List X) (meant : T) → IsOkAnd written (λ v. new ≡ old ++ g v ∷ []) → IfOk written (λ v. v ≡ meant) → new ≡ old ++ g meant ∷ []
+put_behind (Ok v) g old new meant put is = put ∙ ap (λ w. old ++ g w ∷ []) is
+put_behind (Err e) g old new meant put is = absurd put
 
 -- a row of smaller trees is that of what they stand for
 module _ {X Y : Type 0} (g : X → Y) where

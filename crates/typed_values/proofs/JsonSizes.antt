@@ -55,18 +55,12 @@ most_of_each b [] h = omega arith
 most_of_each b (m ∷ ms) h = omega (arith, h.0, most_of_each b ms h.1)
 
 -- a member in the order of names is no greater than the greatest
-entry_at_most : (ms : List Member) (i : ℕ) (m : Member) → i < length (sorted_by member_name ms) → m ≡ get_or (sorted_by member_name ms) i m → size-Member m ≤ most size-Member ms
+pub entry_at_most : (ms : List Member) (i : ℕ) (m : Member) → i < length (sorted_by member_name ms) → m ≡ get_or (sorted_by member_name ms) i m → size-Member m ≤ most size-Member ms
 entry_at_most ms i m h is =
     let some : most size-Member (sorted_by member_name ms) ≤ most size-Member ms =
     most_of_each (most size-Member ms) (sorted_by member_name ms) (all_sorted (λ n. size-Member n ≤ most size-Member ms) member_name ms (each_at_most (most size-Member ms) ms (omega arith))) in
     let deep = at_most size-Member (sorted_by member_name ms) i m h in
     rw is (omega (arith, some, deep))
-
--- the value of a member in the order of names is smaller than the object
-pub entry_smaller : (j : Json) (ns ms : List Member) → j ≡ JsonObject ns → ms ≡ ns → (i : ℕ) (m : Member) → i < length (sorted_by member_name ms) → m ≡ get_or (sorted_by member_name ms) i m → size-Json m.value < size-Json j
-entry_smaller j ns ms e same i m h is =
-    let size : size-Json j ≡ suc (most size-Member ms) = ap size-Json e ∙ size_object ns ∙ ap (λ (xs : List Member). suc (most size-Member xs)) (sym same) in
-    omega (arith, size, member_greater m, entry_at_most ms i m h is)
 
 -- an object's members are measured below the object
 pub members-lt-alone : (table : List Definition) (whole : Desc) (j : Json) (ms : List Member) → j ≡ JsonObject ms → suc (suc (size_alone table whole (most size-Member ms))) < size_alone table whole (size-Json j)

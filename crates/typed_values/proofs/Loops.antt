@@ -1,5 +1,5 @@
 -- What a loop has decoded, before what is left.
-use Rattle.std.proofs.Common.{◌≡◌, ℕ, Bool, true, Option, ◌+◌, ◌<◌, ◌≤◌, List, [], ◌∷◌, ◌++◌, refl, sym, ◌∙◌, ap, length, drop, get_or}
+use Rattle.std.proofs.Common.{◌≡◌, ℕ, Bool, true, Option, Some, None, MatchOption, ◌+◌, ◌<◌, ◌≤◌, List, [], ◌∷◌, ◌++◌, refl, sym, ◌∙◌, ap, length, drop, get_or, subst}
 use Rattle.std.proofs.lemmas.List.{drop_more}
 use Rattle.std.proofs.Math.ListN.{drop_of_length-le}
 use Rattle.std.specs.declared.result.Result.{Result}
@@ -8,11 +8,21 @@ use Rattle.typed_values.specs.declared.fault.FaultKind.TheVariants.{BadLength}
 use Rattle.typed_values.specs.declared.fault.Stop.{Stop}
 use Rattle.typed_values.specs.declared.fault.Stop.TheVariants as stop
 use Rattle.descriptors.specs.declared.desc.Desc.{Desc}
-use Rattle.descriptors.specs.declared.tree.Tree.{Tree, List as Items, Variant as Choice}
-use Rattle.typed_values.specs.Answer.{Tells, trouble}
+use Rattle.descriptors.specs.declared.tree.Tree.{List as Items}
+use Rattle.typed_values.specs.Answer.{Pushes, Tells, trouble}
 use Rattle.typed_values.specs.Bounds.{is_length_within}
 use Rattle.typed_values.specs.Faults.{Trouble}
 use Rattle.typed_values.specs.Denotes.{Told, and_rest, and_then, all_told, as_tree, if_holds, items_told, or_else, first_told}
+
+-- a part that was put behind the others was told
+pub pushed : {T U : Type 0} (answer : Result T Stop) (done : U) (old new : List T) (told : Result T Trouble) → Pushes answer (Ok done) old new → Tells answer told → (part : T) × (told ≡ Ok part) × (new ≡ old ++ part ∷ [])
+pushed (Ok part) done old new told put is = (part, is, put)
+pushed (Err fault) done old new told put is = absurd put
+
+-- what stops a loop was told of its part, or memory ran out
+pub not_pushed : {T : Type 0} (answer : Result T Stop) (stop : Stop) (old new : List T) (told : Result T Trouble) → Pushes {U = Unit {0}} answer (Err stop) old new → Tells answer told → Tells {T = T} (Err stop) told
+not_pushed (Ok part) stop old new told put is = subst (λ (end : Stop). Tells (Err end) told) (sym put) tt
+not_pushed (Err fault) stop old new told put is = subst (λ (end : Stop). Tells (Err end) told) (sym put) is
 
 module _ {T : Type 0} where
   abbrev pub after : List T → Result (List T) Trouble → Result (List T) Trouble
@@ -57,9 +67,12 @@ module _ {T : Type 0} where
 pub items_within : {X : Type 0} (f : ℕ → X → Told) (min max : Option ℕ) (xs : List X) → is_length_within min max (length xs) ≡ true → items_told f min max xs ≡ as_tree Items (all_told f 0 xs)
 items_within f min max xs e = ap (λ (b : Bool). if_holds b BadLength (as_tree Items (all_told f 0 xs))) e
 
-module _ (f : Desc → Told) (whole : Told) (ds : List Desc) (i : ℕ) (e : whole ≡ first_told i f (drop i ds)) where
-  next_first : (d : Desc) → i < length ds → d ≡ get_or ds i d → whole ≡ or_else i (f d) (first_told (i + 1) f (drop (i + 1) ds))
-  next_first d h is = e ∙ ap (first_told i f) (drop_more ds i d h ∙ ap (λ (y : Desc). y ∷ drop (i + 1) ds) (sym is))
+-- what an alternative leaves that settles nothing
+pub unsettled : {A Left : Type 0} (Settled : A → Type 0) (settled : Option A) → ((a : A) → settled ≡ Some a → ⊥) → MatchOption settled Left Settled → Left
+unsettled Settled None none h = h
+unsettled Settled (Some a) none h = absurd (none a refl)
 
-  pub first_found : (d : Desc) (t : Tree) → i < length ds → d ≡ get_or ds i d → f d ≡ Ok t → whole ≡ Ok (Choice i t)
-  first_found d t h is ok = next_first d h is ∙ ap (λ (o : Told). or_else i o (first_told (i + 1) f (drop (i + 1) ds))) ok
+module _ (f : Desc → Told) (whole : Told) (ds : List Desc) (i : ℕ) (e : whole ≡ first_told i f (drop i ds)) where
+  -- what the alternative at the place of the loop settles
+  pub next_first : (d : Desc) → i < length ds → d ≡ get_or ds i d → whole ≡ or_else i (f d) (first_told (i + 1) f (drop (i + 1) ds))
+  next_first d h is = e ∙ ap (first_told i f) (drop_more ds i d h ∙ ap (λ (y : Desc). y ∷ drop (i + 1) ds) (sym is))

@@ -1,5 +1,5 @@
 -- What an answer of the decoder says.
-use Rattle.std.specs.Prelude.{◌≡◌, ⊤, reverse}
+use Rattle.std.specs.Prelude.{◌≡◌, ⊤, List, [], ◌∷◌, ◌++◌, reverse}
 use Rattle.std.specs.declared.result.Result.{Result}
 use Rattle.std.specs.declared.result.Result.TheVariants.{Ok, Err}
 use Rattle.typed_values.specs.declared.fault.Misfit.{Misfit}
@@ -20,6 +20,13 @@ abbrev pub Tells : {T : Type 0} → Result T Stop → Result T Trouble → Type 
 Tells (Ok tree) told = told ≡ Ok tree
 Tells (Err (stop.Misfit misfit)) told = told ≡ Err (trouble misfit)
 Tells (Err stop.OutOfMemory) told = ⊤
+
+-- what is told of a part stands behind the parts before it, unless it is a fault, which is the answer, or memory runs out
+abbrev pub Pushes : {T U : Type 0} → Result T Stop → Result U Stop → List T → List T → Type 0
+Pushes (Ok part) (Ok done) old new = new ≡ old ++ part ∷ []
+Pushes (Ok part) (Err end) old new = end ≡ stop.OutOfMemory
+Pushes (Err fault) (Ok done) old new = ⊥
+Pushes (Err fault) (Err end) old new = end ≡ fault
 
 -- what is told is this fault
 abbrev pub IsFaultOf : Told → Fault → Type 0

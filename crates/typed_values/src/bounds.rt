@@ -33,32 +33,32 @@ pub(crate) fn greatest_of(kind: IntKind) -> i128
     }
 }
 
-fn is_at_least(min: &Option<i128>, number: i128) -> bool
-    ensures { result ≡ bounds.is_at_least min.now number }
+fn is_at_least(min: Option<i128>, number: i128) -> bool
+    ensures { result ≡ bounds.is_at_least min number }
 {
     match min {
-        Some(least) => *least <= number,
+        Some(least) => least <= number,
         None => true,
     }
 }
 
-fn is_at_most(max: &Option<i128>, number: i128) -> bool
-    ensures { result ≡ bounds.is_at_most max.now number }
+fn is_at_most(max: Option<i128>, number: i128) -> bool
+    ensures { result ≡ bounds.is_at_most max number }
 {
     match max {
-        Some(greatest) => number <= *greatest,
+        Some(greatest) => number <= greatest,
         None => true,
     }
 }
 
 /// Whether a number is one of the kind, within the bounds.
-pub fn is_number_of(kind: IntKind, min: &Option<i128>, max: &Option<i128>, number: &i128) -> bool
-    ensures { result ≡ bounds.is_number_of kind min.now max.now number.now }
+pub fn is_number_of(kind: IntKind, min: Option<i128>, max: Option<i128>, number: i128) -> bool
+    ensures { result ≡ bounds.is_number_of kind min max number }
 {
-    least_of(kind) <= *number
-        && *number <= greatest_of(kind)
-        && is_at_least(min, *number)
-        && is_at_most(max, *number)
+    least_of(kind) <= number
+        && number <= greatest_of(kind)
+        && is_at_least(min, number)
+        && is_at_most(max, number)
 }
 
 fn is_long_enough(min: Option<u32>, length: usize) -> bool

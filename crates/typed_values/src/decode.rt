@@ -1,17 +1,17 @@
-ghost use Rattle.std.specs.Prelude.{◌≤◌, length, IfOk, IfErr};
+ghost use Rattle.std.specs.Prelude.{◌≡◌, ◌≤◌, ◌<◌, ◌^◌, length, IfOk, IfErr, MatchOption};
 ghost use Rattle.std.specs.Option.{option_copied};
 ghost use Rattle.schema_values.specs.Sound.{IsSound};
 ghost use Rattle.schema_values.specs.declared.json_value.Json.{out-Json};
 ghost use Rattle.typed_values.specs.declared.fault.Place.TheVariants.{Item, Name};
 ghost use Rattle.descriptors.specs.declared.tree.Tree.{Tree};
-ghost use Rattle.typed_values.specs.Answer.{Tells, IfFault, IsFaultOf};
+ghost use Rattle.typed_values.specs.Answer.{Tells, Pushes, IfFault, IsFaultOf};
 ghost use Rattle.typed_values.specs.Checks.{TablePasses, DescPasses};
 ghost use Rattle.typed_values.specs.Denotes as denotes;
 ghost use Rattle.typed_values.specs.Denotes.{JsonDenotes, Told, told, below, as_pair, as_tree};
-ghost use Rattle.typed_values.specs.Denotes.{first_told, if_absent, if_present, optional};
+ghost use Rattle.typed_values.specs.Denotes.{first_told, if_absent, if_present, optional, or_else};
 ghost use Rattle.typed_values.specs.Fits.{Fits};
 ghost use Rattle.typed_values.specs.Parts.{IsPart};
-ghost use Rattle.typed_values.specs.Rows.{told_field, told_fields};
+ghost use Rattle.typed_values.specs.Rows.{told_entry, told_field, told_fields};
 ghost use Rattle.typed_values.specs.Rows.{list_row, map_row, struct_row, AreFieldsOf, AreParts};
 
 use crate::bounds::is_length_within;
@@ -68,6 +68,14 @@ fn item_at(place: usize, answer: Result<Tree, Stop>) -> Result<Tree, Stop>
     }
 }
 
+/// Puts what is told of a part behind the others, unless it is a fault.
+fn push<T: Drop>(parts: &mut List<T>, answer: Result<T, Stop>) -> Result<(), Stop>
+    ensures { Pushes answer result parts.old parts.new }
+{
+    parts.push(answer?)?;
+    Ok(())
+}
+
 /// What a field that is there gives.
 fn present(alloc: Global, field: &Field, answer: Result<Tree, Stop>) -> Result<Tree, Stop>
     ensures { (told : Told) → Tells answer told
@@ -108,6 +116,19 @@ fn unless_denied(
     }
 }
 
+/// What the alternative at a place settles: nothing where it does not take the value.
+fn settled(alloc: Global, place: usize, answer: Result<Tree, Stop>) -> Option<Result<Tree, Stop>>
+    requires { place < 2 ^ 32 }
+    ensures { (told rest : Told) → Tells answer told → MatchOption result
+        (or_else place told rest ≡ rest) (λ settled. Tells settled (or_else place told rest)) }
+{
+    match answer {
+        Ok(tree) => Some(variant(alloc, place, tree)),
+        Err(Stop::Misfit(_misfit)) => None,
+        Err(Stop::OutOfMemory) => Some(Err(Stop::OutOfMemory)),
+    }
+}
+
 impl Decoder<'_> {
     /// Decodes a value under a descriptor that stands in the table or in the whole descriptor.
     #[cycle(decode)]
@@ -121,7 +142,7 @@ impl Decoder<'_> {
             Desc::Null => decode_null(alloc, json),
             Desc::Bool => decode_bool(alloc, json),
             Desc::Char => decode_char(alloc, json),
-            Desc::Int { kind, min, max } => decode_int(alloc, *kind, min, max, json),
+            Desc::Int { kind, min, max } => decode_int(alloc, *kind, *min, *max, json),
             Desc::Text { min, max, .. } => decode_text(alloc, *min, *max, json),
             Desc::Enumeration { names } => decode_name(alloc, names.as_slice(), json),
             Desc::Option(inner) => self.decode_option(alloc, inner.get(), json),
@@ -183,7 +204,7 @@ impl Decoder<'_> {
         }
         let mut trees = List::new(alloc);
         for (i, json) in items.iter().enumerate() {
-            trees.push(item_at(i, self.decode_at(alloc, item, json))?)?;
+            push(&mut trees, item_at(i, self.decode_at(alloc, item, json)))?;
         }
         Ok(Tree::List(trees))
     }
@@ -202,10 +223,20 @@ impl Decoder<'_> {
         let ordered = in_order(alloc, members)?;
         let mut pairs = List::new(alloc);
         for member in ordered.iter() {
-            let key = member.name.copy(alloc)?;
-            pairs.push(pair(key, self.decode_at(alloc, value, &member.value))?)?;
+            push(&mut pairs, self.decode_entry(alloc, value, member))?;
         }
         Ok(Tree::Map(pairs))
+    }
+
+    /// Decodes the value of a member of a map, under its name.
+    #[cycle(decode)]
+    fn decode_entry(&self, alloc: Global, value: &Desc, member: &Member) -> Result<Pair, Stop>
+        requires { IsPart self.now.table.now self.now.whole.now value.now }
+        ensures { Tells result
+            (told_entry self.now.table.now self.now.whole.now value.now member.now) }
+    {
+        let key = member.name.copy(alloc)?;
+        pair(key, self.decode_at(alloc, value, &member.value))
     }
 
     /// Decodes the fields of a struct, and then looks for unknown names where they are denied.
@@ -243,7 +274,7 @@ impl Decoder<'_> {
     {
         let mut trees = List::new(alloc);
         for field in fields {
-            trees.push(self.decode_field(alloc, field, members)?)?;
+            push(&mut trees, self.decode_field(alloc, field, members))?;
         }
         Ok(Tree::Fields(trees))
     }
@@ -275,10 +306,8 @@ impl Decoder<'_> {
             (first_told 0 (told self.now.table.now self.now.whole.now json.now) alternatives.now) }
     {
         for (i, alternative) in alternatives.iter().enumerate() {
-            match self.decode_at(alloc, alternative, json) {
-                Ok(tree) => return variant(alloc, i, tree),
-                Err(Stop::Misfit(_)) => {}
-                Err(Stop::OutOfMemory) => return Err(Stop::OutOfMemory),
+            if let Some(answer) = settled(alloc, i, self.decode_at(alloc, alternative, json)) {
+                return answer;
             }
         }
         Err(Stop::refused(alloc, FaultKind::NoAlternative))

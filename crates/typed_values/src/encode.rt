@@ -1,4 +1,4 @@
-ghost use Rattle.std.specs.Prelude.{◌≡◌, ◌∷◌, ◌++◌, [], IfOk, OnOk};
+ghost use Rattle.std.specs.Prelude.{◌≡◌, ◌∷◌, ◌++◌, [], IfOk, IsOkAnd, OnOk};
 ghost use Rattle.schema_values.specs.Member.{member};
 ghost use Rattle.schema_values.specs.Sound.{IsSound};
 ghost use Rattle.descriptors.specs.declared.tree.Tree.{Tree, out-Tree};
@@ -99,15 +99,24 @@ fn is_none(tree: &Tree) -> bool
     }
 }
 
-/// Puts a member behind others.
-pub(crate) fn push_member(
+/// Puts an item behind others, where it is written.
+fn push_item(items: &mut List<Json>, item: Result<Json, AllocError>) -> Result<(), AllocError>
+    ensures { OnOk result (IsOkAnd item (λ item. items.new ≡ items.old ++ item ∷ [])) }
+{
+    items.push(item?)
+}
+
+/// Puts a member behind others, where its value is written.
+fn push_member(
     alloc: Global,
     members: &mut List<Member>,
     name: &Text,
-    value: Json,
+    value: Result<Json, AllocError>,
 ) -> Result<(), AllocError>
-    ensures { OnOk result (members.new ≡ members.old ++ member name.now value ∷ []) }
+    ensures { OnOk result (IsOkAnd value (λ value.
+        members.new ≡ members.old ++ member name.now value ∷ [])) }
 {
+    let value = value?;
     let name = name.copy(alloc)?;
     members.push(Member { name, value })
 }
@@ -173,7 +182,7 @@ impl Scope<'_> {
         };
         let mut items = List::new(alloc);
         for tree in trees.as_slice() {
-            items.push(self.encode_at(alloc, item, tree)?)?;
+            push_item(&mut items, self.encode_at(alloc, item, tree))?;
         }
         Ok(Json::List(items))
     }
@@ -189,7 +198,7 @@ impl Scope<'_> {
         };
         let mut members = List::new(alloc);
         for pair in pairs.as_slice() {
-            let value = self.encode_at(alloc, value, &pair.value)?;
+            let value = self.encode_at(alloc, value, &pair.value);
             push_member(alloc, &mut members, &pair.key, value)?;
         }
         Ok(Json::Object(members))
@@ -231,7 +240,7 @@ impl Scope<'_> {
     {
         for (field, tree) in fields.iter().zip(trees) {
             if !is_left_out(&field.presence, tree) {
-                let value = self.encode_field(alloc, field, tree)?;
+                let value = self.encode_field(alloc, field, tree);
                 push_member(alloc, &mut members, &field.name, value)?;
             }
         }

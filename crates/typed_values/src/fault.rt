@@ -111,6 +111,18 @@ pub enum DecodeError {
     OutOfMemory,
 }
 
+impl DecodeError {
+    /// An error equal to this one.
+    pub fn copy(&self, alloc: Global) -> Result<DecodeError, AllocError>
+        ensures { IfOk result (λ copy. copy ≡ self.now) }
+    {
+        match self {
+            DecodeError::Fault(fault) => Ok(DecodeError::Fault(fault.copy(alloc)?)),
+            DecodeError::OutOfMemory => Ok(DecodeError::OutOfMemory),
+        }
+    }
+}
+
 impl From<AllocError> for DecodeError {
     ghost use Rattle.std.specs.Prelude.{◌≡◌};
     ghost use Rattle.typed_values.specs.declared.fault.DecodeError.TheVariants.{OutOfMemory};
@@ -131,6 +143,28 @@ pub enum Place {
     Item(usize),
 }
 
+impl Place {
+    /// A place equal to this one.
+    pub fn copy(&self, alloc: Global) -> Result<Place, AllocError>
+        ensures { IfOk result (λ copy. copy ≡ self.now) }
+    {
+        match self {
+            Place::Name(name) => Ok(Place::Name(name.copy(alloc)?)),
+            Place::Item(place) => Ok(Place::Item(*place)),
+        }
+    }
+}
+
+fn copy_places(alloc: Global, places: &[Place]) -> Result<List<Place>, AllocError>
+    ensures { IfOk result (λ copies. copies ≡ places.now) }
+{
+    let mut copies = List::new(alloc);
+    for place in places {
+        copies.push(place.copy(alloc)?)?;
+    }
+    Ok(copies)
+}
+
 /// A fault on the way out.
 #[derive(Drop)]
 pub struct Misfit {
@@ -140,6 +174,18 @@ pub struct Misfit {
     pub places: List<Place>,
 }
 
+impl Misfit {
+    /// A fault equal to this one, on the same way.
+    pub fn copy(&self, alloc: Global) -> Result<Misfit, AllocError>
+        ensures { IfOk result (λ copy. copy ≡ self.now) }
+    {
+        Ok(Misfit {
+            kind: self.kind.copy(alloc)?,
+            places: copy_places(alloc, self.places.as_slice())?,
+        })
+    }
+}
+
 /// Why decoding stops.
 #[derive(Drop)]
 pub enum Stop {
@@ -147,6 +193,18 @@ pub enum Stop {
     Misfit(Misfit),
     /// There was not enough memory.
     OutOfMemory,
+}
+
+impl Stop {
+    /// A cause equal to this one.
+    pub fn copy(&self, alloc: Global) -> Result<Stop, AllocError>
+        ensures { IfOk result (λ copy. copy ≡ self.now) }
+    {
+        match self {
+            Stop::Misfit(misfit) => Ok(Stop::Misfit(misfit.copy(alloc)?)),
+            Stop::OutOfMemory => Ok(Stop::OutOfMemory),
+        }
+    }
 }
 
 impl From<AllocError> for Stop {

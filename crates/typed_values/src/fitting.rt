@@ -60,11 +60,11 @@ fn truth_fits(tree: &Tree) -> bool
     matches!(tree, Tree::Bool(_))
 }
 
-fn number_fits(kind: IntKind, min: &Option<i128>, max: &Option<i128>, tree: &Tree) -> bool
-    ensures { result ≡ meant.number_fits kind min.now max.now (out-Tree tree.now) }
+fn number_fits(kind: IntKind, min: Option<i128>, max: Option<i128>, tree: &Tree) -> bool
+    ensures { result ≡ meant.number_fits kind min max (out-Tree tree.now) }
 {
     match tree {
-        Tree::Int(number) => is_number_of(kind, min, max, number),
+        Tree::Int(number) => is_number_of(kind, min, max, *number),
         _ => false,
     }
 }
@@ -101,7 +101,7 @@ impl Scope<'_> {
             Desc::Null => nought_fits(tree),
             Desc::Bool => truth_fits(tree),
             Desc::Char => character_fits(tree),
-            Desc::Int { kind, min, max } => number_fits(*kind, min, max, tree),
+            Desc::Int { kind, min, max } => number_fits(*kind, *min, *max, tree),
             Desc::Text { min, max, .. } => words_fit(*min, *max, tree),
             Desc::Enumeration { names } => self.name_fits(names.as_slice(), tree),
             Desc::Option(inner) => self.option_fits(inner.get(), tree),

@@ -17,7 +17,7 @@ use Rattle.descriptors.specs.declared.tree.Tree.{Tree, List as Items, Map as Ent
 use Rattle.typed_values.specs.Answer.{Tells}
 use Rattle.typed_values.specs.Bounds.{is_length_within}
 use Rattle.descriptors.specs.Definitions.{tagged_fields, tagged_name, variant_name}
-use Rattle.typed_values.specs.Denotes.{Told, below, chosen, told, all_told, as_tree, member_name, refused, where_found}
+use Rattle.typed_values.specs.Denotes.{Told, below, chosen, told, all_told, as_tree, first_told, member_name, refused, where_found}
 use Rattle.typed_values.specs.Faults.{Trouble}
 use Rattle.schema_values.specs.Order.{sorted_by}
 use Rattle.typed_values.specs.Parts.{IsPart}
@@ -25,8 +25,8 @@ use Rattle.typed_values.specs.Rows.{told_item, told_entry, told_field, told_fiel
 use Rattle.typed_values.proofs.Arms.{row_any, row_never, row_nought, row_bool, row_char, row_int, row_text, row_enumeration, row_option, row_list, row_map, row_struct, row_external, row_tagged, row_untagged, row_ref, definition_is_part, payload_at, list_at, map_at, at_tag_text}
 use Rattle.typed_values.proofs.Inside.{part_of_option, part_of_list, part_of_map, parts_of_untagged, fields_of_struct, payloads_of_external, variants_of_tagged, few_names, few_variants, few_tagged, few_alternatives}
 use Rattle.typed_values.proofs.Listed.{place_below, found_inside}
-use Rattle.typed_values.proofs.Loops.{after, all_step, all_err, all_end, items_within}
-use Rattle.typed_values.proofs.JsonSizes.{list_size, item_smaller, member_greater, member_at_most, entry_smaller, value_smaller, members-lt-alone}
+use Rattle.typed_values.proofs.Loops.{after, all_step, all_err, all_end, items_within, next_first, pushed, not_pushed, unsettled}
+use Rattle.typed_values.proofs.JsonSizes.{list_size, item_smaller, member_greater, member_at_most, entry_at_most, value_smaller, members-lt-alone}
 use Rattle.typed_values.proofs.Measure.{option-lt, ref-lt, choice-lt-at, at-lt-choice, alone-lt-at, at-lt-alone, alone-le-alone, size_alone}
 use Rattle.typed_values.proofs.Places.{taken_behind}
 use Rattle.typed_values.proofs.scope.Decoder.+decode.Goals as goal
@@ -51,26 +51,26 @@ pub decode_at-returns-in-Never : goal.decode_at-returns-in-Never
 decode_at-returns-in-Never t c = rw (row_never _ _ c.args.json.now c.args.desc.now (c.args.self.now.all_rest _ c.requires) c.in-Never.is) c.refused.ensures.told
 
 pub decode_at-returns-in-Null : goal.decode_at-returns-in-Null
-decode_at-returns-in-Null t c = rw (row_nought _ _ c.args.json.now c.args.desc.now (c.args.self.now.all_rest _ c.requires) c.in-Null.is) c.decode_null.ensures
+decode_at-returns-in-Null t c = rw (row_nought _ _ c.args.json.now c.args.desc.now (c.args.self.now.all_rest _ c.requires) c.in-Null.is) c.decode_null.ensures.told
 
 pub decode_at-returns-in-Char : goal.decode_at-returns-in-Char
-decode_at-returns-in-Char t c = rw (row_char _ _ c.args.json.now c.args.desc.now (c.args.self.now.all_rest _ c.requires) c.in-Char.is) c.decode_char.ensures
+decode_at-returns-in-Char t c = rw (row_char _ _ c.args.json.now c.args.desc.now (c.args.self.now.all_rest _ c.requires) c.in-Char.is) c.decode_char.ensures.told
 
 pub decode_at-decode_name-requires : goal.decode_at-decode_name-requires
 decode_at-decode_name-requires t c = rw c.as_slice.ensures (record { few = few_names c.requires c.args.self.now.ranged c.in-Enumeration.names c.in-Enumeration.is })
 
 pub decode_at-returns-in-Enumeration : goal.decode_at-returns-in-Enumeration
 decode_at-returns-in-Enumeration t c =
-    rw (row_enumeration _ _ c.args.json.now c.args.desc.now (c.args.self.now.all_rest _ c.requires) c.in-Enumeration.names c.in-Enumeration.is, ← c.as_slice.ensures) c.decode_name.ensures
+    rw (row_enumeration _ _ c.args.json.now c.args.desc.now (c.args.self.now.all_rest _ c.requires) c.in-Enumeration.names c.in-Enumeration.is, ← c.as_slice.ensures) c.decode_name.ensures.told
 
 pub decode_at-returns-in-Bool : goal.decode_at-returns-in-Bool
-decode_at-returns-in-Bool t c = rw (row_bool _ _ c.args.json.now c.args.desc.now (c.args.self.now.all_rest _ c.requires) c.in-Bool.is) c.decode_bool.ensures
+decode_at-returns-in-Bool t c = rw (row_bool _ _ c.args.json.now c.args.desc.now (c.args.self.now.all_rest _ c.requires) c.in-Bool.is) c.decode_bool.ensures.told
 
 pub decode_at-returns-in-Int : goal.decode_at-returns-in-Int
-decode_at-returns-in-Int t c = rw (row_int _ _ c.args.json.now c.args.desc.now (c.args.self.now.all_rest _ c.requires) c.in-Int.kind c.in-Int.min c.in-Int.max c.in-Int.is) c.decode_int.ensures
+decode_at-returns-in-Int t c = rw (row_int _ _ c.args.json.now c.args.desc.now (c.args.self.now.all_rest _ c.requires) c.in-Int.kind c.in-Int.min c.in-Int.max c.in-Int.is) c.decode_int.ensures.told
 
 pub decode_at-returns-in-Text : goal.decode_at-returns-in-Text
-decode_at-returns-in-Text t c = rw (row_text _ _ c.args.json.now c.args.desc.now (c.args.self.now.all_rest _ c.requires) c.in-Text.min c.in-Text.max _ c.in-Text.is) c.decode_text.ensures
+decode_at-returns-in-Text t c = rw (row_text _ _ c.args.json.now c.args.desc.now (c.args.self.now.all_rest _ c.requires) c.in-Text.min c.in-Text.max _ c.in-Text.is) c.decode_text.ensures.told
 
 pub decode_at-decode_list-requires : goal.decode_at-decode_list-requires
 decode_at-decode_list-requires t c =
@@ -152,34 +152,36 @@ decode_struct-decode_fields-requires t c =
     let less = members-lt-alone c.args.self.now.table.now c.args.self.now.whole.now c.args.json.now c.in-Object.members c.in-Object.is in
     rw (c.in_ok-members.ensures, c.as_slice.ensures) (omega (arith, c.decreases, less), c.requires)
 
-pub decode_map-decode_at-requires : goal.decode_map-decode_at-requires
-decode_map-decode_at-requires t c =
-    let ms = sorted_by member_name c.as_slice-members.result.now in
+pub decode_map-decode_entry-requires : goal.decode_map-decode_entry-requires
+decode_map-decode_entry-requires t c =
+    let m = c.member-item.result.now in
+    let ms = c.as_slice-members.result.now in
     let same = ap lent c.deref-member-items.ensures.value ∙ c.in_ok-ordered.ensures in
-    let at = taken_behind (λ member. member.now) c.deref-member-items.result.now ms same c.loop-member.member-index c.member-item.result (omega arith) c.member-item.is in
-    let smaller = entry_smaller c.args.json.now c.in-Object.object c.as_slice-members.result.now c.in-Object.is c.as_slice-members.ensures c.loop-member.member-index c.member-item.result.now at.0 at.1 in
-    let less = at-lt-alone c.args.self.now.table.now c.args.self.now.whole.now (size-Json c.member-item.result.now.value) (size-Json c.args.json.now) c.args.value.now smaller in
-    (omega (arith, c.decreases, less), c.requires)
+    let at = taken_behind (λ member. member.now) c.deref-member-items.result.now (sorted_by member_name ms) same c.loop-member.member-index c.member-item.result (omega arith) c.member-item.is in
+    let inner = members-lt-alone c.args.self.now.table.now c.args.self.now.whole.now c.args.json.now c.in-Object.object c.in-Object.is in
+    let here = subst (λ (ns : List Member). size-Member m ≤ most size-Member ns) c.as_slice-members.ensures (entry_at_most ms c.loop-member.member-index m at.0 at.1) in
+    let less = alone-le-alone c.args.self.now.table.now c.args.self.now.whole.now (size-Member m) (most size-Member c.in-Object.object) here in
+    (omega (arith, c.decreases, inner, less), c.requires)
 
-pub decode_map-returns-in_err-pair : goal.decode_map-returns-in_err-pair
-decode_map-returns-in_err-pair t c =
+pub decode_map-returns-in_err-push : goal.decode_map-returns-in_err-push
+decode_map-returns-in_err-push t c =
     let ms = lent c.deref-member-items.result.now in
     let f : ℕ → Member → Result Pair Trouble = λ i m. told_entry c.args.self.now.table.now c.args.self.now.whole.now c.args.value.now m in
     let at = taken_behind (λ member. member.now) c.deref-member-items.result.now ms refl c.loop-member.member-index c.member-item.result (omega arith) c.member-item.is in
     let same : ms ≡ sorted_by member_name c.as_slice-members.result.now = ap lent c.deref-member-items.ensures.value ∙ c.in_ok-ordered.ensures in
     let row = map_at c.args.self.now.table.now c.args.self.now.whole.now c.args.value.now c.args.json.now c.in-Object.object c.as_slice-members.result.now c.in-Object.is c.as_slice-members.ensures ∙ ap (λ (xs : List Member). as_tree Entries (all_told f 0 xs)) (sym same) in
-    let bad = rw c.in_ok-key.ensures at (c.in_err-pair.ensures (told c.args.self.now.table.now c.args.self.now.whole.now c.member-item.result.now.value c.args.value.now) c.decode_at.ensures) in
-    let p = err_from_is_err_and c.from_residual-in_err-pair.result c.from_residual-in_err-pair.ensures.1 in
-    rw (row, p.1, p.2) (all_err f (all_told f 0 ms) ms c.loop-member.member-index c.loop-member.pairs c.loop-member.invariant (as_tree Entries) (λ k. refl) c.member-item.result.now c.in_err-pair.field-0.0 at.0 at.1 bad)
+    let bad = not_pushed _ c.in_err-push.field-0.0 _ _ _ c.in_err-push.ensures c.decode_entry.ensures in
+    let p = err_from_is_err_and c.from_residual-in_err-push.result c.from_residual-in_err-push.ensures.1 in
+    rw (row, p.1, p.2) (all_err f (all_told f 0 ms) ms c.loop-member.member-index c.loop-member.pairs c.loop-member.invariant (as_tree Entries) (λ k. refl) c.member-item.result.now c.in_err-push.field-0.0 at.0 at.1 bad)
 
 pub decode_map-loop-member-preserved : goal.decode_map-loop-member-preserved
 decode_map-loop-member-preserved t c =
     let ms = lent c.deref-member-items.result.now in
     let f : ℕ → Member → Result Pair Trouble = λ i m. told_entry c.args.self.now.table.now c.args.self.now.whole.now c.args.value.now m in
     let at = taken_behind (λ member. member.now) c.deref-member-items.result.now ms refl c.loop-member.member-index c.member-item.result (omega arith) c.member-item.is in
-    let good = rw c.in_ok-key.ensures at (c.in_ok-pair.ensures (told c.args.self.now.table.now c.args.self.now.whole.now c.member-item.result.now.value c.args.value.now) c.decode_at.ensures) in
-    all_step f (all_told f 0 ms) ms c.loop-member.member-index c.loop-member.pairs c.loop-member.invariant c.member-item.result.now _ at.0 at.1 good
-    ∙ ap (λ (ps : List Pair). after ps (all_told f (c.loop-member.member-index + 1) (drop (c.loop-member.member-index + 1) ms))) (sym c.in_ok-push.ensures.ok)
+    let put = pushed _ _ _ _ _ c.in_ok-push.ensures c.decode_entry.ensures in
+    all_step f (all_told f 0 ms) ms c.loop-member.member-index c.loop-member.pairs c.loop-member.invariant c.member-item.result.now put.0 at.0 at.1 put.1
+    ∙ ap (λ (ps : List Pair). after ps (all_told f (c.loop-member.member-index + 1) (drop (c.loop-member.member-index + 1) ms))) (sym put.2)
 
 pub decode_map-returns : goal.decode_map-returns
 decode_map-returns t c =
@@ -190,6 +192,15 @@ decode_map-returns t c =
     let n : length ms ≡ length c.deref-member-items.result.now = length-map c.deref-member-items.result.now (λ member. member.now) in
     row ∙ ap (as_tree Entries) (all_end f (all_told f 0 ms) ms c.loop-member.member-index c.loop-member.pairs c.loop-member.invariant (omega (arith, n)))
 
+pub decode_entry-decode_at-requires : goal.decode_entry-decode_at-requires
+decode_entry-decode_at-requires t c =
+    let less = at-lt-alone c.args.self.now.table.now c.args.self.now.whole.now (size-Json c.args.member.now.value) (size-Member c.args.member.now) c.args.value.now (member_greater c.args.member.now) in
+    (omega (arith, c.decreases, less), c.requires)
+
+pub decode_entry-returns : goal.decode_entry-returns
+decode_entry-returns t c =
+    rw c.in_ok-key.ensures at (c.pair.ensures (told c.args.self.now.table.now c.args.self.now.whole.now c.args.member.now.value c.args.value.now) c.decode_at.ensures)
+
 pub decode_field-decode_at-requires : goal.decode_field-decode_at-requires
 decode_field-decode_at-requires t c =
     let less = at-lt-alone c.args.self.now.table.now c.args.self.now.whole.now (size-Json c.in-Some.json.now) (most size-Member c.args.members.now.items.now) c.args.field.now.desc (value_smaller c.args.members.now.items.now c.args.field.now.name c.in-Some.json.now (sym c.in-Some.ensures)) in
@@ -199,19 +210,21 @@ pub decode_fields-decode_field-requires : goal.decode_fields-decode_field-requir
 decode_fields-decode_field-requires t c =
     (omega (arith, c.decreases), c.requires c.field-item.result (c.loop-field.field-index, omega arith, sym c.field-item.is))
 
-pub decode_fields-returns-in_err-decode_field : goal.decode_fields-returns-in_err-decode_field
-decode_fields-returns-in_err-decode_field t c =
+pub decode_fields-returns-in_err-push : goal.decode_fields-returns-in_err-push
+decode_fields-returns-in_err-push t c =
     let fs = c.args.fields.now in
     let f : ℕ → Field → Told = λ i x. told_field c.args.self.now.table.now c.args.self.now.whole.now c.args.members.now.items.now x in
+    let bad = not_pushed _ c.in_err-push.field-0.0 _ _ _ c.in_err-push.ensures c.decode_field.ensures in
     let p = err_from_is_err_and c.from_residual.result c.from_residual.ensures.1 in
-    rw (p.1, p.2) (all_err f (all_told f 0 fs) fs c.loop-field.field-index c.loop-field.trees c.loop-field.invariant (as_tree Parts) (λ k. refl) c.field-item.result c.in_err-decode_field.field-0.0 (omega arith) c.field-item.is c.in_err-decode_field.ensures)
+    rw (p.1, p.2) (all_err f (all_told f 0 fs) fs c.loop-field.field-index c.loop-field.trees c.loop-field.invariant (as_tree Parts) (λ k. refl) c.field-item.result c.in_err-push.field-0.0 (omega arith) c.field-item.is bad)
 
 pub decode_fields-loop-field-preserved : goal.decode_fields-loop-field-preserved
 decode_fields-loop-field-preserved t c =
     let fs = c.args.fields.now in
     let f : ℕ → Field → Told = λ i x. told_field c.args.self.now.table.now c.args.self.now.whole.now c.args.members.now.items.now x in
-    all_step f (all_told f 0 fs) fs c.loop-field.field-index c.loop-field.trees c.loop-field.invariant c.field-item.result _ (omega arith) c.field-item.is c.in_ok-decode_field.ensures
-    ∙ ap (λ (ts : List Tree). after ts (all_told f (c.loop-field.field-index + 1) (drop (c.loop-field.field-index + 1) fs))) (sym c.in_ok-push.ensures.ok)
+    let put = pushed _ _ _ _ _ c.in_ok-push.ensures c.decode_field.ensures in
+    all_step f (all_told f 0 fs) fs c.loop-field.field-index c.loop-field.trees c.loop-field.invariant c.field-item.result put.0 (omega arith) c.field-item.is put.1
+    ∙ ap (λ (ts : List Tree). after ts (all_told f (c.loop-field.field-index + 1) (drop (c.loop-field.field-index + 1) fs))) (sym put.2)
 
 pub decode_fields-returns : goal.decode_fields-returns
 decode_fields-returns t c =
@@ -227,23 +240,25 @@ decode_list-decode_at-requires t c =
     let less = at-lt-alone c.args.self.now.table.now c.args.self.now.whole.now (size-Json c.index-items-i.result) (size-Json c.args.json.now) c.args.item.now (omega (arith, size, smaller)) in
     (omega (arith, c.decreases, less), c.requires)
 
-pub decode_list-returns-in_err-item_at : goal.decode_list-returns-in_err-item_at
-decode_list-returns-in_err-item_at t c =
+pub decode_list-returns-in_err-push : goal.decode_list-returns-in_err-push
+decode_list-returns-in_err-push t c =
     let js = c.as_slice-items.result.now in
     let f : ℕ → Json → Told = told_item c.args.self.now.table.now c.args.self.now.whole.now c.args.item.now in
     let within : is_length_within c.args.min c.args.max (length js) ≡ true = cc in
     let row = list_at c.args.self.now.table.now c.args.self.now.whole.now c.args.item.now c.args.min c.args.max c.args.json.now c.in-List.list js c.in-List.is c.as_slice-items.ensures ∙ items_within f c.args.min c.args.max js within in
-    let bad = c.in_err-item_at.ensures (told c.args.self.now.table.now c.args.self.now.whole.now c.index-items-i.result c.args.item.now) c.decode_at.ensures in
+    let item = c.item_at.ensures (told c.args.self.now.table.now c.args.self.now.whole.now c.index-items-i.result c.args.item.now) c.decode_at.ensures in
+    let bad = not_pushed _ c.in_err-push.field-0.0 _ _ _ c.in_err-push.ensures item in
     let p = err_from_is_err_and c.from_residual.result c.from_residual.ensures.1 in
-    rw (row, p.1, p.2) (all_err f (all_told f 0 js) js c.loop-i.i c.loop-i.trees c.loop-i.invariant (as_tree Items) (λ k. refl) c.index-items-i.result c.in_err-item_at.field-0.0 (omega arith) c.index-items-i.is bad)
+    rw (row, p.1, p.2) (all_err f (all_told f 0 js) js c.loop-i.i c.loop-i.trees c.loop-i.invariant (as_tree Items) (λ k. refl) c.index-items-i.result c.in_err-push.field-0.0 (omega arith) c.index-items-i.is bad)
 
 pub decode_list-loop-i-preserved : goal.decode_list-loop-i-preserved
 decode_list-loop-i-preserved t c =
     let js = c.as_slice-items.result.now in
     let f : ℕ → Json → Told = told_item c.args.self.now.table.now c.args.self.now.whole.now c.args.item.now in
-    let good = c.in_ok-item_at.ensures (told c.args.self.now.table.now c.args.self.now.whole.now c.index-items-i.result c.args.item.now) c.decode_at.ensures in
-    all_step f (all_told f 0 js) js c.loop-i.i c.loop-i.trees c.loop-i.invariant c.index-items-i.result _ (omega arith) c.index-items-i.is good
-    ∙ ap (λ (ts : List Tree). after ts (all_told f (c.loop-i.i + 1) (drop (c.loop-i.i + 1) js))) (sym c.in_ok-push.ensures.ok)
+    let item = c.item_at.ensures (told c.args.self.now.table.now c.args.self.now.whole.now c.index-items-i.result c.args.item.now) c.decode_at.ensures in
+    let put = pushed _ _ _ _ _ c.in_ok-push.ensures item in
+    all_step f (all_told f 0 js) js c.loop-i.i c.loop-i.trees c.loop-i.invariant c.index-items-i.result put.0 (omega arith) c.index-items-i.is put.1
+    ∙ ap (λ (ts : List Tree). after ts (all_told f (c.loop-i.i + 1) (drop (c.loop-i.i + 1) js))) (sym put.2)
 
 pub decode_list-returns : goal.decode_list-returns
 decode_list-returns t c =
@@ -257,6 +272,22 @@ pub decode_untagged-decode_at-requires : goal.decode_untagged-decode_at-requires
 decode_untagged-decode_at-requires t c =
     let less = at-lt-choice c.args.self.now.table.now c.args.self.now.whole.now (size-Json c.args.json.now) c.args.alternatives.now c.loop-i.i c.index-alternatives-i.result (omega arith) c.index-alternatives-i.is in
     (omega (arith, c.decreases, less), c.requires.parts c.index-alternatives-i.result (c.loop-i.i, omega arith, sym c.index-alternatives-i.is))
+
+pub decode_untagged-returns-in-Some : goal.decode_untagged-returns-in-Some
+decode_untagged-returns-in-Some t c =
+    let f = told c.args.self.now.table.now c.args.self.now.whole.now c.args.json.now in
+    let ds = c.args.alternatives.now in
+    let d = c.index-alternatives-i.result in
+    let next = next_first f (first_told 0 f ds) ds c.loop-i.i c.loop-i.invariant d (omega arith) c.index-alternatives-i.is in
+    rw next (c.in-Some.ensures (f d) (first_told (c.loop-i.i + 1) f (drop (c.loop-i.i + 1) ds)) c.decode_at.ensures)
+
+pub decode_untagged-loop-i-preserved : goal.decode_untagged-loop-i-preserved
+decode_untagged-loop-i-preserved t c =
+    let f = told c.args.self.now.table.now c.args.self.now.whole.now c.args.json.now in
+    let ds = c.args.alternatives.now in
+    let d = c.index-alternatives-i.result in
+    next_first f (first_told 0 f ds) ds c.loop-i.i c.loop-i.invariant d (omega arith) c.index-alternatives-i.is
+    ∙ unsettled _ c.settled.result c.in_default.not-Some (c.settled.ensures (f d) (first_told (c.loop-i.i + 1) f (drop (c.loop-i.i + 1) ds)) c.decode_at.ensures)
 
 pub decode_external-decode_payload-requires : goal.decode_external-decode_payload-requires
 decode_external-decode_payload-requires t c =

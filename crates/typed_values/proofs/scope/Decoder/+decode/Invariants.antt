@@ -23,6 +23,9 @@ decreases-decode_list l = size_alone l.self.now.table.now l.self.now.whole.now (
 abbrev pub decreases-decode_map : goal.decreases-decode_map
 decreases-decode_map l = size_alone l.self.now.table.now l.self.now.whole.now (size-Json l.json.now)
 
+abbrev pub decreases-decode_entry : goal.decreases-decode_entry
+decreases-decode_entry l = size_alone l.self.now.table.now l.self.now.whole.now (size-Member l.member.now)
+
 abbrev pub decreases-decode_struct : goal.decreases-decode_struct
 decreases-decode_struct l = suc (size_alone l.self.now.table.now l.self.now.whole.now (size-Json l.json.now))
 

@@ -1,17 +1,18 @@
 use Rattle.std.proofs.Common.{rules, suc, ◌≡◌, ◌<◌, Some, None, IfSome, refl, sym, ◌∙◌, ap, subst, arith, length}
-use Rattle.std.proofs.lemmas.List.{length-append}
+use Rattle.std.proofs.lemmas.List.{length-append, map_more}
 use Rattle.std.proofs.lemmas.Option.{slice_get_read, slice_get_past}
 use Rattle.std.proofs.lemmas.Slice.Zip.{zip_turn, zip_end}
 use denote.Param.Weighed.{most}
 use Rattle.schema_values.specs.Member.{member}
 use Rattle.descriptors.specs.declared.tree.Pair.{size-Pair}
-use Rattle.descriptors.specs.declared.tree.Tree.{size-Tree}
+use Rattle.descriptors.specs.declared.tree.Tree.{Tree, size-Tree}
 use Rattle.descriptors.specs.Definitions.{tagged_name}
-use Rattle.typed_values.specs.Encoding.{written_under}
+use Rattle.typed_values.specs.Encoding.{pair_written, written_under}
+use Rattle.typed_values.specs.Fits.{field_desc}
 use Rattle.typed_values.specs.Parts.{IsPart}
 use Rattle.typed_values.proofs.Arms.{definition_is_part}
 use Rattle.typed_values.proofs.EncodeRows.{members_kept, members_end, written_any, written_null, written_scalar, written_enumeration, written_option, written_list, written_map, written_struct, written_external, written_tagged, written_untagged, written_ref, chosen_row, external_row, tagged_row, tagged_members, untagged}
-use Rattle.typed_values.proofs.EncodeSteps.{skipped_written, is_none_tree}
+use Rattle.typed_values.proofs.EncodeSteps.{skipped_written, is_none_tree, put_behind}
 use Rattle.typed_values.proofs.FitRows.{skipped_desc, below_true, below_false}
 use Rattle.typed_values.proofs.Inside.{part_of_option, part_of_list, part_of_map, parts_of_untagged, fields_of_struct, payloads_of_external, variants_of_tagged}
 use Rattle.typed_values.proofs.Measure.{ref-lt, alone-lt-at, at-lt-any, alone-lt-any, any-lt-alone, at-lt-alone}
@@ -114,25 +115,41 @@ encode_list-encode_at-requires t c =
     let less = at-lt-alone c.args.self.now.table.now c.args.self.now.whole.now (size-Tree c.tree-item.result) (size-Tree c.args.tree.now) c.args.item.now (omega arith) in
     (omega (arith, c.decreases, less), c.requires)
 
-pub encode_map-encode_at-requires : goal.encode_map-encode_at-requires
-encode_map-encode_at-requires t c =
+pub encode_list-loop-tree-preserved : goal.encode_list-loop-tree-preserved
+encode_list-loop-tree-preserved t c =
+    let w = λ (s : Tree). written_under c.args.self.now.table.now c.args.self.now.whole.now s c.args.item.now in
+    let put = put_behind c.encode_at.result (λ json. json) c.loop-tree.items c.push_item.new.items (w c.tree-item.result) c.in_ok-push_item.ensures c.encode_at.ensures in
+    let more = map_more w c.as_slice-tree-items.result.now c.loop-tree.tree-index c.tree-item.result (omega arith) in
+    rw (put, c.loop-tree.invariant, more, ← c.tree-item.is) refl
+
+pub encode_map-encode_at-value-requires : goal.encode_map-encode_at-value-requires
+encode_map-encode_at-value-requires t c =
     let size : size-Tree c.args.tree.now ≡ suc (most size-Pair c.in-Map.pairs) = ap size-Tree c.in-Map.is ∙ size_entries c.in-Map.pairs in
     let smaller : size-Tree c.pair-item.result.value < most size-Pair c.in-Map.pairs = rw (← c.as_slice-pair-items.ensures) (value_smaller c.as_slice-pair-items.result.now c.loop-pair.pair-index c.pair-item.result (omega arith) c.pair-item.is) in
     let less = at-lt-alone c.args.self.now.table.now c.args.self.now.whole.now (size-Tree c.pair-item.result.value) (size-Tree c.args.tree.now) c.args.value.now (omega arith) in
     (omega (arith, c.decreases, less), c.requires)
 
-pub encode_fields-encode_field-requires : goal.encode_fields-encode_field-requires
-encode_fields-encode_field-requires t c =
+pub encode_map-loop-pair-preserved : goal.encode_map-loop-pair-preserved
+encode_map-loop-pair-preserved t c =
+    let w = λ (s : Tree). written_under c.args.self.now.table.now c.args.self.now.whole.now s c.args.value.now in
+    let put = put_behind c.encode_at-value.result (member c.pair-item.result.key) c.loop-pair.members c.push_member.new.members (w c.pair-item.result.value) c.in_ok-push_member.ensures c.encode_at-value.ensures in
+    let more = map_more (pair_written w) c.as_slice-pair-items.result.now c.loop-pair.pair-index c.pair-item.result (omega arith) in
+    rw (put, c.loop-pair.invariant, more, ← c.pair-item.is) refl
+
+pub encode_fields-encode_field-value-requires : goal.encode_fields-encode_field-value-requires
+encode_fields-encode_field-value-requires t c =
     let turn = zip_turn c.args.fields.now c.args.trees.now c.loop-field.yielded c.into_iter-field-iterator.result c.loop-field.field-iterator c.next.new.self c.next.result (search rules) (search rules) c.loop-field.yielded_by (c.in-Some.field, c.in-Some.tree) c.in-Some.is c.next.ensures.steps in
     let smaller = tree_smaller c.args.trees.now (length c.loop-field.yielded) c.in-Some.tree.now turn.1 (turn.3 c.in-Some.tree.now) in
     let less = any-lt-alone c.args.self.now.table.now c.args.self.now.whole.now (size-Tree c.in-Some.tree.now) (suc (most size-Tree c.args.trees.now)) smaller in
     (omega (arith, c.decreases, less), c.requires c.in-Some.field.now (length c.loop-field.yielded, turn.0, sym (turn.2 c.in-Some.field.now)))
 
-pub encode_fields-loop-field-preserved-in-Continue-branch-2 : goal.encode_fields-loop-field-preserved-in-Continue-branch-2
-encode_fields-loop-field-preserved-in-Continue-branch-2 t c =
+pub encode_fields-loop-field-preserved-in-Continue-1 : goal.encode_fields-loop-field-preserved-in-Continue-1
+encode_fields-loop-field-preserved-in-Continue-1 t c =
     let turn = zip_turn c.args.fields.now c.args.trees.now c.loop-field.yielded c.into_iter-field-iterator.result c.loop-field.field-iterator c.next.new.self c.next.result (search rules) (search rules) c.loop-field.yielded_by (c.in-Some.field, c.in-Some.tree) c.in-Some.is c.next.ensures.steps in
+    let value = written_under c.args.self.now.table.now c.args.self.now.whole.now c.in-Some.tree.now (field_desc c.in-Some.field.now) in
+    let put = put_behind c.encode_field-value.result (member c.in-Some.field.now.name) c.loop-field.members c.push_member.new.members value c.in_ok-push_member.ensures c.encode_field-value.ensures in
     members_kept is_none_tree (written_under c.args.self.now.table.now c.args.self.now.whole.now) c.args.fields.now c.args.trees.now (length c.loop-field.yielded) _ c.in-Some.field.now c.in-Some.tree.now (length-append c.loop-field.yielded _) turn.0 turn.1 (turn.2 c.in-Some.field.now) (turn.3 c.in-Some.tree.now) (sym c.is_left_out.ensures ∙ cc)
-    _ c.loop-field.members c.push_member.new.members (member c.in-Some.field.now.name c.in_ok-value.value) (rw c.in_ok-value.ensures refl) c.in_ok-push_member.ensures c.loop-field.invariant
+    _ c.loop-field.members c.push_member.new.members (member c.in-Some.field.now.name value) refl put c.loop-field.invariant
 
 pub encode_fields-returns : goal.encode_fields-returns
 encode_fields-returns t c =
