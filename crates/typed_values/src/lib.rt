@@ -32,8 +32,8 @@ pub use bounds::{character_count, is_length_within, is_number_of};
 pub use check::{TableError, check_desc, check_table};
 pub use decode::decode_json;
 pub use descriptors::{
-    AddError, Added, Definition, Desc, DescTable, Field, IntKind, Named, Pair, Presence, TaggedVariant,
-    Tree, Variant,
+    AddError, Added, Definition, Desc, DescTable, Field, IntKind, Named, Pair, Presence,
+    TaggedVariant, Tree, Variant,
 };
 pub use encode::encode_json;
 pub use fault::{DecodeError, Fault, FaultKind, Misfit, Place, Stop};
