@@ -111,8 +111,10 @@ fn failing_shape(alloc: Global, noted: &Json) -> Result<HandlerShape, CaseError>
 }
 
 impl RouteHandler for Replies {
-    ghost use Rattle.std.specs.Prelude.{◌≡◌, ⊤};
+    ghost use Rattle.std.specs.Prelude.{◌≡◌, ⊤, codes, if◌then◌else◌};
     ghost use Rattle.api_description.specs.declared.api_respond.reply.ErrorReply.TheVariants.{Http};
+
+    ghost label_of = { λ handler. if handler.fails then codes "fails" else codes "returns" };
 
     ghost shape_of = { λ handler. handler.shape };
 

@@ -1,5 +1,5 @@
 //! What answers the requests of an endpoint, and what it is told.
-ghost use Rattle.std.specs.Prelude.{◌≡◌, ◌⊎◌, List, IfOk, OnErr};
+ghost use Rattle.std.specs.Prelude.{◌≡◌, ◌⊎◌, ℕ, List, IfOk, OnErr};
 ghost use Rattle.api_description.specs.Requests.{ArgsFit};
 ghost use Rattle.api_description.specs.Replies.{HasHttpErrors, ReplyFits, ShapePasses};
 ghost use Rattle.api_description.specs.Stores.{Tables};
@@ -69,6 +69,9 @@ ghost use Rattle.api_description.specs.declared.api_respond.handler.RequestConte
 
 /// What answers the requests of an endpoint.
 pub trait RouteHandler: Drop {
+    /// The bytes of the name in logs.
+    ghost label_of: { Self → List ℕ };
+
     /// The shape, which never changes.
     ghost shape_of: { Self → Shape };
 
@@ -78,8 +81,9 @@ pub trait RouteHandler: Drop {
     /// What `refuse` may make of an error.
     ghost turns: { Self → ErrorValue → ErrorReplyValue → Type 0 };
 
-    /// The handler's name in logs.
-    fn label(&self) -> &str;
+    /// The handler's name in logs, which never changes.
+    fn label(&self) -> &str
+        ensures { result.now ≡ label_of self.now };
 
     /// What the handler takes and gives.
     fn shape(&self) -> &HandlerShape
