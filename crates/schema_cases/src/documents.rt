@@ -1,9 +1,10 @@
 //! Calls on documents: what their parts are written as, and what they admit.
+use crate::answers::text_given;
 use crate::info::info_written;
 use crate::part_notation::written;
 use crate::request_notation::request_of;
 use crate::values::noted_value;
-use case_notation::{CaseError, given, text_of};
+use case_notation::{CaseError, given};
 use openapi_values::{
     Components, HeaderObject, MediaType, OpenApi, Operation, Parameter, PathItem, RequestBody,
     ResponseObject, WireRequest, json_admits, text_admits,
@@ -15,7 +16,7 @@ use std::alloc::{AllocError, Global};
 /// What a copy of a part of a document is written as. The kind of the part stands under `kind`.
 pub fn part(alloc: Global, case: &Json) -> Result<Json, CaseError> {
     let noted = given(case, "part")?;
-    match text_of(given(case, "kind")?)?.as_str() {
+    match text_given(case, "kind")?.as_str() {
         "OpenApi" => written::<OpenApi>(alloc, noted),
         "Components" => written::<Components>(alloc, noted),
         "PathItem" => written::<PathItem>(alloc, noted),
@@ -52,7 +53,7 @@ pub fn json_admitted(alloc: Global, case: &Json) -> Result<Json, CaseError> {
 /// Whether a schema admits a text.
 pub fn text_admitted(alloc: Global, case: &Json) -> Result<Json, CaseError> {
     let schema = given(case, "schema")?;
-    let text = text_of(given(case, "text")?)?;
+    let text = text_given(case, "text")?;
     let document = noted_document(alloc, case)?;
     if document.sound() && schema.sound() {
         Ok(Json::Bool(text_admits(&document, schema, text.as_str())))
@@ -69,8 +70,8 @@ pub fn request_admitted(alloc: Global, case: &Json) -> Result<Json, CaseError> {
 
 fn admitted(alloc: Global, case: &Json, request: &WireRequest) -> Result<Json, CaseError> {
     let document = given(case, "document")?;
-    let path = text_of(given(case, "path")?)?;
-    let method = text_of(given(case, "method")?)?;
+    let path = text_given(case, "path")?;
+    let method = text_given(case, "method")?;
     if !document.sound() {
         return Err(CaseError::Expected("a sound document"));
     }

@@ -12,7 +12,8 @@ mod schema_notation;
 mod schemas;
 mod values;
 
-use case_notation::{AnswersCases, CaseError, given, run, text_of};
+use crate::answers::text_given;
+use case_notation::{AnswersCases, CaseError, run};
 use schema_values::Json;
 use std::alloc::Global;
 use std::io;
@@ -50,7 +51,8 @@ impl AnswersCases for SchemaCases {
     }
 
     fn answer(&self, alloc: Global, case: &Json) -> Result<Json, CaseError> {
-        match text_of(given(case, "call")?)?.as_str() {
+        let call = text_given(case, "call")?.as_str();
+        match call {
             "read" => values::read(alloc, case),
             "read_in_turn" => values::read_in_turn(alloc, case),
             "compact" => values::compact(alloc, case),
@@ -64,13 +66,13 @@ impl AnswersCases for SchemaCases {
             "equals" => values::equals(alloc, case),
             "to_value" => values::to_value(alloc, case),
             "of_value" => values::of_value(alloc, case),
-            _ => answer_on_schemas(alloc, case),
+            _ => answer_on_schemas(alloc, call, case),
         }
     }
 }
 
-fn answer_on_schemas(alloc: Global, case: &Json) -> Result<Json, CaseError> {
-    match text_of(given(case, "call")?)?.as_str() {
+fn answer_on_schemas(alloc: Global, call: &str, case: &Json) -> Result<Json, CaseError> {
+    match call {
         "j2oas_schema" => schemas::j2oas_schema(alloc, case),
         "resolve" => schemas::resolve(alloc, case),
         "is_empty" => schemas::is_empty(alloc, case),
@@ -80,12 +82,12 @@ fn answer_on_schemas(alloc: Global, case: &Json) -> Result<Json, CaseError> {
         "type_is_string" => schemas::string(alloc, case),
         "type_is_string_enum" => schemas::string_enum(alloc, case),
         "schema2struct" => schemas::members(alloc, case),
-        _ => answer_on_documents(alloc, case),
+        _ => answer_on_documents(alloc, call, case),
     }
 }
 
-fn answer_on_documents(alloc: Global, case: &Json) -> Result<Json, CaseError> {
-    match text_of(given(case, "call")?)?.as_str() {
+fn answer_on_documents(alloc: Global, call: &str, case: &Json) -> Result<Json, CaseError> {
+    match call {
         "to_json" => documents::part(alloc, case),
         "to_pretty_json" => documents::pretty_part(alloc, case),
         "json_admits" => documents::json_admitted(alloc, case),

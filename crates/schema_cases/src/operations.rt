@@ -31,25 +31,35 @@ impl Noted for Components {
     }
 }
 
+/// The methods that a path may serve, as the names of their operations.
+const METHODS: [&str; 8] = [
+    "get", "put", "post", "delete", "options", "head", "patch", "trace",
+];
+
 impl Noted for PathItem {
     fn read(alloc: Global, noted: &Json) -> Result<PathItem, CaseError> {
-        check_names(
-            noted,
-            &[
-                "get", "put", "post", "delete", "options", "head", "patch", "trace",
-            ],
-        )?;
+        check_names(noted, &METHODS)?;
+        let mut operations = operations_of(alloc, noted)?.into_iter();
         Ok(PathItem {
-            get: operation_at(alloc, noted, "get")?,
-            put: operation_at(alloc, noted, "put")?,
-            post: operation_at(alloc, noted, "post")?,
-            delete: operation_at(alloc, noted, "delete")?,
-            options: operation_at(alloc, noted, "options")?,
-            head: operation_at(alloc, noted, "head")?,
-            patch: operation_at(alloc, noted, "patch")?,
-            trace: operation_at(alloc, noted, "trace")?,
+            get: operations.next().flatten(),
+            put: operations.next().flatten(),
+            post: operations.next().flatten(),
+            delete: operations.next().flatten(),
+            options: operations.next().flatten(),
+            head: operations.next().flatten(),
+            patch: operations.next().flatten(),
+            trace: operations.next().flatten(),
         })
     }
+}
+
+/// For each of the methods the operation, where one stands.
+fn operations_of(alloc: Global, noted: &Json) -> Result<Vec<Option<Boxed<Operation>>>, CaseError> {
+    let mut operations = Vec::new(alloc);
+    for method in &METHODS {
+        operations.push(operation_at(alloc, noted, method)?)?;
+    }
+    Ok(operations)
 }
 
 fn operation_at(

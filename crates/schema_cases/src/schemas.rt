@@ -4,7 +4,7 @@ use crate::schema_notation::{definitions_of, noted_schema, types_told};
 use case_notation::{CaseError, given, put, text_of, truth_of, word};
 use openapi_values::J2oasError;
 use schema_util::{ResolveError, ScalarError, Schema2StructError, StructMember};
-use schema_values::{InstanceTypes, Json, List, Member, Schema, Text};
+use schema_values::{Definitions, InstanceTypes, Json, List, Member, Schema, Text};
 use std::alloc::{AllocError, Global};
 
 /// What a copy of the schema is written as, with the title under `title` where one stands, or why
@@ -33,9 +33,25 @@ fn written(alloc: Global, title: Option<&str>, schema: &Schema) -> Result<Json, 
 /// The schema that references lead to, or why they lead to none. Where it has a reference itself,
 /// `{"written": SCHEMA, "type": TYPES}`, since the type beside a reference is not written.
 pub fn resolve(alloc: Global, case: &Json) -> Result<Json, CaseError> {
-    let definitions = definitions_of(alloc, case)?;
-    let schema = noted_schema(alloc, case)?;
-    found_told(alloc, schema_util::resolve(&schema, &definitions))
+    let scope = scope_of(alloc, case)?;
+    found_told(
+        alloc,
+        schema_util::resolve(&scope.schema, &scope.definitions),
+    )
+}
+
+/// A schema, and the definitions that its references lead to.
+#[derive(Drop)]
+struct Scope {
+    definitions: Definitions,
+    schema: Schema,
+}
+
+fn scope_of(alloc: Global, case: &Json) -> Result<Scope, CaseError> {
+    Ok(Scope {
+        definitions: definitions_of(alloc, case)?,
+        schema: noted_schema(alloc, case)?,
+    })
 }
 
 fn found_told(
@@ -123,25 +139,28 @@ fn text_or_null(alloc: Global, text: &Option<Text>) -> Result<Json, CaseError> {
 
 /// Whether the schema is that of scalar values, as `"fits"`, or why not.
 pub fn scalar(alloc: Global, case: &Json) -> Result<Json, CaseError> {
-    let definitions = definitions_of(alloc, case)?;
-    let schema = noted_schema(alloc, case)?;
-    told(alloc, schema_util::type_is_scalar(&schema, &definitions))
+    let scope = scope_of(alloc, case)?;
+    told(
+        alloc,
+        schema_util::type_is_scalar(&scope.schema, &scope.definitions),
+    )
 }
 
 /// Whether the schema is that of texts, as `"fits"`, or why not.
 pub fn string(alloc: Global, case: &Json) -> Result<Json, CaseError> {
-    let definitions = definitions_of(alloc, case)?;
-    let schema = noted_schema(alloc, case)?;
-    told(alloc, schema_util::type_is_string(&schema, &definitions))
+    let scope = scope_of(alloc, case)?;
+    told(
+        alloc,
+        schema_util::type_is_string(&scope.schema, &scope.definitions),
+    )
 }
 
 /// Whether the schema is that of lists of texts, as `"fits"`, or why not.
 pub fn string_enum(alloc: Global, case: &Json) -> Result<Json, CaseError> {
-    let definitions = definitions_of(alloc, case)?;
-    let schema = noted_schema(alloc, case)?;
+    let scope = scope_of(alloc, case)?;
     told(
         alloc,
-        schema_util::type_is_string_enum(&schema, &definitions),
+        schema_util::type_is_string_enum(&scope.schema, &scope.definitions),
     )
 }
 
@@ -156,11 +175,10 @@ fn told(alloc: Global, outcome: Result<(), ScalarError<'_>>) -> Result<Json, Cas
 /// `required` is true.
 pub fn members(alloc: Global, case: &Json) -> Result<Json, CaseError> {
     let required = truth_of(given(case, "required")?)?;
-    let definitions = definitions_of(alloc, case)?;
-    let schema = noted_schema(alloc, case)?;
+    let scope = scope_of(alloc, case)?;
     struct_told(
         alloc,
-        schema_util::schema2struct(alloc, &schema, &definitions, required),
+        schema_util::schema2struct(alloc, &scope.schema, &scope.definitions, required),
     )
 }
 

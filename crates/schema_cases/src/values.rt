@@ -1,5 +1,5 @@
 //! Calls on values.
-use crate::answers::error_told;
+use crate::answers::{error_told, text_given};
 use crate::request_notation::bytes_of;
 use case_notation::{CaseError, form, given, items_of, made_of, pair, text_of};
 use schema_values::{
@@ -54,7 +54,7 @@ pub fn compact(alloc: Global, case: &Json) -> Result<Json, CaseError> {
 /// The compact text of an object with the text and the value of the case, and with how many characters
 /// the text has, written member by member.
 pub fn written(alloc: Global, case: &Json) -> Result<Json, CaseError> {
-    let text = text_of(given(case, "text")?)?;
+    let text = text_given(case, "text")?;
     let mut out = Text::with_capacity(alloc, 64)?;
     out.push('{')?;
     write_text_member(0, "text", text.as_str(), &mut out)?;
@@ -83,7 +83,7 @@ pub fn read_pretty(alloc: Global, case: &Json) -> Result<Json, CaseError> {
 
 /// How many characters a text has.
 pub fn chars_count(case: &Json) -> Result<Json, CaseError> {
-    Ok(Json::Int(count_of(text_of(given(case, "text")?)?)?))
+    Ok(Json::Int(count_of(text_given(case, "text")?)?))
 }
 
 fn count_of(text: &Text) -> Result<i128, CaseError> {
@@ -95,7 +95,7 @@ fn count_of(text: &Text) -> Result<i128, CaseError> {
 
 /// The value's member of a name, `{"json": MEMBER}`, or null.
 pub fn get(alloc: Global, case: &Json) -> Result<Json, CaseError> {
-    let name = text_of(given(case, "name")?)?;
+    let name = text_given(case, "name")?;
     match given(case, "json")?.get(name.as_str()) {
         Some(member) => Ok(form(alloc, "json", member.copy(alloc)?)?),
         None => Ok(Json::Null),
@@ -132,7 +132,7 @@ fn handed_over(alloc: Global, case: &Json) -> Result<Value, CaseError> {
 
 /// What the value that `serde_json` reads a text as is here, or why it is none.
 pub fn of_value(alloc: Global, case: &Json) -> Result<Json, CaseError> {
-    match Value::from_str(alloc, text_of(given(case, "text")?)?.as_str()) {
+    match Value::from_str(alloc, text_given(case, "text")?.as_str()) {
         Ok(value) => taken_over(alloc, &value),
         Err(error) if error.is_memory() => Err(CaseError::OutOfMemory),
         Err(_) => Err(CaseError::Expected("a value of serde_json")),
