@@ -6,3 +6,4 @@ pub mod ReplyLemmas
 pub mod ReplyTexts
 pub mod AnswerLemmas
 pub mod RunLemmas
+pub mod SampleLemmas

@@ -1,45 +1,30 @@
 -- Request lines: a JSON object with the texts `method`, `template` and `request_id`, and `frames` with the body.
-use Rattle.std.specs.Prelude.{◌≡◌, ◌≤◌, ℕ, List, [], ◌∷◌, length, Option, Some, None, option_and_then, codes, get_or}
+use Rattle.std.specs.Prelude.{◌≡◌, ◌≤◌, ℕ, List, [], ◌∷◌, length, Option, Some, None, MatchOption, option_and_then, codes}
 use Rattle.std.specs.Str.{encode_utf8_all}
 use Rattle.http_header.specs.Token.{IsToken}
 use Rattle.schema_values.specs.declared.json_value.Json.{Json, out-Json}
 use Rattle.schema_values.specs.declared.json_value.Json.TheOpen.{Json-F}
 use Rattle.schema_values.specs.declared.json_value.Member.{Member}
-use Rattle.schema_values.specs.Get.{first_named, get_of}
+use Rattle.schema_values.specs.Get.{get_of}
 use Rattle.schema_values.specs.Reading.{Reads}
+use Rattle.openapi_values.specs.Levels.{as_text}
+use Rattle.openapi_values.specs.RequestParameters.{text_of}
 use Rattle.semver.specs.Identifiers.{parts_of}
 use Rattle.semver.specs.Parse.{Parts}
 use Rattle.api_description.specs.declared.api_extract.request.RequestParts.{RequestParts}
 use Rattle.contract_tool.specs.declared.request_line.RequestLine.{RequestLine}
+use Rattle.contract_tool.specs.declared.request_line.RequestMembers.{RequestMembers}
 use Rattle.contract_tool.specs.declared.request_line.RequestLine.TheVariants.{Bad, NotBuilt, Request}
 
--- the text that one level of a JSON value is
-abbrev pub text_in : Json-F Json Member → Option (List ℕ)
-text_in (Json-F.Text text) = Some text
-text_in _ = None
-
 -- the text that a JSON value is
-abbrev pub as_text : Json → Option (List ℕ)
-as_text json = text_in (out-Json json)
-
--- the text of a member
-abbrev pub text_of : List ℕ → Json → Option (List ℕ)
-text_of name json = option_and_then as_text (get_of name json)
+abbrev pub text_at : Json → Option (List ℕ)
+text_at json = as_text (out-Json json)
 
 -- an object with these texts
 pub record HasHead (json : Json) (method template id : List ℕ) : Type 0 where
   pub method_text : text_of (codes "method") json ≡ Some method
   pub template_text : text_of (codes "template") json ≡ Some template
   pub id_text : text_of (codes "request_id") json ≡ Some id
-
--- an object with the texts of a request, of which this method (RFC 9110, section 9.1) is the first
-pub record HasMethod (json : Json) (method : List ℕ) : Type 0 where
-  pub text : List ℕ
-  pub template : List ℕ
-  pub id : List ℕ
-  pub head : HasHead json text template id
-  pub token : IsToken (encode_utf8_all text)
-  pub bytes : encode_utf8_all text ≡ method
 
 -- the line reads as an object with these texts, and the method is one (RFC 9110, section 9.1)
 pub record IsRequest (line : List ℕ) (json : Json) (method template id : List ℕ) : Type 0 where
@@ -53,7 +38,7 @@ IsBadLine line = (json : Json) (method template id : List ℕ) → IsRequest lin
 
 -- the text of a list of one item
 abbrev pub only_text : List Json → Option (List ℕ)
-only_text (frame ∷ []) = as_text frame
+only_text (frame ∷ []) = text_at frame
 only_text _ = None
 
 -- the text of the one item that a level of a JSON value holds, where it is a list
@@ -69,17 +54,6 @@ frame_at frames = frame_in (out-Json frames)
 abbrev pub frame_of : Json → Option (List ℕ)
 frame_of json = option_and_then frame_at (get_of (codes "frames") json)
 
--- an object with the texts that are kept of a request
-pub record HasTexts (json : Json) (template id frame : List ℕ) : Type 0 where
-  pub template_text : text_of (codes "template") json ≡ Some template
-  pub id_text : text_of (codes "request_id") json ≡ Some id
-  pub one_frame : frame_of json ≡ Some frame
-
--- a member with this name, whose value is that of the first of the name, stands at the index
-abbrev pub IsFirstNamed : List ℕ → List Member → ℕ → Type 0
-IsFirstNamed name members index = (member : Member) → member ≡ get_or members index member
-    → (member.name ≡ name) × (first_named name members ≡ Some member.value)
-
 -- the request has no member that is not looked at yet
 pub record HasNoOther (json : Json) : Type 0 where
   pub no_uri : get_of (codes "uri") json ≡ None
@@ -93,6 +67,12 @@ pub record HasBody (most : ℕ) (json : Json) (body : List ℕ) : Type 0 where
   pub bytes : body ≡ encode_utf8_all frame
   pub within : length body ≤ most
   pub no_other : HasNoOther json
+
+-- an object with the texts of a request, and with the body where it has one
+pub record HasMembers (most : ℕ) (json : Json) (members : RequestMembers) : Type 0 where
+  pub head : HasHead json members.method members.template members.id
+  pub body : MatchOption members.body ((body : List ℕ) → HasBody most json body → ⊥)
+      (λ frame. HasBody most json (encode_utf8_all frame))
 
 -- the line is a request of a kind that is not built yet
 pub record IsUnbuilt (most : ℕ) (line : List ℕ) : Type 0 where

@@ -13,12 +13,11 @@ use Rattle.api_description.specs.declared.api_extract.slot.Arg.{Arg}
 use Rattle.api_description.specs.declared.api_extract.slot.Arg.TheVariants.{Tree as OfTree}
 use Rattle.api_description.specs.declared.api_extract.slot.Slot.TheVariants.{TypedBody}
 use Rattle.api_description.specs.declared.api_respond.reply.Reply.{Reply}
-use Rattle.api_description.specs.declared.api_respond.reply.Reply.TheVariants.{Success, Failure}
+use Rattle.api_description.specs.declared.api_respond.reply.Reply.TheVariants.{Success}
 use Rattle.api_description.specs.declared.api_respond.reply.Content.TheVariants.{Json as JsonContent}
-use Rattle.api_description.specs.declared.api_respond.reply.ErrorReply.TheVariants.{Http}
 use Rattle.api_description.specs.declared.api_respond.shape.ContentShape.TheVariants.{Json as JsonShape}
 use Rattle.api_description.specs.declared.api_respond.shape.HandlerShape.{HandlerShape}
-use Rattle.api_description.specs.Responses.{error_definition, internal_error}
+use Rattle.api_description.specs.Responses.{error_definition}
 use Rattle.api_description.specs.Stores.{Tables, store_with}
 
 -- a field that has to be there, without a description
@@ -63,13 +62,11 @@ label_in _ = None
 abbrev pub label_of : Tree → Option (List ℕ)
 label_of tree = label_in (out-Tree tree)
 
--- the point is stored under its label, and given back
-abbrev pub StoresPoint : Tree → Option (List ℕ) → Tables → Reply → Tables → Type 0
-StoresPoint tree (Some label) before reply after =
-    (reply ≡ Success (record { status = 201; content = JsonContent tree })) × (after ≡ store_with (codes "points") (encode_utf8_all label) tree before)
-StoresPoint tree None before reply after = (reply ≡ Failure (Http (internal_error (codes "a point has no label")))) × (after ≡ before)
-
--- what the creation of a point replies, and which store it leaves
-abbrev pub CreatesPoint : List Arg → Tables → Reply → Tables → Type 0
-CreatesPoint (OfTree tree ∷ []) before reply after = StoresPoint tree (label_of tree) before reply after
-CreatesPoint _ before reply after = (reply ≡ Failure (Http (internal_error (codes "a point has no label")))) × (after ≡ before)
+-- the one argument is a point, which is stored under its label and given back with status 201
+pub record CreatesPoint (args : List Arg) (before : Tables) (reply : Reply) (after : Tables) : Type 0 where
+  pub point : Tree
+  pub label : List ℕ
+  pub given : args ≡ OfTree point ∷ []
+  pub labelled : label_of point ≡ Some label
+  pub replied : reply ≡ Success (record { status = 201; content = JsonContent point })
+  pub stored : after ≡ store_with (codes "points") (encode_utf8_all label) point before

@@ -1,20 +1,21 @@
 //! Request lines.
-ghost use Rattle.std.specs.Prelude.{◌≡◌, ◌≢◌, ◌↔◌, ◌<◌, ℕ, List as ListOf, IfOk, IsErrOf, IsTrue, OnOk};
-ghost use Rattle.std.specs.Prelude.{MatchOption, None, codes, length, option_and_then, option_map};
+ghost use Rattle.std.specs.Prelude.{◌≡◌, ◌≢◌, ◌↔◌, ℕ, List as ListOf, IfOk, IsErrOf, IsTrue, OnOk};
+ghost use Rattle.std.specs.Prelude.{MatchOption, None, bytes_eq, codes, option_and_then};
+ghost use Rattle.std.specs.List.{position};
 ghost use Rattle.std.specs.Str.{encode_utf8_all};
 ghost use Rattle.semver.specs.Identifiers.{parts_of};
 ghost use Rattle.http_header.specs.Token.{IsToken};
 ghost use Rattle.schema_values.specs.Ascii.{all_ascii};
-ghost use Rattle.schema_values.specs.Get.{first_named, get_of};
-ghost use Rattle.schema_values.specs.Reading.{Reads};
+ghost use Rattle.schema_values.specs.Get.{first_named};
 ghost use Rattle.schema_values.specs.declared.json_value.Json.{Object};
-ghost use Rattle.contract_tool.specs.RequestLines.{HasBody, HasHead, HasMethod, HasNoOther, HasTexts};
-ghost use Rattle.contract_tool.specs.RequestLines.{IsFirstNamed, IsReadAs, as_text, frame_at, frame_of};
-ghost use Rattle.contract_tool.specs.RequestLines.{only_text, text_of};
+ghost use Rattle.contract_tool.specs.RequestLines.{HasBody, HasHead, HasMembers, HasNoOther};
+ghost use Rattle.contract_tool.specs.RequestLines.{IsReadAs, frame_at, only_text, text_at};
 
 use api_description::api_extract::{RequestInfo, RequestParts};
 use http::Method;
 use http::method::MethodError;
+use openapi_values::find_word;
+use request_words::is_word;
 use schema_values::{Json, Member, ReadError, Scratch, Text};
 use semver::Version;
 use std::alloc::{AllocError, Global};
@@ -30,20 +31,14 @@ pub(crate) enum RequestLine {
     Request(RequestParts, Text),
 }
 
-// The texts of a request.
+// What is taken of the object of a request.
 #[derive(Drop)]
-struct Head<'a> {
-    method: &'a Text,
-    template: &'a Text,
-    id: &'a Text,
-}
-
-// The texts that are kept of a request.
-#[derive(Drop)]
-struct Texts {
+struct RequestMembers {
+    method: Text,
     template: Text,
     id: Text,
-    frame: Text,
+    // where the request is of a kind that is built
+    body: Option<Text>,
 }
 
 /// Reads a line whose request is sent to a version, in room that is kept from line to line. A body has at
@@ -62,42 +57,30 @@ pub(crate) fn read_line(
         Err(ReadError::Unreadable) => return Ok(RequestLine::Bad),
         Err(ReadError::OutOfMemory) => return Err(AllocError),
     };
-    let Some(method) = method_in(alloc, &json)? else {
+    let Some(members) = members_of(json, most) else {
         return Ok(RequestLine::Bad);
     };
-    if body_of(&json, most).is_none() {
-        return Ok(RequestLine::NotBuilt);
-    }
-    let (request, body) = request_of(json, method, version)?;
-    Ok(RequestLine::Request(request, body))
-}
-
-// The method of a request, where the value is one.
-fn method_in(alloc: Global, json: &Json) -> Result<Option<Method>, AllocError>
-    ensures { IfOk result (λ found. MatchOption found
-        ((method template id : ListOf ℕ) → HasHead json.now method template id
-        → ¬ IsToken (encode_utf8_all method))
-        (λ method. HasMethod json.now method)) }
-{
-    let Some(head) = head_of(json) else {
-        return Ok(None);
+    let method = match method_of(alloc, members.method.as_bytes()) {
+        Ok(method) => method,
+        Err(MethodError::Invalid) => return Ok(RequestLine::Bad),
+        Err(MethodError::OutOfMemory) => return Err(AllocError),
     };
-    match method_of(alloc, head.method.as_bytes()) {
-        Ok(method) => Ok(Some(method)),
-        Err(MethodError::Invalid) => Ok(None),
-        Err(MethodError::OutOfMemory) => Err(AllocError),
-    }
-}
-
-fn head_of(json: &Json) -> Option<Head<'_>>
-    ensures { MatchOption result ((method template id : ListOf ℕ) → HasHead json.now method template id → ⊥)
-        (λ head. HasHead json.now head.method.now head.template.now head.id.now) }
-{
-    Some(Head {
-        method: text_of(json, "method")?,
-        template: text_of(json, "template")?,
-        id: text_of(json, "request_id")?,
-    })
+    let RequestMembers {
+        template,
+        id,
+        body,
+        ..
+    } = members;
+    let Some(body) = body else {
+        return Ok(RequestLine::NotBuilt);
+    };
+    let request = RequestParts {
+        version: version.clone()?,
+        template,
+        request_id: id,
+        info: RequestInfo::new(method),
+    };
+    Ok(RequestLine::Request(request, body))
 }
 
 fn method_of(alloc: Global, bytes: &[u8]) -> Result<Method, MethodError>
@@ -114,63 +97,67 @@ fn method_of(alloc: Global, bytes: &[u8]) -> Result<Method, MethodError>
     }
 }
 
-// The request that a value holds, and its body.
-fn request_of(
-    json: Json,
-    method: Method,
-    version: &Version,
-) -> Result<(RequestParts, Text), AllocError>
-    requires { (template : ListOf ℕ) × (id : ListOf ℕ) × (frame : ListOf ℕ)
-        × HasTexts json template id frame }
-    ensures texts { IfOk result (λ read. HasTexts json read.0.template read.0.request_id read.1) }
-    ensures method { IfOk result (λ read. read.0.info.method ≡ method) }
-    ensures version { IfOk result (λ read. parts_of read.0.version ≡ parts_of version.now) }
-{
-    let version = version.clone()?;
-    let Some(texts) = texts_of(json) else {
-        unreachable!();
-    };
-    let Texts {
-        template,
-        id,
-        frame,
-    } = texts;
-    let request = RequestParts {
-        version,
-        template,
-        request_id: id,
-        info: RequestInfo::new(method),
-    };
-    Ok((request, frame))
-}
-
-// The texts that are kept of a request, moved out of the value.
-fn texts_of(json: Json) -> Option<Texts>
-    ensures { MatchOption result ((template id frame : ListOf ℕ) → HasTexts json template id frame → ⊥)
-        (λ texts. HasTexts json texts.template texts.id texts.frame) }
+// What a value says of a request, where it is an object with the texts of one.
+fn members_of(json: Json, most: u64) -> Option<RequestMembers>
+    ensures { MatchOption result ((method template id : ListOf ℕ) → HasHead json method template id → ⊥)
+        (λ members. HasMembers most json members) }
 {
     match json {
-        Json::Object(members) => texts_in(members.into_vec()),
+        Json::Object(members) => members_in(members.into_vec(), most),
         _ => None,
     }
 }
 
-fn texts_in(mut members: Vec<Member>) -> Option<Texts>
+fn members_in(mut members: Vec<Member>, most: u64) -> Option<RequestMembers>
     ensures { MatchOption result
-        ((template id frame : ListOf ℕ) → HasTexts (Object members.items) template id frame → ⊥)
-        (λ texts. HasTexts (Object members.items) texts.template texts.id texts.frame) }
+        ((method template id : ListOf ℕ) → HasHead (Object members.items) method template id → ⊥)
+        (λ taken. HasMembers most (Object members.items) taken) }
 {
-    Some(Texts {
+    let body = take_body(&mut members, most);
+    Some(RequestMembers {
+        method: take_text(&mut members, "method")?,
         template: take_text(&mut members, "template")?,
         id: take_text(&mut members, "request_id")?,
-        frame: take_frame(&mut members)?,
+        body,
     })
+}
+
+// Takes the body, where the request is of a kind that is built.
+fn take_body(members: &mut Vec<Member>, most: u64) -> Option<Text>
+    ensures body { MatchOption result
+        ((body : ListOf ℕ) → HasBody most (Object members.old.items) body → ⊥)
+        (λ frame. HasBody most (Object members.old.items) (encode_utf8_all frame)) }
+    ensures others { (other : ListOf ℕ) → other ≢ codes "frames"
+        → first_named other members.new.items ≡ first_named other members.old.items }
+{
+    if !has_no_other(members) {
+        return None;
+    }
+    let frame = take_frame(members)?;
+    if frame.as_bytes().len() as u64 <= most {
+        Some(frame)
+    } else {
+        None
+    }
+}
+
+fn has_no_other(members: &[Member]) -> bool
+    ensures { IsTrue result ↔ HasNoOther (Object members.now) }
+{
+    is_absent(members, "uri") && is_absent(members, "variables") && is_absent(members, "headers")
+}
+
+fn is_absent(members: &[Member], name: &str) -> bool
+    requires { IsTrue (all_ascii name.now) }
+    ensures { IsTrue result ↔ (first_named name.now members.now ≡ None) }
+{
+    find_word(members, name).is_none()
 }
 
 // Takes the text of a member.
 fn take_text(members: &mut Vec<Member>, name: &str) -> Option<Text>
     requires { IsTrue (all_ascii name.now) }
-    ensures text { result ≡ option_and_then as_text (first_named name.now members.old.items) }
+    ensures text { result ≡ option_and_then text_at (first_named name.now members.old.items) }
     ensures others { (other : ListOf ℕ) → other ≢ name.now
         → first_named other members.new.items ≡ first_named other members.old.items }
 {
@@ -182,7 +169,9 @@ fn take_text(members: &mut Vec<Member>, name: &str) -> Option<Text>
 
 // Takes the text of the one item of `frames`.
 fn take_frame(members: &mut Vec<Member>) -> Option<Text>
-    ensures { result ≡ option_and_then frame_at (first_named (codes "frames") members.old.items) }
+    ensures frame { result ≡ option_and_then frame_at (first_named (codes "frames") members.old.items) }
+    ensures others { (other : ListOf ℕ) → other ≢ codes "frames"
+        → first_named other members.new.items ≡ first_named other members.old.items }
 {
     match take_value(members, "frames")? {
         Json::List(frames) => take_only(frames.into_vec()),
@@ -210,85 +199,17 @@ fn take_value(members: &mut Vec<Member>, name: &str) -> Option<Json>
     ensures others { (other : ListOf ℕ) → other ≢ name.now
         → first_named other members.new.items ≡ first_named other members.old.items }
 {
-    let index = index_of(members, name)?;
+    let index = place_of(members, name)?;
     let Member { value, .. } = members.remove(index);
     Some(value)
 }
 
 // Where the first member of a name stands.
-fn index_of(members: &[Member], name: &str) -> Option<usize>
+fn place_of(members: &[Member], name: &str) -> Option<usize>
     requires { IsTrue (all_ascii name.now) }
-    ensures { MatchOption result (first_named name.now members.now ≡ None)
-        (λ index. (index < length members.now) × IsFirstNamed name.now members.now index) }
+    ensures { result ≡ position (λ member. bytes_eq member.name name.now) members.now }
 {
-    for index in 0..members.len() {
-        if members[index].name.equals_str(name) {
-            return Some(index);
-        }
-    }
-    None
-}
-
-// The value of a member.
-fn value_of<'a>(json: &'a Json, name: &str) -> Option<&'a Json>
-    requires { IsTrue (all_ascii name.now) }
-    ensures { option_map (λ value. value.now) result ≡ get_of name.now json.now }
-{
-    json.get(name)
-}
-
-// The text of a member.
-fn text_of<'a>(json: &'a Json, name: &str) -> Option<&'a Text>
-    requires { IsTrue (all_ascii name.now) }
-    ensures { option_map (λ text. text.now) result ≡ text_of name.now json.now }
-{
-    match value_of(json, name) {
-        Some(Json::Text(text)) => Some(text),
-        _ => None,
-    }
-}
-
-// The one text of `frames`, where the request has no member that is not looked at yet.
-fn body_of(json: &Json, most: u64) -> Option<&Text>
-    ensures { MatchOption result ((body : ListOf ℕ) → HasBody most json.now body → ⊥)
-        (λ frame. HasBody most json.now (encode_utf8_all frame.now)) }
-{
-    if !has_no_other(json) {
-        return None;
-    }
-    match frame_of(json) {
-        Some(frame) if frame.as_bytes().len() as u64 <= most => Some(frame),
-        _ => None,
-    }
-}
-
-fn has_no_other(json: &Json) -> bool
-    ensures { IsTrue result ↔ HasNoOther json.now }
-{
-    is_absent(json, "uri") && is_absent(json, "variables") && is_absent(json, "headers")
-}
-
-fn is_absent(json: &Json, name: &str) -> bool
-    requires { IsTrue (all_ascii name.now) }
-    ensures { IsTrue result ↔ (get_of name.now json.now ≡ None) }
-{
-    value_of(json, name).is_none()
-}
-
-fn frame_of(json: &Json) -> Option<&Text>
-    ensures { option_map (λ text. text.now) result ≡ frame_of json.now }
-{
-    match value_of(json, "frames") {
-        Some(Json::List(frames)) => only_text(frames.as_slice()),
-        _ => None,
-    }
-}
-
-fn only_text(frames: &[Json]) -> Option<&Text>
-    ensures { option_map (λ text. text.now) result ≡ only_text frames.now }
-{
-    match frames {
-        [Json::Text(frame)] => Some(frame),
-        _ => None,
-    }
+    members
+        .iter()
+        .position(|member| is_word(&member.name, name))
 }

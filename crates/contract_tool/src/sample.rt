@@ -1,13 +1,13 @@
 //! The sample API: points, each stored under its label.
-ghost use Rattle.std.specs.Prelude.{◌≡◌, ◌∷◌, ◌++◌, ◌^◌, [], IfOk, Some, None, option_map, OnOk};
+ghost use Rattle.std.specs.Prelude.{◌≡◌, ◌∷◌, ◌++◌, ◌^◌, [], IfOk, List as ListOf, ℕ, Some, None, OnOk};
 ghost use Rattle.std.specs.Prelude.{OnErr, codes};
 ghost use Rattle.descriptors.specs.Definitions.{entry_of};
 ghost use Rattle.descriptors.specs.declared.desc.Desc.{Ref, Text as Words, Int};
 ghost use Rattle.descriptors.specs.declared.desc.IntKind.TheVariants.{I32};
-ghost use Rattle.api_description.specs.declared.api_respond.reply.Reply.TheVariants.{Failure};
-ghost use Rattle.api_description.specs.declared.api_respond.reply.ErrorReply.TheVariants.{Http};
-ghost use Rattle.api_description.specs.Responses.{internal_error};
-ghost use Rattle.contract_tool.specs.Sample.{StoresPoint, label_of, point_definition, point_shape, required};
+ghost use Rattle.api_description.specs.declared.api_extract.slot.Arg.TheVariants.{Tree as OfTree};
+ghost use Rattle.api_description.specs.Replies.{ShapePasses};
+ghost use Rattle.api_description.specs.Requests.{ArgsFit};
+ghost use Rattle.contract_tool.specs.Sample.{CreatesPoint, label_of, point_definition, point_shape, required};
 
 use crate::config::ToolConfig;
 use api_description::api_extract::{Arg, ArgList, ServerConfig, Slot};
@@ -62,9 +62,11 @@ impl PointCreate {
 }
 
 impl RouteHandler for PointCreate {
-    ghost use Rattle.std.specs.Prelude.{◌≡◌};
+    ghost use Rattle.std.specs.Prelude.{◌≡◌, codes};
     ghost use Rattle.api_description.specs.declared.api_respond.reply.ErrorReply.TheVariants.{Http};
     ghost use Rattle.contract_tool.specs.Sample.{CreatesPoint};
+
+    ghost logged_as = { λ _. codes "point_create" };
 
     ghost shape_of = { λ handler. handler.shape };
 
@@ -87,10 +89,7 @@ impl RouteHandler for PointCreate {
         store: &mut Store,
         args: &mut ArgList,
     ) -> Result<Reply, AllocError> {
-        match args.as_slice() {
-            [Arg::Tree(point)] => create_point(alloc, store, point),
-            _ => no_label(alloc),
-        }
+        create_point(alloc, store, point_in(args.as_slice()))
     }
 
     fn refuse(&self, alloc: Global, error: HttpError) -> Result<ErrorReply, AllocError> {
@@ -98,42 +97,45 @@ impl RouteHandler for PointCreate {
     }
 }
 
-fn create_point(alloc: Global, store: &mut Store, point: &Tree) -> Result<Reply, AllocError>
-    ensures ok { IfOk result (λ reply. StoresPoint point.now (label_of point.now) store.old reply store.new) }
-    ensures err { OnErr result (store.new ≡ store.old) }
+// The point that the arguments are.
+fn point_in(args: &[Arg]) -> &Tree
+    requires passes { ShapePasses point_shape }
+    requires fit { ArgsFit point_shape.table point_shape.slots args.now }
+    ensures { args.now ≡ OfTree result.now ∷ [] }
 {
-    match label_of(point) {
-        Some(label) => {
-            let stored = point.copy(alloc)?;
-            let shown = point.copy(alloc)?;
-            store.insert("points", label.as_str(), stored)?;
-            Ok(Reply::Success(SuccessReply {
-                status: StatusCode::CREATED,
-                content: Content::Json(shown),
-            }))
-        }
-        None => no_label(alloc),
+    match args {
+        [Arg::Tree(point)] => point,
+        _ => unreachable!(),
     }
 }
 
-fn label_of(point: &Tree) -> Option<&Text>
-    ensures { option_map (λ text. text.now) result ≡ label_of point.now }
+fn create_point(alloc: Global, store: &mut Store, point: &Tree) -> Result<Reply, AllocError>
+    requires passes { ShapePasses point_shape }
+    requires fit { ArgsFit point_shape.table point_shape.slots (OfTree point.now ∷ []) }
+    ensures ok { IfOk result (λ reply. CreatesPoint (OfTree point.now ∷ []) store.old reply store.new) }
+    ensures err { OnErr result (store.new ≡ store.old) }
+{
+    let label = label_of(point);
+    let stored = point.copy(alloc)?;
+    let shown = point.copy(alloc)?;
+    store.insert("points", label.as_str(), stored)?;
+    Ok(Reply::Success(SuccessReply {
+        status: StatusCode::CREATED,
+        content: Content::Json(shown),
+    }))
+}
+
+fn label_of(point: &Tree) -> &Text
+    requires { (label : ListOf ℕ) × (label_of point.now ≡ Some label) }
+    ensures { label_of point.now ≡ Some result.now }
 {
     match point {
         Tree::Fields(fields) => match fields.as_slice() {
-            [Tree::Text(label), ..] => Some(label),
-            _ => None,
+            [Tree::Text(label), ..] => label,
+            _ => unreachable!(),
         },
-        _ => None,
+        _ => unreachable!(),
     }
-}
-
-fn no_label(alloc: Global) -> Result<Reply, AllocError>
-    ensures { IfOk result (λ reply. reply ≡ Failure (Http (internal_error (codes "a point has no label")))) }
-{
-    let message = Text::from_ascii(alloc, "a point has no label")?;
-    let error = HttpError::for_internal_error(alloc, message)?;
-    Ok(Reply::Failure(ErrorReply::Http(error)))
 }
 
 fn point_shape(alloc: Global) -> Result<HandlerShape, AllocError>

@@ -2,7 +2,7 @@
 ghost use Rattle.std.specs.Prelude.{◌≡◌, ◌≢◌, ◌↔◌, Ok, IfOk, IsErrOf};
 ghost use Rattle.contract_tool.specs.Words.{AskForSession, IsCommand};
 ghost use Rattle.semver.specs.Identifiers.{parts_of};
-ghost use Rattle.semver.specs.Parse.{Parts, memory_error, version_parts};
+ghost use Rattle.semver.specs.Parse.{Parts, version_parts};
 
 use semver::Version;
 use std::alloc::{AllocError, Global};
@@ -12,6 +12,22 @@ use std::alloc::{AllocError, Global};
 pub(crate) enum WordsError {
     Usage,
     OutOfMemory,
+}
+
+impl From<semver::Error> for WordsError {
+    ghost use Rattle.std.specs.Prelude.{◌≡◌, ◌≢◌, ◌↔◌};
+    ghost use Rattle.semver.specs.Parse.{memory_error};
+    ghost use Rattle.contract_tool.specs.declared.words.WordsError.TheVariants.{Usage};
+
+    ghost from_gives = { λ error made. made ≡ Usage ↔ (error ≢ memory_error) };
+
+    fn from(error: semver::Error) -> WordsError {
+        if error == semver::Error::from(AllocError) {
+            WordsError::OutOfMemory
+        } else {
+            WordsError::Usage
+        }
+    }
 }
 
 /// The version of the session that the words ask for.
@@ -29,18 +45,5 @@ fn parse_version(alloc: Global, text: &str) -> Result<Version, WordsError>
     ensures version { IfOk result (λ version. version_parts text.now ≡ Ok (parts_of version)) }
     ensures usage { IsErrOf result WordsError.Usage ↔ ((parts : Parts) → version_parts text.now ≢ Ok parts) }
 {
-    match Version::parse(alloc, text) {
-        Ok(version) => Ok(version),
-        Err(error) => Err(words_error(error)),
-    }
-}
-
-fn words_error(error: semver::Error) -> WordsError
-    ensures { result ≡ WordsError.Usage ↔ (error ≢ memory_error) }
-{
-    if error == semver::Error::from(AllocError) {
-        WordsError::OutOfMemory
-    } else {
-        WordsError::Usage
-    }
+    Ok(Version::parse(alloc, text)?)
 }

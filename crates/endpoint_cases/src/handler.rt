@@ -114,7 +114,7 @@ impl RouteHandler for Replies {
     ghost use Rattle.std.specs.Prelude.{◌≡◌, ⊤, codes, if◌then◌else◌};
     ghost use Rattle.api_description.specs.declared.api_respond.reply.ErrorReply.TheVariants.{Http};
 
-    ghost label_of = { λ handler. if handler.fails then codes "fails" else codes "returns" };
+    ghost logged_as = { λ handler. if handler.fails then codes "fails" else codes "returns" };
 
     ghost shape_of = { λ handler. handler.shape };
 

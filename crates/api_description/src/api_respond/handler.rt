@@ -70,7 +70,7 @@ ghost use Rattle.api_description.specs.declared.api_respond.handler.RequestConte
 /// What answers the requests of an endpoint.
 pub trait RouteHandler: Drop {
     /// The bytes of the name in logs.
-    ghost label_of: { Self → List ℕ };
+    ghost logged_as: { Self → List ℕ };
 
     /// The shape, which never changes.
     ghost shape_of: { Self → Shape };
@@ -83,7 +83,7 @@ pub trait RouteHandler: Drop {
 
     /// The handler's name in logs, which never changes.
     fn label(&self) -> &str
-        ensures { result.now ≡ label_of self.now };
+        ensures { result.now ≡ logged_as self.now };
 
     /// What the handler takes and gives.
     fn shape(&self) -> &HandlerShape

@@ -1,15 +1,17 @@
 use Rattle.std.proofs.Common.{◌≡◌, Err, ap, inl, inr}
+use Rattle.std.proofs.lemmas.Result.{err_from_is_err_and}
 use Rattle.contract_tool.specs.declared.words.WordsError.TheVariants.{Usage}
 use Rattle.contract_tool.proofs.VersionErrors.{refused-by_text}
 use Rattle.contract_tool.proofs.words.parse_version.Goals as goal
 
-pub returns-in-Err-clause-usage : goal.returns-in-Err-clause-usage
-returns-in-Err-clause-usage c = (
-  λ e parts read.
-      let usage : c.words_error.result ≡ Usage = cc in
-      elim c.in-Err.ensures.err [
-        | inl memory ↦ c.words_error.ensures.0 usage memory
-        | inr wrong ↦ cc
-      ],
-  λ none. ap Err (c.words_error.ensures.1 (refused-by_text _ c.args.text.now c.in-Err.error c.in-Err.ensures.refused none)),
-)
+pub returns-in_err-parse-clause-usage : goal.returns-in_err-parse-clause-usage
+returns-in_err-parse-clause-usage c =
+    let made = err_from_is_err_and c.from_residual.result c.from_residual.ensures.1 in
+    rw made.1 (
+      λ usage parts read.
+          elim c.in_err-parse.ensures.err [
+            | inl memory ↦ let is : made.0 ≡ Usage = cc in made.2.0 is memory
+            | inr wrong ↦ cc
+          ],
+      λ none. ap Err (made.2.1 (refused-by_text _ c.args.text.now _ c.in_err-parse.ensures.refused none)),
+    )
