@@ -3,9 +3,9 @@
 
 ghost use Rattle.schema_values.specs.Sound.{IsSound};
 
-mod descriptors;
+mod types;
 
-use crate::descriptors::{definitions, descriptor};
+use crate::types::{definitions, descriptor};
 use schema_values::{Json, ReadError, Text};
 use std::alloc::{AllocError, Global};
 use std::env;
