@@ -16,6 +16,9 @@ pub use Rattle.schema_values.proofs.Stable.{less, kept_sorted, none_before_at, s
 pub use Rattle.schema_values.proofs.JsonParts.{OfParts, by_parts}
 pub use Rattle.schema_values.proofs.Besides.{made-out}
 pub use Rattle.schema_values.proofs.SoundLemmas.{IsSound-List, IsSound-Object, items_sound, members_sound}
+-- ---- derived comparisons, and that of JSON values
+pub use Rattle.schema_values.proofs.Comparisons.{IsSameBy, SameFields, ◌⨾◌, both, same_each, same_value}
+pub use Rattle.schema_values.proofs.EqualValues.{json_eq, json_eq-tells}
 -- ---- the tests of values, and what is read
 pub use Rattle.schema_values.proofs.SameLemmas.{same_told}
 pub use Rattle.schema_values.proofs.SoundTests.{sound-decides}

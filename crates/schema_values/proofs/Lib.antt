@@ -26,6 +26,8 @@ pub mod OneReading
 pub mod SoundReadings
 pub mod AscendingReadings
 pub mod SameLemmas
+pub mod Comparisons
+pub mod EqualValues
 pub mod SoundTests
 pub mod Besides
 pub mod Entries

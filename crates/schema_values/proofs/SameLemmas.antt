@@ -1,5 +1,5 @@
 -- The test of two values tells whether they are equal.
-use Rattle.std.proofs.Common.{◌≡◌, ◌↔◌, IsTrue, Bool, true, false, ◌&&◌, List, ◌∷◌, bytes_eq, refl, sym, ap, ap₂, ◌∙◌, subst, true≢false}
+use Rattle.std.proofs.Common.{◌≡◌, ◌↔◌, IsTrue, Bool, true, ◌&&◌, List, ◌∷◌, bytes_eq, refl, sym, ap, ap₂, ◌∙◌, subst}
 use Rattle.std.specs.Cmp.Derive.{both_true}
 use Rattle.std.specs.Cmp.{booleans_Decides, signed_Decides}
 use Rattle.std.proofs.lemmas.Bool.Decides.{same_from_decides}
@@ -9,14 +9,7 @@ use Rattle.schema_values.specs.declared.json_value.Json.TheVariants.{rolls-List,
 use Rattle.schema_values.specs.declared.json_value.Member.{Member}
 use Rattle.schema_values.specs.Member.{member}
 use Rattle.schema_values.specs.Same.{same_json, same_items, same_members}
-use Rattle.schema_values.proofs.Rows.{items_row, items_of_row, members_row, members_of_row}
-
-never : {P : Type 0} → false ≡ true → P
-never e = absurd (true≢false (sym e))
-
-both : (b c : Bool) → (b && c) ≡ true → (b ≡ true) × (c ≡ true)
-both true c e = (refl, e)
-both false c e = never e
+use Rattle.schema_values.proofs.Comparisons.{both, never}
 
 list_is : (shape : _) (items : _) → List' shape items ≡ ListOf (items-the_row-Json _ items)
 list_is shape items = sym (roll-out-Json (List' shape items)) ∙ ap roll-Json (outs-List' shape items) ∙ rolls-List _ ∙ ap ListOf (items_shown-the_row-Json-0 shape items)
@@ -104,13 +97,3 @@ same-decides json other = (same_is json other, λ e. subst (λ k. same_json json
 -- what answers whether two values are equal answers as the test does
 pub same_told : (json other : Json) (b : Bool) → (IsTrue b ↔ (json ≡ other)) → b ≡ same_json json other
 same_told json other b told = same_from_decides b (same_json json other) told (same-decides json other)
-
-pub same_told-List : (xs ys : List Json) (b : Bool) → (IsTrue b ↔ (xs ≡ ys)) → b ≡ same_json (ListOf xs) (ListOf ys)
-same_told-List xs ys b told =
-    let back : Json → List Json = λ j. items-the_row-Json (items_row j).0 (items_row j).1 in
-    same_told (ListOf xs) (ListOf ys) b (λ h. ap ListOf (told.0 h), λ e. told.1 (sym (items_of_row xs) ∙ ap back e ∙ items_of_row ys))
-
-pub same_told-Object : (xs ys : List Member) (b : Bool) → (IsTrue b ↔ (xs ≡ ys)) → b ≡ same_json (Object xs) (Object ys)
-same_told-Object xs ys b told =
-    let back : Json → List Member = λ j. items-the_row-Member (members_row j).0 (members_row j).1 in
-    same_told (Object xs) (Object ys) b (λ h. ap Object (told.0 h), λ e. told.1 (sym (members_of_row xs) ∙ ap back e ∙ members_of_row ys))

@@ -9,7 +9,7 @@ use crate::list::List;
 use crate::text::Text;
 
 /// A JSON value (RFC 8259) whose numbers are whole.
-#[derive(Drop)]
+#[derive(Drop, PartialEq, Eq)]
 #[cycle(json)]
 pub enum Json {
     /// The literal `null`, written where there is no value.
@@ -27,7 +27,7 @@ pub enum Json {
 }
 
 /// A member of an object.
-#[derive(Drop)]
+#[derive(Drop, PartialEq, Eq)]
 #[cycle(json)]
 pub struct Member {
     /// Its name.

@@ -212,7 +212,7 @@ fn has_minus(bytes: &[u8]) -> bool
     ensures value { result ≡ (slice_index bytes.now 0 == 45) }
     ensures some { result ≡ true → 0 < length bytes.now }
 {
-    !bytes.is_empty() && bytes[0] == 45
+    !bytes.is_empty() && bytes[0] == b'-'
 }
 
 fn unsigned(numeral: &Numeral<'_>) -> Option<i128>

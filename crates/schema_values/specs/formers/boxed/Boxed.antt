@@ -7,6 +7,7 @@ use Rattle.std.specs.contracts.boxed.Box as box
 use Rattle.std.specs.contracts.impls.GlobalAllocator.TheImpl as global_allocator
 use Rattle.std.specs.declared.alloc.Global.{Global}
 use Rattle.std.specs.declared.boxed.Box.{Box}
+use Rattle.std.specs.declared.cmp.PartialEq as eq
 use Rattle.schema_values.specs.contracts.boxed.Boxed as contract
 use Rattle.schema_values.specs.contracts.boxed.Boxed.TheInside as inside
 use Rattle.schema_values.specs.declared.boxed.Boxed as declared
@@ -92,3 +93,7 @@ the_items X x = x ∷ []
 pub the_items_listed : (X : Type 0) (x : X)
     → listed (one_more none_left) (children (the_former this) X x) ≡ the_items X x
 the_items_listed X x = refl
+
+-- Two boxes are equal where their values are, which h does not change.
+pub the_eq_natural : (X Y : Type 0) (h : X → Y) (V : eq.Ghosts Y) (x y : X) → V.eq (h x) (h y) ≡ V.eq (h x) (h y)
+the_eq_natural X Y h V x y = refl
