@@ -1,4 +1,4 @@
 pub mod Definitions
 pub mod Index
-pub mod Slots
+pub mod NewNames
 pub mod Adding

@@ -26,7 +26,7 @@ pub enum IntKind {
 }
 
 /// A descriptor of a type. Bounds are inclusive; lengths count characters or items.
-#[derive(Drop)]
+#[derive(Drop, PartialEq, Eq)]
 #[cycle(desc)]
 pub enum Desc {
     /// Every value.
@@ -89,7 +89,7 @@ pub enum Desc {
 }
 
 /// A name of an enumeration.
-#[derive(Drop)]
+#[derive(Drop, PartialEq, Eq)]
 pub struct Named {
     /// The name.
     pub name: Text,
@@ -98,7 +98,7 @@ pub struct Named {
 }
 
 /// A variant of an external enumeration, with its payload if it has one.
-#[derive(Drop)]
+#[derive(Drop, PartialEq, Eq)]
 #[cycle(desc)]
 pub struct Variant {
     /// Its name.
@@ -110,7 +110,7 @@ pub struct Variant {
 }
 
 /// A variant of a tagged enumeration. Its fields stand beside the tag.
-#[derive(Drop)]
+#[derive(Drop, PartialEq, Eq)]
 #[cycle(desc)]
 pub struct TaggedVariant {
     /// Its name, which stands under the tag.
@@ -122,7 +122,7 @@ pub struct TaggedVariant {
 }
 
 /// A field of a struct, or of a tagged variant.
-#[derive(Drop)]
+#[derive(Drop, PartialEq, Eq)]
 #[cycle(desc)]
 pub struct Field {
     /// Its name.
@@ -136,7 +136,7 @@ pub struct Field {
 }
 
 /// What stands for a field that is absent.
-#[derive(Drop)]
+#[derive(Drop, PartialEq, Eq)]
 pub enum Presence {
     /// The field must be there.
     Required,

@@ -3,7 +3,6 @@
 
 mod desc;
 mod equal;
-mod equal_trees;
 mod index;
 mod names;
 mod table;

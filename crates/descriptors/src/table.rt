@@ -6,17 +6,16 @@ ghost use Rattle.schema_values.specs.Sound.{AreDistinct};
 ghost use Rattle.descriptors.specs.Definitions.{definition, definition_with, entry_of, definition_name};
 ghost use Rattle.descriptors.specs.Adding.{Adds, IsRefused};
 ghost use Rattle.descriptors.specs.Index.{IsTable};
-ghost use Rattle.descriptors.specs.Slots.{IsSlotFor};
+ghost use Rattle.descriptors.specs.NewNames.{IsNewName};
 
 use crate::desc::Desc;
-use crate::equal::same_text;
 use crate::index::search_places;
 use schema_values::{List, Text, copy_text};
 use std::alloc::{AllocError, Global};
 use std::marker::Model;
 
 /// A named descriptor.
-#[derive(Drop)]
+#[derive(Drop, PartialEq, Eq)]
 pub struct Definition {
     /// The name by which references mean it.
     pub name: Text,
@@ -45,12 +44,24 @@ pub enum Added {
 }
 
 /// Why a definition was not added.
-#[derive(Debug, Drop)]
+#[derive(Debug, Drop, PartialEq, Eq)]
 pub enum AddError {
     /// The name stands there with another descriptor or description.
     Clash(Text),
     /// There was not enough memory.
     OutOfMemory,
+}
+
+impl AddError {
+    /// An error equal to this one.
+    pub fn copy(&self, alloc: Global) -> Result<AddError, AllocError>
+        ensures { IfOk result (λ copy. copy ≡ self.now) }
+    {
+        match self {
+            AddError::Clash(name) => Ok(AddError::Clash(name.copy(alloc)?)),
+            AddError::OutOfMemory => Ok(AddError::OutOfMemory),
+        }
+    }
 }
 
 impl From<AllocError> for AddError {
@@ -96,13 +107,13 @@ impl Definition {
     pub fn equals(&self, other: &Definition) -> bool
         ensures { IsTrue result ↔ (self.now ≡ other.now) }
     {
-        self.name.equals(&other.name) && self.says(&other.description, &other.desc)
+        self == other
     }
 
     fn says(&self, description: &Option<Text>, desc: &Desc) -> bool
         ensures { IsTrue result ↔ (self.now ≡ definition_with self.now.name description.now desc.now) }
     {
-        same_text(&self.description, description) && self.desc.equals(desc)
+        self.description == *description && self.desc == *desc
     }
 }
 
@@ -210,17 +221,17 @@ impl DescTable {
         let definitions = self.definitions.as_slice();
         let place = definitions.len();
         let places = &mut self.places;
-        let found = slot_for(self.alloc, definitions, places, name, &description, &desc)?;
-        let Some(slot) = found else {
+        let found = new_name_for(self.alloc, definitions, places, name, &description, &desc)?;
+        let Some(fresh) = found else {
             return Ok(Added::Same);
         };
         let definition = Definition {
-            name: slot.name,
+            name: fresh.name,
             description,
             desc,
         };
         self.definitions.push(definition)?;
-        match self.places.insert(slot.gap, place) {
+        match self.places.insert(fresh.gap, place) {
             Ok(()) => Ok(Added::New),
             Err(_) => unreachable!(),
         }
@@ -244,27 +255,27 @@ impl DescTable {
 
 /// A new name, and the gap into which its place goes.
 #[derive(Drop)]
-struct Slot {
+struct NewName {
     name: Text,
     gap: usize,
 }
 
-/// A slot for a definition, with room for its place. There is none where the definition is there already.
-fn slot_for(
+/// The new name of a definition, with room for its place. There is none where the definition is there already.
+fn new_name_for(
     alloc: Global,
     definitions: &[Definition],
     places: &mut Vec<usize>,
     name: &str,
     description: &Option<Text>,
     desc: &Desc,
-) -> Result<Option<Slot>, AddError>
+) -> Result<Option<NewName>, AddError>
     requires { IsTable definitions.now places.old.items }
     ensures kept { places.new.items ≡ places.old.items }
-    ensures slot { IfOk result (λ slot. IfSome slot
-        (IsSlotFor definitions.now places.new.items (chars name.now))) }
-    ensures room { IfOk result (λ slot. IfSome slot
+    ensures fresh { IfOk result (λ fresh. IfSome fresh
+        (IsNewName definitions.now places.new.items (chars name.now))) }
+    ensures room { IfOk result (λ fresh. IfSome fresh
         (λ s. vec_len places.new < vec_capacity places.new)) }
-    ensures there { IfOk result (λ slot. IfNone slot (entry_of definitions.now (chars name.now) ≡ Some
+    ensures there { IfOk result (λ fresh. IfNone fresh (entry_of definitions.now (chars name.now) ≡ Some
         (definition_with (chars name.now) description.now desc.now))) }
     ensures same { entry_of definitions.now (chars name.now) ≡ Some
         (definition_with (chars name.now) description.now desc.now)
@@ -283,7 +294,7 @@ fn slot_for(
         Err(gap) => {
             let name = Text::from_str(alloc, name)?;
             places.reserve(1)?;
-            Ok(Some(Slot { name, gap }))
+            Ok(Some(NewName { name, gap }))
         }
     }
 }

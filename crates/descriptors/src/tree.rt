@@ -4,7 +4,7 @@ use schema_values::{Boxed, Json, List, Text};
 use std::alloc::{AllocError, Global};
 
 /// A value of a descriptor.
-#[derive(Drop)]
+#[derive(Drop, PartialEq, Eq)]
 #[cycle(tree)]
 pub enum Tree {
     /// The value of null, and beside its place that of a name or of a variant without payload.
@@ -32,7 +32,7 @@ pub enum Tree {
 }
 
 /// A key of a map, and its value.
-#[derive(Drop)]
+#[derive(Drop, PartialEq, Eq)]
 #[cycle(tree)]
 pub struct Pair {
     /// The key.

@@ -2,7 +2,7 @@ use Rattle.std.proofs.Common.{◌≡◌, ℕ, List, ◌∙◌, ap, sym, refl, So
 use Rattle.std.specs.Str.{chars}
 use Rattle.descriptors.specs.Definitions.{definition_with}
 use Rattle.descriptors.proofs.Found.{entry_name}
-use Rattle.descriptors.proofs.table.slot_for.Goals as goal
+use Rattle.descriptors.proofs.table.new_name_for.Goals as goal
 
 pub returns-then-says-clause-there : goal.returns-then-says-clause-there
 returns-then-says-clause-there c =
