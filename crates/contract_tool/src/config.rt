@@ -15,11 +15,11 @@ pub struct ToolConfig {
     pub title: Text,
     /// The limits of the server.
     pub server: ServerConfig,
-    /// The frames of a body.
+    /// The most frames of a body; below 2^64-1.
     pub frame_budget: u64,
-    /// The bytes of a line.
+    /// The most bytes of a line, without its newline; below 2^64-1.
     pub longest_line: u64,
-    /// The bytes of the whole input.
+    /// The most bytes of the whole input; below 2^64-1.
     pub most_input: u64,
 }
 

@@ -90,6 +90,7 @@ fn method_of(alloc: Global, bytes: &[u8]) -> Result<Method, MethodError>
 {
     match Method::from_bytes(alloc, bytes) {
         Ok(method) => {
+            // its promise shows that the bytes are a token
             let _token = method.as_str();
             Ok(method)
         }

@@ -53,8 +53,10 @@ pub struct PointCreate {
 }
 
 impl PointCreate {
-    /// The handler.
-    pub fn new(alloc: Global) -> Result<PointCreate, AllocError> {
+    /// The handler. Fails only for want of memory.
+    pub fn new(alloc: Global) -> Result<PointCreate, AllocError>
+        ensures { IfOk result (λ handler. handler.shape ≡ point_shape) }
+    {
         Ok(PointCreate {
             shape: point_shape(alloc)?,
         })
