@@ -100,7 +100,8 @@ impl Store {
     /// The pairs of the `count` least keys of a table, fewer where it has fewer, with copies of their trees.
     /// Fails only for want of memory.
     pub fn first(&self, alloc: Global, table: &str, count: u32) -> Result<List<Pair>, AllocError>
-        ensures { IfOk result (λ pairs. pairs ≡ map pair_of (take count (pairs_of table.now self.now))) }
+        ensures ascends { Ascend (pairs_of table.now self.now) }
+        ensures pairs { IfOk result (λ pairs. pairs ≡ map pair_of (take count (pairs_of table.now self.now))) }
     {
         match place_of(self.tables.as_slice(), table) {
             Some(place) => self.tables[place].first(alloc, count as usize),
@@ -117,7 +118,8 @@ impl Store {
         key: &str,
         count: u32,
     ) -> Result<List<Pair>, AllocError>
-        ensures { IfOk result (λ pairs. pairs
+        ensures ascends { OnOk result (Ascend (pairs_of table.now self.now)) }
+        ensures pairs { IfOk result (λ pairs. pairs
             ≡ map pair_of (take count (pairs_above key.now (pairs_of table.now self.now)))) }
     {
         match place_of(self.tables.as_slice(), table) {

@@ -97,7 +97,8 @@ impl Table {
 
     /// The first pairs, so many at most.
     pub(crate) fn first(&self, alloc: Global, count: usize) -> Result<List<Pair>, AllocError>
-        ensures { IfOk result (λ pairs. pairs ≡ map pair_of (take count self.now.1)) }
+        ensures ascends { Ascend self.now.1 }
+        ensures pairs { IfOk result (λ pairs. pairs ≡ map pair_of (take count self.now.1)) }
     {
         copy_pairs(alloc, self.trees.range(..), count)
     }
@@ -109,7 +110,8 @@ impl Table {
         key: &str,
         count: usize,
     ) -> Result<List<Pair>, AllocError>
-        ensures { IfOk result (λ pairs. pairs ≡ map pair_of (take count (pairs_above key.now self.now.1))) }
+        ensures ascends { OnOk result (Ascend self.now.1) }
+        ensures pairs { IfOk result (λ pairs. pairs ≡ map pair_of (take count (pairs_above key.now self.now.1))) }
     {
         let key = String::from_str(alloc, key)?;
         copy_pairs(
