@@ -46,6 +46,17 @@ impl Store {
         }
     }
 
+    /// A store equal to this one. Fails only for want of memory.
+    pub fn copy(&self, alloc: Global) -> Result<Store, AllocError>
+        ensures { IfOk result (λ copy. copy ≡ self.now) }
+    {
+        let mut tables = Vec::new(alloc);
+        for table in &self.tables {
+            tables.push(table.copy(alloc)?)?;
+        }
+        Ok(Store { alloc, tables })
+    }
+
     /// The tree of a key of a table. It takes no memory.
     pub fn get(&self, table: &str, key: &str) -> Option<&Tree>
         ensures { option_map (λ tree. tree.now) result ≡ stored table.now key.now self.now }
