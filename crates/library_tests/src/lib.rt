@@ -10,6 +10,4 @@ mod points;
 #[cfg(test)]
 mod schemas;
 #[cfg(test)]
-mod stores;
-#[cfg(test)]
 mod values;

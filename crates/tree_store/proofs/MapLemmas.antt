@@ -1,5 +1,5 @@
 -- The map of a table, seen as pairs by the bytes of the keys.
-use Rattle.std.proofs.Common.{◌≡◌, ◌≢◌, ◌∙◌, ℕ, zero, suc, ◌≤◌, List, [], ◌∷◌, ◌++◌, ◌&&◌, true, false, length, map, take, ap, arith, refl, string_bytes, bytes_eq}
+use Rattle.std.proofs.Common.{◌≡◌, ◌∙◌, ℕ, zero, suc, List, [], ◌∷◌, ◌++◌, ◌&&◌, true, false, take, ap, refl, subst, sym, string_bytes, bytes_eq}
 use Rattle.std.specs.Prelude.{if◌then◌else◌, Some}
 use Rattle.std.specs.List.{AllByRecursion}
 use Rattle.std.specs.List.Sorted.{IsStrictlySortedBy}
@@ -7,17 +7,17 @@ use Rattle.std.specs.declared.alloc.Global.{Global}
 use Rattle.std.specs.declared.string.String.{String}
 use Rattle.std.specs.declared.cmp.Ordering.TheVariants.{Less, Equal, Greater}
 use Rattle.std.specs.declared.ops.Bound.TheVariants.{Excluded, Unbounded}
-use Rattle.std.specs.Ordering.{is_eq, is_lt, nat_cmp, match_ordering}
+use Rattle.std.specs.Ordering.{is_eq, is_lt, nat_cmp, match_ordering, ordering_reverse}
 use Rattle.std.specs.Cmp.Lexicographic.{slice_cmp}
 use Rattle.std.specs.String.{string_cmp}
 use Rattle.std.specs.Map.{keys_of, lookup, remove_entry}
 use Rattle.std.specs.BTreeMap.{insert_entry, is_at}
 use Rattle.std.specs.BTreeMap.Range.{entries_between}
-use Rattle.std.proofs.lemmas.List.{length-append, length-map}
+use Rattle.std.proofs.lemmas.Cmp.{nat_list_cmp_total}
+use Rattle.std.proofs.lemmas.List.{map-append}
 use Rattle.std.proofs.lemmas.Map.Text.{is_eq-slice_cmp}
 use Rattle.descriptors.specs.declared.tree.Tree.{Tree}
-use Rattle.descriptors.specs.declared.tree.Pair.{Pair}
-use Rattle.tree_store.specs.Tables.{Ascend, Pairs, pair_of, pairs_above, pairs_with, pairs_without, tree_at}
+use Rattle.tree_store.specs.Tables.{Ascend, Pairs, pairs_above, pairs_with, pairs_without, tree_at}
 use Rattle.tree_store.specs.TableView.{pairs_of_entries}
 
 pub pairs_of_entries-insert_entry : (entries : List (String Global × Tree)) (key : String Global) (tree : Tree)
@@ -58,21 +58,6 @@ unfolding IsStrictlySortedBy
 ascending [] sorted = sorted
 ascending (e ∷ es) sorted = (below_all e.0 es sorted.0, ascending es sorted.1)
 
--- the first pairs are those of the first entries
-pub first_pairs : (done rest : List (String Global × Tree)) (count : ℕ) → length done ≡ count
-    → take count (pairs_of_entries (done ++ rest)) ≡ pairs_of_entries done
-first_pairs [] rest zero is = refl
-first_pairs [] rest (suc n) is = absurd (omega (arith, is))
-first_pairs (e ∷ es) rest zero is = absurd (omega (is, arith))
-first_pairs (e ∷ es) rest (suc n) is = ap (λ pairs. (string_bytes e.0, e.1) ∷ pairs) (first_pairs es rest n (omega (is, arith)))
-
--- fewer pairs are all of them
-pub all_pairs : (done : List (String Global × Tree)) (count : ℕ) → length done ≤ count → take count (pairs_of_entries done) ≡ pairs_of_entries done
-all_pairs [] zero fits = refl
-all_pairs [] (suc n) fits = refl
-all_pairs (e ∷ es) zero fits = absurd (omega (fits, arith))
-all_pairs (e ∷ es) (suc n) fits = ap (λ pairs. (string_bytes e.0, e.1) ∷ pairs) (all_pairs es n (omega (fits, arith)))
-
 -- every entry lies between no bounds
 pub between_none : (entries : List (String Global × Tree)) → entries_between string_cmp Unbounded Unbounded entries ≡ entries
 between_none [] = refl
@@ -98,15 +83,23 @@ pub take_none : (count : ℕ) (none : Pairs) → none ≡ [] → take count none
 take_none zero none is = refl
 take_none (suc n) none is = rw is refl
 
--- one entry more is one pair more
-pub one_more : (done : List (String Global × Tree)) (e : String Global × Tree)
-    → map pair_of (pairs_of_entries (done ++ e ∷ [])) ≡ map pair_of (pairs_of_entries done) ++ pair_of (string_bytes e.0, e.1) ∷ []
-one_more [] e = refl
-one_more (d ∷ ds) e = ap (λ pairs. pair_of (string_bytes d.0, d.1) ∷ pairs) (one_more ds e)
+met_last : (key : List ℕ) (tree : Tree) (P : List ℕ → Type 0) (pairs rest : Pairs) → AllByRecursion P (keys_of (pairs ++ (key, tree) ∷ rest)) → P key
+met_last key tree P [] rest all = all.0
+met_last key tree P (p ∷ ps) rest all = met_last key tree P ps rest all.1
 
--- while there are not so many, one more is not too much
-pub one_more_fits : (done : List (String Global × Tree)) (e : String Global × Tree) (pairs : List Pair) (count : ℕ)
-    → pairs ≡ map pair_of (pairs_of_entries done) → length pairs ≢ count → length done ≤ count → length (done ++ e ∷ []) ≤ count
-one_more_fits done e pairs count same other fits =
-    let many : length pairs ≡ length done = ap length same ∙ length-map (pairs_of_entries done) pair_of ∙ length-map done (λ entry. (string_bytes entry.0, entry.1)) in
-    omega (arith, length-append done (e ∷ []), many, other, fits)
+-- a key that comes next in order goes last
+pub pairs_with-last : (key : List ℕ) (tree : Tree) (pairs rest : Pairs) → Ascend (pairs ++ (key, tree) ∷ rest) → pairs_with key tree pairs ≡ pairs ++ (key, tree) ∷ []
+unfolding IsStrictlySortedBy
+pairs_with-last key tree [] rest ascend = refl
+pairs_with-last key tree (p ∷ ps) rest ascend =
+    let below : slice_cmp nat_cmp p.0 key ≡ Less = met_last key tree (λ q. slice_cmp nat_cmp p.0 q ≡ Less) ps rest ascend.0 in
+    let above : slice_cmp nat_cmp key p.0 ≡ Greater = nat_list_cmp_total.antisymm key p.0 ∙ ap ordering_reverse below in
+    rw above (ap (λ pairs. p ∷ pairs) (pairs_with-last key tree ps rest ascend.1))
+
+-- the pairs of an entry and of those before it, where the keys are in order
+pub pairs_with-next : (done rest entries : List (String Global × Tree)) (e : String Global × Tree) → entries ≡ done ++ e ∷ rest → IsStrictlySortedBy string_cmp (keys_of entries)
+    → pairs_with (string_bytes e.0) e.1 (pairs_of_entries done) ≡ pairs_of_entries (done ++ e ∷ [])
+pairs_with-next done rest entries e split sorted =
+    let shown : String Global × Tree → List ℕ × Tree = λ entry. (string_bytes entry.0, entry.1) in
+    let ascend : Ascend (pairs_of_entries done ++ (string_bytes e.0, e.1) ∷ pairs_of_entries rest) = subst Ascend (ap pairs_of_entries split ∙ map-append shown done (e ∷ rest)) (ascending entries sorted) in
+    pairs_with-last (string_bytes e.0) e.1 (pairs_of_entries done) (pairs_of_entries rest) ascend ∙ sym (map-append shown done (e ∷ []))

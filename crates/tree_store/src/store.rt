@@ -46,6 +46,17 @@ impl Store {
         }
     }
 
+    /// A store equal to this one. Fails only for want of memory.
+    pub fn copy(&self, alloc: Global) -> Result<Store, AllocError>
+        ensures { IfOk result (λ copy. copy ≡ self.now) }
+    {
+        let mut tables = Vec::new(alloc);
+        for table in &self.tables {
+            tables.push(table.copy(alloc)?)?;
+        }
+        Ok(Store { alloc, tables })
+    }
+
     /// The tree of a key of a table. It takes no memory.
     pub fn get(&self, table: &str, key: &str) -> Option<&Tree>
         ensures { option_map (λ tree. tree.now) result ≡ stored table.now key.now self.now }
@@ -100,7 +111,8 @@ impl Store {
     /// The pairs of the `count` least keys of a table, fewer where it has fewer, with copies of their trees.
     /// Fails only for want of memory.
     pub fn first(&self, alloc: Global, table: &str, count: u32) -> Result<List<Pair>, AllocError>
-        ensures { IfOk result (λ pairs. pairs ≡ map pair_of (take count (pairs_of table.now self.now))) }
+        ensures ascends { Ascend (pairs_of table.now self.now) }
+        ensures pairs { IfOk result (λ pairs. pairs ≡ map pair_of (take count (pairs_of table.now self.now))) }
     {
         match place_of(self.tables.as_slice(), table) {
             Some(place) => self.tables[place].first(alloc, count as usize),
@@ -117,7 +129,8 @@ impl Store {
         key: &str,
         count: u32,
     ) -> Result<List<Pair>, AllocError>
-        ensures { IfOk result (λ pairs. pairs
+        ensures ascends { OnOk result (Ascend (pairs_of table.now self.now)) }
+        ensures pairs { IfOk result (λ pairs. pairs
             ≡ map pair_of (take count (pairs_above key.now (pairs_of table.now self.now)))) }
     {
         match place_of(self.tables.as_slice(), table) {

@@ -50,6 +50,28 @@ impl Table {
         Ok(Table { name, trees })
     }
 
+    /// A table equal to this one.
+    pub(crate) fn copy(&self, alloc: Global) -> Result<Table, AllocError>
+        ensures { IfOk result (λ copy. copy ≡ self.now) }
+    {
+        let mut copy = Table {
+            name: String::from_str(alloc, self.name.as_str())?,
+            trees: BTreeMap::new(alloc),
+        };
+        for (key, tree) in &self.trees {
+            copy.put(alloc, key.as_str(), tree.copy(alloc)?)?;
+        }
+        Ok(copy)
+    }
+
+    // Puts a tree at a key.
+    fn put(&mut self, alloc: Global, key: &str, tree: Tree) -> Result<(), AllocError>
+        ensures { OnOk result (self.new ≡ (self.old.0, pairs_with key.now tree self.old.1)) }
+    {
+        self.insert(alloc, key, tree)?;
+        Ok(())
+    }
+
     pub(crate) fn is_named(&self, name: &str) -> bool
         ensures { result ≡ bytes_eq name.now self.now.0 }
     {
@@ -97,7 +119,8 @@ impl Table {
 
     /// The first pairs, so many at most.
     pub(crate) fn first(&self, alloc: Global, count: usize) -> Result<List<Pair>, AllocError>
-        ensures { IfOk result (λ pairs. pairs ≡ map pair_of (take count self.now.1)) }
+        ensures ascends { Ascend self.now.1 }
+        ensures pairs { IfOk result (λ pairs. pairs ≡ map pair_of (take count self.now.1)) }
     {
         copy_pairs(alloc, self.trees.range(..), count)
     }
@@ -109,7 +132,8 @@ impl Table {
         key: &str,
         count: usize,
     ) -> Result<List<Pair>, AllocError>
-        ensures { IfOk result (λ pairs. pairs ≡ map pair_of (take count (pairs_above key.now self.now.1))) }
+        ensures ascends { OnOk result (Ascend self.now.1) }
+        ensures pairs { IfOk result (λ pairs. pairs ≡ map pair_of (take count (pairs_above key.now self.now.1))) }
     {
         let key = String::from_str(alloc, key)?;
         copy_pairs(
@@ -129,10 +153,7 @@ fn copy_pairs(
     ensures { IfOk result (λ pairs. pairs ≡ map pair_of (take count (pairs_of_entries entries.entry))) }
 {
     let mut pairs = List::new(alloc);
-    for (key, value) in entries {
-        if pairs.len() == count {
-            return Ok(pairs);
-        }
+    for (key, value) in entries.take(count) {
         let key = Text::from_str(alloc, key.as_str())?;
         let value = value.copy(alloc)?;
         pairs.push(Pair { key, value })?;

@@ -1,10 +1,13 @@
-//! Decodes a JSON body under a descriptor and encodes its tree again, to be measured.
+//! Decodes a JSON body under a descriptor and encodes its tree again, or fills a store with so many
+//! keys as the body says and pages through it, to be measured.
 #![tactic(auto)]
 
 ghost use Rattle.schema_values.specs.Sound.{IsSound};
 
+mod stores;
 mod types;
 
+use crate::stores::pairs_met;
 use crate::types::{definitions, descriptor};
 use schema_values::{Json, ReadError, Text};
 use std::alloc::{AllocError, Global};
@@ -26,6 +29,17 @@ enum Answer {
     NoDescriptor,
 }
 
+/// The number of pairs that are met in a store of so many keys.
+fn stored(alloc: Global, body: &[u8]) -> Result<Answer, AllocError> {
+    let keys = match Json::read(alloc, body) {
+        Ok(Json::Int(keys)) => u32::try_from(keys).unwrap_or(0),
+        Ok(_) | Err(ReadError::Unreadable) => 0,
+        Err(ReadError::OutOfMemory) => return Err(AllocError),
+    };
+    let met = pairs_met(alloc, keys)?;
+    Ok(Answer::Written(Json::Int(met as i128).compact(alloc)?))
+}
+
 fn decoded(alloc: Global, table: &DescTable, desc: &Desc, json: &Json) -> Result<Answer, AllocError>
     requires { IsSound json.now }
 {
@@ -43,6 +57,9 @@ fn decoded(alloc: Global, table: &DescTable, desc: &Desc, json: &Json) -> Result
 }
 
 fn answered(alloc: Global, word: &str, body: &[u8]) -> Result<Answer, AllocError> {
+    if word == "store" {
+        return stored(alloc, body);
+    }
     let table = definitions(alloc)?;
     let Some(desc) = descriptor(alloc, word)? else {
         return Ok(Answer::NoDescriptor);
@@ -76,7 +93,7 @@ fn tell(rt: &HostRuntime, answer: &Answer) -> io::Result<u8> {
             Ok(1)
         }
         Answer::NoDescriptor => {
-            eprintln!(rt; "value_bench list|folder")?;
+            eprintln!(rt; "value_bench list|folder|store")?;
             Ok(2)
         }
     }

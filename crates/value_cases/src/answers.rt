@@ -2,6 +2,7 @@
 use crate::faults::fault_text;
 use crate::printed::{lines_printed, printed_and_read, value};
 use crate::schemas::{admits, copied_schemas, definition, schema, titled};
+use crate::stores::store_told;
 use crate::tables::{add, add_together, copied_table, table_told};
 use crate::types::type_told;
 use crate::values::{decode, decode_and_encode, desc_told, encode};
@@ -10,7 +11,7 @@ use schema_values::{Json, List};
 use std::alloc::Global;
 
 /// The names that members of a case have.
-const MEMBERS: [&str; 17] = [
+const MEMBERS: [&str; 18] = [
     "case",
     "like",
     "call",
@@ -28,6 +29,7 @@ const MEMBERS: [&str; 17] = [
     "type",
     "kind",
     "places",
+    "steps",
 ];
 
 /// The calls of cases of values.
@@ -77,6 +79,7 @@ fn answer(alloc: Global, call: &Json, case: &Json) -> Result<Json, CaseError> {
         "print_and_read" => printed_and_read(alloc, case),
         "type" => type_told(alloc, case),
         "fault_text" => fault_text(alloc, case),
+        "store" => store_told(alloc, case),
         _ => Err(CaseError::Expected("the name of a call")),
     }
 }

@@ -1,0 +1,41 @@
+#!/bin/sh
+# Times of filling a table of a store with N keys (100000 by default) in no order and paging through it, a hundred keys a
+# page, and of the same with 2N keys. A time is the least of three runs, each that of a whole run of `value_bench`. Ends
+# with 1 where 2N cost more than 2.3 times N.
+here=$(cd "$(dirname "$0")/.." && pwd) || exit 1
+keys=${1:-100000}
+program=$here/crates/value_bench/out/value_bench
+work=$(mktemp -d) || exit 1
+trap 'rm -rf "$work"' EXIT
+
+# The least nanoseconds of three runs on so many keys, all of which must be met.
+nanoseconds() {
+    least=
+    for run in 1 2 3; do
+        start=$(date +%s%N)
+        met=$(echo "$1" | "$program" store)
+        end=$(date +%s%N)
+        if [ "$met" != "$1" ]; then
+            echo "stores.sh: $met of $1 keys were met" >&2
+            return 1
+        fi
+        if [ -z "$least" ] || [ $((end - start)) -lt "$least" ]; then
+            least=$((end - start))
+        fi
+    done
+    echo "$least"
+}
+
+echo '[]' >"$work/body"
+(cd "$here/crates/value_bench" && rt run -- list <"$work/body" >/dev/null 2>"$work/log")
+if [ ! -x "$program" ]; then
+    cat "$work/log" >&2
+    exit 1
+fi
+once=$(nanoseconds "$keys") || exit 1
+twice=$(nanoseconds $((keys * 2))) || exit 1
+awk -v keys="$keys" -v once="$once" -v twice="$twice" 'BEGIN {
+    printf "store, %d keys: %.1f ms\n", keys, once / 1e6
+    printf "store, %d keys: %.1f ms, %.2f times\n", keys * 2, twice / 1e6, twice / once
+    exit twice > 2.3 * once
+}'

@@ -1,0 +1,7 @@
+use Rattle.std.proofs.Common.{◌≡◌, map}
+use Rattle.std.specs.Map.Iter.{deref_pair}
+use Rattle.tree_store.specs.TableView.{pairs_of_entries}
+use Rattle.tree_store.proofs.table.Table.copy.Given as goal
+
+abbrev pub invariant-loop-key : goal.invariant-loop-key
+invariant-loop-key l = l.copy ≡ (l.self.0, pairs_of_entries (map deref_pair l.yielded))
