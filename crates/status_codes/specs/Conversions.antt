@@ -28,6 +28,5 @@ abbrev pub TextGives : {E : Type 0} → (ℕ → Type 0) → (ℕ → E) → E �
 TextGives Range outside invalid bytes result =
     IfOk result (λ code. bytes ≡ code_digits code)
     × (IsOk result ↔ IsTextOf Range bytes)
-    × ((status : ℕ) → IsErrOf result (outside status)
-    ↔ (IsOutside Range status × (bytes ≡ code_digits status)))
+    × ((n : ℕ) → IsErrOf result (outside n) ↔ (IsOutside Range n × (bytes ≡ code_digits n)))
     × (IsErrOf result invalid ↔ ¬ IsCodeText bytes)

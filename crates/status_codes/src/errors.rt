@@ -5,7 +5,7 @@ use std::fmt;
 use thiserror::Error;
 
 /// A status code outside 400 to 599, as it was given.
-#[derive(Clone, Copy, Debug, PartialEq, Eq, Error)]
+#[derive(Clone, Copy, Debug, Error)]
 pub struct NotAnError(pub StatusCode);
 
 /// Writes the status and what it is not.
@@ -21,7 +21,7 @@ impl fmt::Display for NotAnError {
 }
 
 /// A status code outside 400 to 499, as it was given.
-#[derive(Clone, Copy, Debug, PartialEq, Eq, Error)]
+#[derive(Clone, Copy, Debug, Error)]
 pub struct NotAClientError(pub StatusCode);
 
 /// Writes the status and what it is not.
@@ -37,7 +37,7 @@ impl fmt::Display for NotAClientError {
 }
 
 /// Why a number or a text is no code of an error by the client or the server.
-#[derive(Clone, Copy, Debug, PartialEq, Eq, Error)]
+#[derive(Clone, Copy, Debug, Error)]
 pub enum InvalidErrorStatusCode {
     /// It is a status code outside 400 to 599.
     NotAnError(NotAnError),
@@ -72,7 +72,7 @@ impl fmt::Display for InvalidErrorStatusCode {
 }
 
 /// Why a number or a text is no code of an error by the client.
-#[derive(Clone, Copy, Debug, PartialEq, Eq, Error)]
+#[derive(Clone, Copy, Debug, Error)]
 pub enum InvalidClientErrorStatusCode {
     /// It is a status code outside 400 to 499.
     NotAClientError(NotAClientError),
