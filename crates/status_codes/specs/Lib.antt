@@ -1,0 +1,4 @@
+pub mod Conversions
+pub mod Ranges
+pub mod Tables
+pub mod Texts
