@@ -260,7 +260,8 @@ struct NewName {
     gap: usize,
 }
 
-/// The new name of a definition, with room for its place. There is none where the definition is there already.
+/// The new name of a definition, with room for its place. There is none where the definition stands there
+/// already.
 fn new_name_for(
     alloc: Global,
     definitions: &[Definition],

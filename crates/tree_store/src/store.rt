@@ -112,7 +112,8 @@ impl Store {
     /// Fails only for want of memory.
     pub fn first(&self, alloc: Global, table: &str, count: u32) -> Result<List<Pair>, AllocError>
         ensures ascends { Ascend (pairs_of table.now self.now) }
-        ensures pairs { IfOk result (λ pairs. pairs ≡ map pair_of (take count (pairs_of table.now self.now))) }
+        ensures pairs { IfOk result (λ pairs. pairs
+            ≡ map pair_of (take count (pairs_of table.now self.now))) }
     {
         match place_of(self.tables.as_slice(), table) {
             Some(place) => self.tables[place].first(alloc, count as usize),

@@ -133,7 +133,8 @@ impl Table {
         count: usize,
     ) -> Result<List<Pair>, AllocError>
         ensures ascends { OnOk result (Ascend self.now.1) }
-        ensures pairs { IfOk result (λ pairs. pairs ≡ map pair_of (take count (pairs_above key.now self.now.1))) }
+        ensures pairs { IfOk result (λ pairs. pairs
+            ≡ map pair_of (take count (pairs_above key.now self.now.1))) }
     {
         let key = String::from_str(alloc, key)?;
         copy_pairs(
