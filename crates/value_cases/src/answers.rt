@@ -2,6 +2,7 @@
 use crate::faults::fault_text;
 use crate::printed::{lines_printed, printed_and_read, value};
 use crate::schemas::{admits, copied_schemas, definition, schema, titled};
+use crate::statuses::status_told;
 use crate::stores::store_told;
 use crate::tables::{add, add_together, copied_table, table_told};
 use crate::types::type_told;
@@ -11,7 +12,7 @@ use schema_values::{Json, List};
 use std::alloc::Global;
 
 /// The names that members of a case have.
-const MEMBERS: [&str; 18] = [
+const MEMBERS: [&str; 19] = [
     "case",
     "like",
     "call",
@@ -30,6 +31,7 @@ const MEMBERS: [&str; 18] = [
     "kind",
     "places",
     "steps",
+    "status",
 ];
 
 /// The calls of cases of values.
@@ -80,6 +82,7 @@ fn answer(alloc: Global, call: &Json, case: &Json) -> Result<Json, CaseError> {
         "type" => type_told(alloc, case),
         "fault_text" => fault_text(alloc, case),
         "store" => store_told(alloc, case),
+        "error_status" => status_told(alloc, case),
         _ => Err(CaseError::Expected("the name of a call")),
     }
 }

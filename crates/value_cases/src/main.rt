@@ -7,6 +7,7 @@ mod faults;
 mod printed;
 mod refusals;
 mod schemas;
+mod statuses;
 mod stores;
 mod tables;
 mod types;
