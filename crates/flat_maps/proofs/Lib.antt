@@ -1,0 +1,5 @@
+pub mod Steps
+pub mod TextSteps
+pub mod Passing
+pub mod CutLemmas
+pub mod Listed
