@@ -1,5 +1,5 @@
 -- What is told under a struct, and of a list of texts.
-use Rattle.std.proofs.Common.{◌≡◌, ℕ, Bool, true, false, List, Option, Some, length, refl, sym, ◌∙◌, ap}
+use Rattle.std.proofs.Common.{◌≡◌, ℕ, Bool, true, false, List, Option, Some, None, length, refl, sym, ◌∙◌, ap}
 use Rattle.descriptors.specs.declared.desc.Desc.{Desc, out-Desc}
 use Rattle.descriptors.specs.declared.desc.Desc.TheOpen.{Desc-F}
 use Rattle.descriptors.specs.declared.desc.Desc.TheVariants as desc
@@ -11,19 +11,19 @@ use Rattle.typed_values.specs.declared.fault.FaultKind.TheVariants.{WrongKind, B
 use Rattle.typed_values.specs.Bounds.{is_length_within}
 use Rattle.typed_values.specs.Denotes.{Told, refused, if_holds, items_told, all_told, as_tree}
 use Rattle.typed_values.specs.Levels.{DescLevel}
-use Rattle.flat_maps.specs.Flat.{told_item, texts_by, texts_told, struct_by, under_struct}
+use Rattle.flat_maps.specs.Flat.{told_item, texts_by, texts_told, fields_by, flat_fields}
 
-module _ (told : List Field → Told) (d : Desc) where
-  pub told_struct : (fs : List Field) (deny : Bool) → d ≡ desc.Struct fs deny → deny ≡ false → under_struct told (Some d) ≡ told fs
-  told_struct fs deny e f = ap (struct_by told) (ap out-Desc e ∙ desc.outs-Struct fs deny ∙ ap (Desc-F.Struct fs) f)
+module _ (d : Desc) where
+  pub open_struct : (fs : List Field) (deny : Bool) → d ≡ desc.Struct fs deny → deny ≡ false → flat_fields (Some d) ≡ Some fs
+  open_struct fs deny e f = ap fields_by (ap out-Desc e ∙ desc.outs-Struct fs deny ∙ ap (Desc-F.Struct fs) f)
 
-  pub told_denied : (fs : List Field) (deny : Bool) → d ≡ desc.Struct fs deny → deny ≡ true → under_struct told (Some d) ≡ refused WrongKind
-  told_denied fs deny e f = ap (struct_by told) (ap out-Desc e ∙ desc.outs-Struct fs deny ∙ ap (Desc-F.Struct fs) f)
+  pub denied_struct : (fs : List Field) (deny : Bool) → d ≡ desc.Struct fs deny → deny ≡ true → flat_fields (Some d) ≡ None
+  denied_struct fs deny e f = ap fields_by (ap out-Desc e ∙ desc.outs-Struct fs deny ∙ ap (Desc-F.Struct fs) f)
 
-  pub no_struct : ((fs : List Field) (deny : Bool) → d ≡ desc.Struct fs deny → ⊥) → under_struct told (Some d) ≡ refused WrongKind
+  pub no_struct : ((fs : List Field) (deny : Bool) → d ≡ desc.Struct fs deny → ⊥) → flat_fields (Some d) ≡ None
   no_struct none = by_level (out-Desc d) refl
     where
-      by_level : (x : DescLevel) → out-Desc d ≡ x → struct_by told x ≡ refused WrongKind
+      by_level : (x : DescLevel) → out-Desc d ≡ x → fields_by x ≡ None
       by_level (Desc-F.Struct fs deny) e = absurd (none fs deny (sym (roll-out-Desc d) ∙ ap roll-Desc e ∙ desc.rolls-Struct fs deny))
       by_level _ e = refl
 

@@ -6,3 +6,7 @@ pub mod CutLemmas
 pub mod Listed
 pub mod Loops
 pub mod Arms
+pub mod ScalarFits
+pub mod TextFits
+pub mod FlatFits
+pub mod PairFits

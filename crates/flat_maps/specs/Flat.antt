@@ -59,18 +59,23 @@ abbrev pub looked_up : List Definition → Names → Field → Option Told
 looked_up table names f = option_map (given_told table f.desc) (names f.name)
 
 -- the fields of a struct that takes unknown names
-abbrev pub struct_by : (List Field → Told) → DescLevel → Told
-struct_by told (Desc-F.Struct fs false) = told fs
-struct_by told _ = refused WrongKind
+abbrev pub fields_by : DescLevel → Option (List Field)
+fields_by (Desc-F.Struct fs false) = Some fs
+fields_by _ = None
 
--- any other descriptor has no flat names
-abbrev pub under_struct : (List Field → Told) → Option Desc → Told
+-- the fields whose names are flat
+abbrev pub flat_fields : Option Desc → Option (List Field)
+flat_fields None = None
+flat_fields (Some d) = fields_by (out-Desc d)
+
+-- what is told of the fields; a descriptor that has none takes no flat names
+abbrev pub under_struct : (List Field → Told) → Option (List Field) → Told
 under_struct told None = refused WrongKind
-under_struct told (Some d) = struct_by told (out-Desc d)
+under_struct told (Some fs) = told fs
 
 -- what flat names denote
 abbrev pub flat_told : List Definition → Names → Desc → Told
-flat_told table names d = under_struct (fields_told (looked_up table names)) (resolved table d)
+flat_told table names d = under_struct (fields_told (looked_up table names)) (flat_fields (resolved table d))
 
 -- the names denote the tree
 abbrev pub FlatDenotes : List Definition → Desc → Names → Tree → Type 0

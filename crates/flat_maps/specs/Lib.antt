@@ -4,3 +4,4 @@ pub mod Given
 pub mod Lookups
 pub mod Flat
 pub mod Pairs
+pub mod Maps

@@ -15,7 +15,7 @@ use Rattle.typed_values.specs.Denotes.{Told, refused, below}
 use Rattle.flat_maps.specs.declared.repeats.Repeats.{Repeats}
 use Rattle.flat_maps.specs.declared.repeats.Repeats.TheVariants.{Refuse, Last}
 use Rattle.flat_maps.specs.Given.{Names}
-use Rattle.flat_maps.specs.Flat.{resolved, fields_told, looked_up, under_struct}
+use Rattle.flat_maps.specs.Flat.{resolved, fields_told, flat_fields, looked_up, under_struct}
 
 -- the last value of each name
 abbrev pub last_values : List NamedText → Names
@@ -52,7 +52,7 @@ pairs_fields table repeats pairs fs = by_repeats repeats (first_doubled pairs fs
 
 -- what pairs denote: of each name the last one counts, and by the rule on repeats none of a field's may stand more than once
 abbrev pub pairs_told : List Definition → Repeats → List NamedText → Desc → Told
-pairs_told table repeats pairs d = under_struct (pairs_fields table repeats pairs) (resolved table d)
+pairs_told table repeats pairs d = under_struct (pairs_fields table repeats pairs) (flat_fields (resolved table d))
 
 -- the pairs denote the tree
 abbrev pub PairsDenote : List Definition → Desc → Repeats → List NamedText → Tree → Type 0

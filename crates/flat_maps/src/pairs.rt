@@ -1,17 +1,18 @@
 //! The struct that pairs denote.
 
-ghost use Rattle.std.specs.Prelude.{◌≡◌, Contains, IfErr, IfOk, Some, option_map};
+ghost use Rattle.std.specs.Prelude.{◌≡◌, Contains, IfErr, IfOk, option_map};
 ghost use Rattle.descriptors.specs.declared.desc.Field.{Field};
 ghost use Rattle.descriptors.specs.declared.tree.Tree.{Tree};
 ghost use Rattle.typed_values.specs.Answer.{Tells, IfFault, IsFaultOf};
 ghost use Rattle.typed_values.specs.Checks.{TablePasses, DescPasses};
-ghost use Rattle.flat_maps.specs.Flat.{under_struct};
-ghost use Rattle.flat_maps.specs.Pairs.{PairsDenote, first_doubled, is_doubled, pairs_fields, pairs_told};
+ghost use Rattle.typed_values.specs.Fits.{Fits};
+ghost use Rattle.flat_maps.specs.Flat.{FlatDenotes};
+ghost use Rattle.flat_maps.specs.Pairs.{PairsDenote, first_doubled, is_doubled, last_values, pairs_fields, pairs_told};
 
 use crate::fields::decode_fields;
 use crate::given::{Given, LookUp};
 use crate::repeats::Repeats;
-use crate::resolve::resolve;
+use crate::resolve::fields_of;
 use descriptors::{Desc, DescTable, Field, Tree};
 use request_words::{NamedText, SortedPairs};
 use schema_values::{List, Text};
@@ -44,6 +45,8 @@ pub fn decode_pairs(
     requires table { TablePasses table.now }
     requires desc { DescPasses table.now desc.now }
     ensures denotes { IfOk result (PairsDenote table.now desc.now repeats pairs.now) }
+    ensures last { IfOk result (FlatDenotes table.now desc.now (last_values pairs.now)) }
+    ensures fits { IfOk result (Fits table.now desc.now) }
     ensures fault { IfErr result (λ error. IfFault error
         (IsFaultOf (pairs_told table.now repeats pairs.now desc.now))) }
     ensures refused { IfErr result (λ error. IfFault error
@@ -66,36 +69,9 @@ fn tree_of_pairs(
     requires desc { DescPasses table.now desc.now }
     ensures { Tells result (pairs_told table.now repeats pairs.now desc.now) }
 {
-    match resolve(table, desc) {
-        Some(resolved) => decode_struct(alloc, table, resolved, pairs, repeats),
+    match fields_of(table, desc) {
+        Some(fields) => decode_sorted(alloc, table, fields, pairs, repeats),
         None => Err(Stop::refused(alloc, FaultKind::WrongKind)),
-    }
-}
-
-// A struct that denies unknown names, and any other descriptor, has no flat names.
-fn decode_struct(
-    alloc: Global,
-    table: &DescTable,
-    resolved: &Desc,
-    pairs: &[NamedText],
-    repeats: Repeats,
-) -> Result<Tree, Stop>
-    requires table { TablePasses table.now }
-    requires desc { DescPasses table.now resolved.now }
-    ensures { Tells result (under_struct (pairs_fields table.now repeats pairs.now) (Some resolved.now)) }
-{
-    match resolved {
-        Desc::Struct {
-            fields,
-            deny_unknown,
-        } => {
-            if *deny_unknown {
-                Err(Stop::refused(alloc, FaultKind::WrongKind))
-            } else {
-                decode_sorted(alloc, table, fields.as_slice(), pairs, repeats)
-            }
-        }
-        _ => Err(Stop::refused(alloc, FaultKind::WrongKind)),
     }
 }
 

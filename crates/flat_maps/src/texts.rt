@@ -5,6 +5,7 @@ ghost use Rattle.std.specs.Str.{chars};
 ghost use Rattle.descriptors.specs.declared.tree.Tree.{Tree};
 ghost use Rattle.typed_values.specs.Answer.{Tells, IfFault, IsFaultOf};
 ghost use Rattle.typed_values.specs.Checks.{TablePasses, DescPasses};
+ghost use Rattle.typed_values.specs.Fits.{Fits};
 ghost use Rattle.flat_maps.specs.Texts.{TextDenotes, text_told};
 
 use crate::numbers::number_of_text;
@@ -25,6 +26,7 @@ pub fn decode_text(
     requires table { TablePasses table.now }
     requires desc { DescPasses table.now desc.now }
     ensures denotes { IfOk result (TextDenotes table.now desc.now (chars text.now)) }
+    ensures fits { IfOk result (Fits table.now desc.now) }
     ensures fault { IfErr result (λ error. IfFault error
         (IsFaultOf (text_told table.now (chars text.now) desc.now))) }
     ensures refused { IfErr result (λ error. IfFault error
