@@ -57,3 +57,7 @@ pairs_told table repeats pairs d = under_struct (pairs_fields table repeats pair
 -- the pairs denote the tree
 abbrev pub PairsDenote : List Definition → Desc → Repeats → List NamedText → Tree → Type 0
 PairsDenote table desc repeats pairs tree = pairs_told table repeats pairs desc ≡ Ok tree
+
+-- each field's name stands at most once
+abbrev pub StandOnce : List Definition → Desc → List NamedText → Type 0
+StandOnce table desc pairs = (fs : List Field) → flat_fields (resolved table desc) ≡ Some fs → first_doubled pairs fs ≡ None

@@ -84,9 +84,9 @@ impl<Z: MapValue> LookUp for BTreeMap<Text, Z> {
     }
 }
 
-/// Decodes a map of texts, as the variables of a path, under a struct that takes unknown names, or a reference to
-/// one: the tree that it denotes, or the fault that is told first. Names that are no field's have no effect. It
-/// takes time in f log m for f fields and m names.
+/// Decodes a map of texts, as the variables of a path (OpenAPI 3.0.3, Parameter Object), under a struct that
+/// takes unknown names, or a reference to one: the tree that it denotes, or the fault that is told first. Names
+/// that are no field's have no effect. It takes time in f log m for f fields and m names.
 pub fn decode_map<Z: MapValue>(
     alloc: Global,
     table: &DescTable,
@@ -99,8 +99,8 @@ pub fn decode_map<Z: MapValue>(
     ensures fits { IfOk result (Fits table.now desc.now) }
     ensures fault { IfErr result (λ error. IfFault error
         (IsFaultOf (flat_told table.now (map_values Z.given map.now) desc.now))) }
-    ensures refused { IfErr result (λ error. IfFault error
-        (λ fault. (tree : Tree) → FlatDenotes table.now desc.now (map_values Z.given map.now) tree → ⊥)) }
+    ensures refused { IfErr result (λ error. IfFault error (λ fault.
+        (tree : Tree) → FlatDenotes table.now desc.now (map_values Z.given map.now) tree → ⊥)) }
 {
     match tree_of_map(alloc, table, desc, map) {
         Ok(tree) => Ok(tree),

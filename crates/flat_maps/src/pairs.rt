@@ -7,7 +7,8 @@ ghost use Rattle.typed_values.specs.Answer.{Tells, IfFault, IsFaultOf};
 ghost use Rattle.typed_values.specs.Checks.{TablePasses, DescPasses};
 ghost use Rattle.typed_values.specs.Fits.{Fits};
 ghost use Rattle.flat_maps.specs.Flat.{FlatDenotes};
-ghost use Rattle.flat_maps.specs.Pairs.{PairsDenote, first_doubled, is_doubled, last_values, pairs_fields, pairs_told};
+ghost use Rattle.flat_maps.specs.Pairs.{PairsDenote, StandOnce, first_doubled, is_doubled, last_values};
+ghost use Rattle.flat_maps.specs.Pairs.{pairs_fields, pairs_told};
 
 use crate::fields::decode_fields;
 use crate::given::{Given, LookUp};
@@ -32,9 +33,9 @@ impl LookUp for SortedPairs<'_> {
     }
 }
 
-/// Decodes the pairs of a query or of a form under a struct that takes unknown names, or a reference to one: the
-/// tree that they denote, or the fault that is told first. Names that are no field's have no effect. It takes
-/// time in (p + f) log p for p pairs and f fields.
+/// Decodes the pairs of a query (OpenAPI 3.0.3, Parameter Object) or of a form (Request Body Object) under a
+/// struct that takes unknown names, or a reference to one: the tree that they denote, or the fault that is told
+/// first. Names that are no field's have no effect. It takes time in (p + f) log p for p pairs and f fields.
 pub fn decode_pairs(
     alloc: Global,
     table: &DescTable,
@@ -46,6 +47,8 @@ pub fn decode_pairs(
     requires desc { DescPasses table.now desc.now }
     ensures denotes { IfOk result (PairsDenote table.now desc.now repeats pairs.now) }
     ensures last { IfOk result (FlatDenotes table.now desc.now (last_values pairs.now)) }
+    ensures once { repeats ≡ Repeats.Refuse
+        → IfOk result (λ _. StandOnce table.now desc.now pairs.now) }
     ensures fits { IfOk result (Fits table.now desc.now) }
     ensures fault { IfErr result (λ error. IfFault error
         (IsFaultOf (pairs_told table.now repeats pairs.now desc.now))) }
