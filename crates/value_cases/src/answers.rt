@@ -5,6 +5,7 @@ use crate::schemas::{admits, copied_schemas, definition, schema, titled};
 use crate::statuses::status_told;
 use crate::stores::store_told;
 use crate::tables::{add, add_together, copied_table, table_told};
+use crate::texts::{map_decoded, pairs_decoded, text_decoded};
 use crate::types::type_told;
 use crate::values::{decode, decode_and_encode, desc_told, encode};
 use case_notation::{AnswersCases, CaseError, given, text_of};
@@ -12,7 +13,7 @@ use schema_values::{Json, List};
 use std::alloc::Global;
 
 /// The names that members of a case have.
-const MEMBERS: [&str; 19] = [
+const MEMBERS: [&str; 22] = [
     "case",
     "like",
     "call",
@@ -32,6 +33,9 @@ const MEMBERS: [&str; 19] = [
     "places",
     "steps",
     "status",
+    "query",
+    "repeats",
+    "map",
 ];
 
 /// The calls of cases of values.
@@ -83,6 +87,9 @@ fn answer(alloc: Global, call: &Json, case: &Json) -> Result<Json, CaseError> {
         "fault_text" => fault_text(alloc, case),
         "store" => store_told(alloc, case),
         "error_status" => status_told(alloc, case),
+        "decode_text" => text_decoded(alloc, case),
+        "decode_pairs" => pairs_decoded(alloc, case),
+        "decode_map" => map_decoded(alloc, case),
         _ => Err(CaseError::Expected("the name of a call")),
     }
 }

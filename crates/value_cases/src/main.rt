@@ -10,6 +10,7 @@ mod schemas;
 mod statuses;
 mod stores;
 mod tables;
+mod texts;
 mod types;
 mod values;
 

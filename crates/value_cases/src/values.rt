@@ -39,7 +39,12 @@ fn tree_told(alloc: Global, scope: &Scope, json: &Json) -> Result<Json, CaseErro
     requires table { TablePasses scope.now.table }
     requires desc { DescPasses scope.now.table scope.now.desc }
 {
-    match decode_json(alloc, &scope.table, &scope.desc, json) {
+    decoded_told(alloc, decode_json(alloc, &scope.table, &scope.desc, json))
+}
+
+/// What decoding answered: a tree, as its copy is noted, or a fault.
+pub fn decoded_told(alloc: Global, answer: Result<Tree, DecodeError>) -> Result<Json, CaseError> {
+    match answer {
         Ok(tree) => noted(alloc, &tree.copy(alloc)?),
         Err(error) => refused(alloc, error),
     }
