@@ -1,5 +1,5 @@
--- Which struct pairs denote, by the rule on names that stand more than once (OpenAPI 3.0.3, Parameter Object: a unique
--- parameter is defined by a combination of a name and location; URL Standard, section 5.1, for pairs).
+-- Which struct pairs denote (URL Standard, section 5.1), by a rule on names that stand more than once. The rule is this
+-- project's own: OpenAPI 3.0.3 says of no parameter what its name standing twice in a query means.
 use Rattle.std.specs.Prelude.{◌≡◌, ℕ, Bool, true, false, List, [], ◌∷◌, Option, Some, None, option_map, if◌then◌else◌}
 use Rattle.std.specs.declared.result.Result.TheVariants.{Ok}
 use Rattle.schema_values.specs.declared.variables.VariableValue.TheVariants.{String}

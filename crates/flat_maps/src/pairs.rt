@@ -34,8 +34,9 @@ impl LookUp for SortedPairs<'_> {
 }
 
 /// Decodes the pairs of a query (OpenAPI 3.0.3, Parameter Object) or of a form (Request Body Object) under a
-/// struct that takes unknown names, or a reference to one: the tree that they denote, or the fault that is told
-/// first. Names that are no field's have no effect. It takes time in (p + f) log p for p pairs and f fields.
+/// struct that takes unknown names, or a reference to one: the tree that they denote, or the fault that is
+/// told first. Names that are no field's have no effect. It compares names some (p + f) log p times for p
+/// pairs and f fields, beside decoding what the fields are given.
 pub fn decode_pairs(
     alloc: Global,
     table: &DescTable,
