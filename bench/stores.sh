@@ -1,7 +1,8 @@
 #!/bin/sh
-# Times of filling a table of a store with N keys (100000 by default) in no order and paging through it, a hundred keys a
-# page, and of the same with 2N keys. A time is the least of three runs, each that of a whole run of `value_bench`. Ends
-# with 1 where 2N cost more than 2.3 times N.
+# Times of filling a table of a store with N keys (100000 by default), put by a fixed stride, and paging through it, a
+# hundred keys a page, and of the same with 2N keys. A time is the least of three runs, each that of a whole run of
+# `value_bench`. Beside them stand valgrind's counts of instructions, where it is there, and then they judge, since times
+# also tell how much of the store the processor's caches hold. Ends with 1 where 2N cost more than 2.3 times N.
 here=$(cd "$(dirname "$0")/.." && pwd) || exit 1
 keys=${1:-100000}
 program=$here/crates/value_bench/out/value_bench
@@ -26,6 +27,12 @@ nanoseconds() {
     echo "$least"
 }
 
+# The instructions of one run on so many keys.
+instructions() {
+    echo "$1" | valgrind --tool=callgrind --callgrind-out-file=/dev/null "$program" store 2>&1 >/dev/null |
+        awk '/refs:/ { gsub(",", "", $NF); print $NF }'
+}
+
 echo '[]' >"$work/body"
 (cd "$here/crates/value_bench" && rt run -- list <"$work/body" >/dev/null 2>"$work/log")
 if [ ! -x "$program" ]; then
@@ -37,5 +44,12 @@ twice=$(nanoseconds $((keys * 2))) || exit 1
 awk -v keys="$keys" -v once="$once" -v twice="$twice" 'BEGIN {
     printf "store, %d keys: %.1f ms\n", keys, once / 1e6
     printf "store, %d keys: %.1f ms, %.2f times\n", keys * 2, twice / 1e6, twice / once
-    exit twice > 2.3 * once
 }'
+if command -v valgrind >/dev/null; then
+    once=$(instructions "$keys")
+    twice=$(instructions $((keys * 2)))
+    awk -v once="$once" -v twice="$twice" 'BEGIN {
+        printf "instructions: %d and %d, %.2f times\n", once, twice, twice / once
+    }'
+fi
+awk -v once="$once" -v twice="$twice" 'BEGIN { exit twice > 2.3 * once }'
