@@ -6,6 +6,6 @@ pub use Rattle.written_texts.proofs.Whole.{true_where, holds_where, plain_texts,
 pub use Rattle.written_texts.proofs.FlatFields.{field_written}
 -- ---- the parameters of its fields, in each place
 pub use Rattle.written_texts.proofs.ParameterLists.{listed_fields, path_told, query_told, header_lines_told, variables_are, queries_are, headers_are}
-pub use Rattle.written_texts.proofs.ScanTexts.{first_scans, later_scans}
+pub use Rattle.written_texts.proofs.PageTexts.{first_pages, later_pages}
 -- ---- its forms
 pub use Rattle.written_texts.proofs.FormSchemas.{plain_are, titled_are, described_are}

@@ -9,6 +9,7 @@ pub mod Places
 pub mod FlatFields
 pub mod ParameterLists
 pub mod ScanTexts
+pub mod PageTexts
 pub mod FormObjects
 pub mod FormSteps
 pub mod FormSchemas

@@ -1,7 +1,5 @@
--- The parameters that are listed for what an operation in pages scans.
-use Rattle.std.proofs.Common.{◌≡◌, ◌↔◌, ℕ, Bool, true, false, ◌&&◌, ◌||◌, not, List, [], ◌∷◌, map, filter, Option, Some, option_map, is_ok, cond, codes, bytes_eq, IsTrue, refl, sym, ◌∙◌, ap}
-use Rattle.std.proofs.lemmas.Bool.{and_from, and_parts}
-use Rattle.std.proofs.lemmas.List.Folds.{list_all-map}
+-- What an operation in pages asks of the fields of what it scans.
+use Rattle.std.proofs.Common.{◌≡◌, ℕ, Bool, true, false, ◌&&◌, ◌||◌, not, List, [], ◌∷◌, map, filter, Option, Some, option_map, is_ok, cond, codes, bytes_eq, refl, sym, ◌∙◌, ap}
 use Rattle.std.proofs.Math.Bool.{and-true, or-false, or-true}
 use Rattle.std.specs.List.{list_all}
 use Rattle.std.specs.Prelude.{Contains}
@@ -9,30 +7,27 @@ use Rattle.schema_values.specs.declared.json_value.Json.{Json}
 use Rattle.schema_values.specs.declared.variables.VariableValue.TheVariants.{String}
 use Rattle.schema_values.specs.Order.{sorted_by}
 use Rattle.request_words.specs.declared.pairs.NamedText.{NamedText}
-use Rattle.request_words.specs.declared.request.WireRequest.{WireRequest}
-use Rattle.request_words.specs.Pairs.{query_pairs, values_of, last_text, last_value, are_some, has_pair}
-use Rattle.openapi_values.specs.Listed.{listed_holds}
+use Rattle.request_words.specs.Pairs.{values_of, last_text, last_value, are_some, has_pair}
 use Rattle.openapi_values.specs.Pages.{has_token, is_read, page_query_holds}
 use Rattle.openapi_values.specs.RequestParameters.{stands_or_not, values_hold}
 use Rattle.openapi_values.specs.TextAdmits.{text_admitted}
 use Rattle.descriptors.specs.declared.desc.Desc.{Desc}
 use Rattle.descriptors.specs.declared.desc.Field.{Field}
 use Rattle.descriptors.specs.declared.table.Definition.{Definition}
-use Rattle.descriptors.specs.declared.tree.Tree.{Tree}
 use Rattle.descriptors.specs.Definitions.{field_name}
 use Rattle.descriptors.proofs.CallerLemmas.{other_name}
 use Rattle.typed_values.specs.Schemas.{in_query}
 use Rattle.typed_values.specs.SchemaTable.{schema_json}
-use Rattle.flat_maps.specs.Flat.{under_struct, fields_told, given_told, looked_up, flat_told, FlatDenotes}
+use Rattle.flat_maps.specs.Flat.{under_struct, fields_told, given_told, looked_up, flat_told}
 use Rattle.flat_maps.specs.Pairs.{last_values}
 use Rattle.written_schemas.proofs.Sorted.{all_sorted}
-use Rattle.written_texts.specs.FieldParameters.{is_required, AllHold}
+use Rattle.written_texts.specs.FieldParameters.{is_required}
 use Rattle.written_texts.specs.FlatStructs.{IsFlatStruct}
-use Rattle.written_texts.specs.ScanParameters.{scan_parameter, scan_parameters, first_page_names, ScanHolds, NoneNamed}
+use Rattle.written_texts.specs.PageParameters.{first_page_names, NoneNamed}
 use Rattle.written_texts.proofs.FieldTexts.{told_or_not, field_holds, ok_fields, all_alike, all_both, stands_if}
 use Rattle.written_texts.proofs.FlatFields.{field_written}
 use Rattle.written_texts.proofs.Places.{AgreesOn}
-use Rattle.written_texts.proofs.Whole.{query_texts, holds_where}
+use Rattle.written_texts.proofs.Whole.{query_texts}
 
 -- ---- what is asked of one name
 
@@ -95,42 +90,32 @@ module _ (table : List Definition) (pairs : List NamedText) where
 
 -- ---- what is asked of the parameters
 
-module _ (doc : Json) (table : List Definition) (request : WireRequest) (fs : List Field) where
-  abbrev pairs : List NamedText
-  pairs = query_pairs request.query
-
+module _ (doc : Json) (table : List Definition) (pairs : List NamedText) (fs : List Field) where
   abbrev admits : Field → List ℕ → Bool
   admits f = text_admitted doc (schema_json table (in_query f.desc))
 
-  scan_fields : list_all (listed_holds doc request true) (scan_parameters table fs) ≡ list_all (λ f. page_query_holds pairs (admits f) false f.name) fs
-  scan_fields =
-      list_all-map (listed_holds doc request true) (scan_parameter table) (sorted_by field_name fs)
-      ∙ all_sorted field_name (λ f. listed_holds doc request true (scan_parameter table f)) fs
+  -- what an operation in pages asks of each field
+  abbrev pub scans_hold : Bool
+  scans_hold = list_all (λ f. page_query_holds pairs (admits f) false f.name) fs
 
   not_named : (name : List ℕ) → NoneNamed name fs → (f : Field) → Contains fs f → bytes_eq f.name name ≡ false
   not_named name none f c = other_name f.name name (none f c)
 
-  pub later_scans : NoneNamed (codes "limit") fs → NoneNamed (codes "page_token") fs → IsTrue (has_token pairs) → AllHold doc request true (scan_parameters table fs)
+  pub later_scans : NoneNamed (codes "limit") fs → NoneNamed (codes "page_token") fs → has_token pairs ≡ true → scans_hold ≡ true
   later_scans no_limit no_token some =
-      scan_fields
-      ∙ all_alike _ (λ f. true) fs (λ f c. on_later pairs f.name (admits f) (not_named (codes "limit") no_limit f c) (not_named (codes "page_token") no_token f c) some)
+      all_alike (λ f. page_query_holds pairs (admits f) false f.name) (λ f. true) fs
+      (λ f c. on_later pairs f.name (admits f) (not_named (codes "limit") no_limit f c) (not_named (codes "page_token") no_token f c) some)
       ∙ all_true fs
     where
       all_true : (fs : List Field) → list_all (λ f. true) fs ≡ true
       all_true [] = refl
       all_true (f ∷ fs) = all_true fs
 
-  module _ (desc : Desc) (flat : IsFlatStruct doc table desc fs) (no_limit : NoneNamed (codes "limit") fs) (first : has_token pairs ≡ false) where
-    scan_told : (list_all (listed_holds doc request true) (scan_parameters table fs) && list_all (has_pair pairs) (first_page_names fs)) ≡ is_ok (flat_told table (last_values pairs) desc)
-    scan_told =
-        ap (λ (b : Bool). b && list_all (has_pair pairs) (first_page_names fs))
-        (scan_fields ∙ all_alike _ (λ f. stands_or_not (admits f) false (last_value f.name pairs)) fs (λ f c. on_first pairs f.name (admits f) (not_named (codes "limit") no_limit f c) first))
-        ∙ scan_told_where table pairs admits fs (λ f c. query_texts doc table f.desc (field_written doc table desc fs flat f c) (flat.scalar f c))
-        ∙ ap (λ o. is_ok (under_struct (fields_told (looked_up table (last_values pairs))) o)) (sym flat.has_fields)
-
-    pub first_scans : ScanHolds doc table request fs ↔ ((tree : Tree) × FlatDenotes table desc (last_values pairs) tree)
-    first_scans =
-        let both = holds_where _ (flat_told table (last_values pairs) desc) scan_told in (
-          λ h. both.0 (and_from _ _ h.listed h.required),
-          λ h. let (listed, required) = and_parts _ _ (both.1 h) in record { listed = listed; required = required },
-        )
+  pub first_scans : (desc : Desc) → IsFlatStruct doc table desc fs → NoneNamed (codes "limit") fs → has_token pairs ≡ false
+      → (scans_hold && list_all (has_pair pairs) (first_page_names fs)) ≡ is_ok (flat_told table (last_values pairs) desc)
+  first_scans desc flat no_limit none =
+      ap (λ (b : Bool). b && list_all (has_pair pairs) (first_page_names fs))
+      (all_alike (λ f. page_query_holds pairs (admits f) false f.name) (λ f. stands_or_not (admits f) false (last_value f.name pairs)) fs
+      (λ f c. on_first pairs f.name (admits f) (not_named (codes "limit") no_limit f c) none))
+      ∙ scan_told_where table pairs admits fs (λ f c. query_texts doc table f.desc (field_written doc table desc fs flat f c) (flat.scalar f c))
+      ∙ ap (λ o. is_ok (under_struct (fields_told (looked_up table (last_values pairs))) o)) (sym flat.has_fields)

@@ -3,4 +3,4 @@ pub mod Agrees
 pub mod FieldParameters
 pub mod HeaderTexts
 pub mod FlatStructs
-pub mod ScanParameters
+pub mod PageParameters

@@ -1,4 +1,4 @@
-ghost use Rattle.std.specs.Prelude.{◌≡◌, ◌↔◌, ℕ, Bool, true, false, IsTrue, List, Option, codes};
+ghost use Rattle.std.specs.Prelude.{◌≡◌, ◌↔◌, ℕ, Bool, false, IsTrue, List, Option, codes};
 ghost use Rattle.schema_values.specs.declared.json_value.Json.{Json as JsonValue};
 ghost use Rattle.request_words.specs.declared.pairs.NamedText.{NamedText as Pair};
 ghost use Rattle.request_words.specs.declared.request.WireRequest.{WireRequest as Request};
@@ -22,8 +22,8 @@ ghost use Rattle.written_texts.specs.FieldParameters.{AllHold, AllRequired, path
 ghost use Rattle.written_texts.specs.FieldParameters.{query_parameters, header_parameters};
 ghost use Rattle.written_texts.specs.FlatStructs.{IsFlatStruct};
 ghost use Rattle.written_texts.specs.HeaderTexts.{HeadersDenote};
+ghost use Rattle.written_texts.specs.PageParameters.{HasLimit, NoneNamed, PagesHold};
 ghost use Rattle.written_texts.specs.ScalarTypes.{IsScalarType};
-ghost use Rattle.written_texts.specs.ScanParameters.{NoneNamed, ScanHolds, scan_parameters};
 
 /// The schema of a scalar type admits exactly the texts that denote a tree; so it does under a
 /// title or a description, and so does the schema that stands in a header or in a query. Of types
@@ -69,22 +69,22 @@ pub fn queries_agree()
         ↔ ((tree : Value) × PairsDenote table desc Refuse (query_pairs request.query) tree) }
 {}
 
-/// The parameters that an operation in pages lists for the fields of what it scans. In a request
-/// for the first page, which has no page token, they hold and the names that it must have stand
-/// exactly where the last values of its query denote a tree under the struct; no field is named
-/// `limit`, which has a rule of its own. In one for a later page they hold whatever the query has,
-/// as the token stands for all of them.
-pub fn scans_agree()
+/// The parameters that an operation in pages lists for what it scans, `limit` and `page_token` hold
+/// of a request, and so does what pages ask besides, exactly where `limit` stands at most once, as
+/// the number of items that it is, and, in a request for the first page, which has no page token,
+/// the last values of its query denote a tree under the struct of what is scanned. Of a request for
+/// a later page no more is asked, as the token stands for all of them. No field is named as these.
+pub fn pages_agree()
     ensures first { (doc : JsonValue) (table : List Entry) (desc : Descriptor) (fields : List Part)
         → IsFlatStruct doc table desc fields → NoneNamed (codes "limit") fields
         → (request : Request) → has_token (query_pairs request.query) ≡ false
-        → ScanHolds doc table request fields
-        ↔ ((tree : Value)
-        × FlatDenotes table desc (last_values (query_pairs request.query)) tree) }
+        → PagesHold doc table request fields ↔ (HasLimit (query_pairs request.query)
+        × ((tree : Value)
+        × FlatDenotes table desc (last_values (query_pairs request.query)) tree)) }
     ensures later { (doc : JsonValue) (table : List Entry) (fields : List Part)
         → NoneNamed (codes "limit") fields → NoneNamed (codes "page_token") fields
         → (request : Request) → IsTrue (has_token (query_pairs request.query))
-        → AllHold doc request true (scan_parameters table fields) }
+        → PagesHold doc table request fields ↔ HasLimit (query_pairs request.query) }
 {}
 
 /// The header parameters that are listed for the fields of a struct hold of a request exactly where

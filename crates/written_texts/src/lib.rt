@@ -4,5 +4,5 @@
 mod laws;
 
 pub use laws::{
-    forms_agree, headers_agree, queries_agree, scans_agree, texts_agree, variables_agree,
+    forms_agree, headers_agree, pages_agree, queries_agree, texts_agree, variables_agree,
 };
