@@ -1,7 +1,7 @@
 -- The parameters that an operation in pages lists, and what pages ask besides.
 use Rattle.std.proofs.Common.{◌≡◌, ◌↔◌, ℕ, suc, ◌+◌, pos, Bool, true, false, ◌&&◌, ◌||◌, not, List, [], ◌∷◌, ◌++◌, map, Option, Some, None, is_ok, codes, IsTrue, refl, sym, ◌∙◌, ap, subst, arith, inl, inr}
-use Rattle.std.proofs.lemmas.Bool.{and_from, and_parts}
-use Rattle.std.proofs.lemmas.List.Folds.{list_all-map}
+use Rattle.std.proofs.lemmas.Bool.{and_from, and_parts, or_left, or_right}
+use Rattle.std.proofs.lemmas.List.Folds.{list_all-map, list_any-append}
 use Rattle.std.proofs.Math.Bool.{and-true}
 use Rattle.std.specs.List.{list_all}
 use Rattle.std.specs.Prelude.{Contains}
@@ -120,7 +120,7 @@ module _ (doc : Json) (pairs : List NamedText) where
 
 -- ---- all parameters
 
-module _ (doc : Json) (table : List Definition) (request : WireRequest) (fs : List Field) where
+module _ (doc : Json) (table : List Definition) (request : WireRequest) (before : List Parameter) (fs : List Field) (after : List Parameter) where
   abbrev pairs : List NamedText
   pairs = query_pairs request.query
 
@@ -133,16 +133,24 @@ module _ (doc : Json) (table : List Definition) (request : WireRequest) (fs : Li
       ∙ ap (λ (b : Bool). limit_holds doc pairs && (b && list_all (listed_holds doc request true) (map (scan_parameter table) fs))) (token_holds doc pairs (last_value (codes "page_token") pairs))
       ∙ ap (λ (b : Bool). limit_holds doc pairs && b) (list_all-map (listed_holds doc request true) (scan_parameter table) fs)
 
-  lists : (name : List ℕ) → lists_name unsorted name ≡ true → listed_if_there (lists_name (page_parameters table fs)) pairs name ≡ true
-  lists name there = ap (λ (b : Bool). b || not (has_pair pairs name)) (any_sorted parameter_name _ unsorted ∙ there)
+  -- what the operation lists
+  abbrev all : List Parameter
+  all = before ++ page_parameters table fs ++ after
 
-  pages_are : listed_pages_hold request (page_parameters table fs) (first_page_names fs) ≡ (has_token pairs || list_all (has_pair pairs) (first_page_names fs))
+  lists : (name : List ℕ) → lists_name unsorted name ≡ true → listed_if_there (lists_name all) pairs name ≡ true
+  lists name there =
+      let here : lists_name (page_parameters table fs) name ≡ true = any_sorted parameter_name _ unsorted ∙ there in
+      let later : lists_name (before ++ page_parameters table fs) name ≡ true = list_any-append _ before (page_parameters table fs) ∙ or_right _ _ here in
+      let anywhere : lists_name all name ≡ true = list_any-append _ (before ++ page_parameters table fs) after ∙ or_left _ _ later in
+      ap (λ (b : Bool). b || not (has_pair pairs name)) anywhere
+
+  pages_are : listed_pages_hold request all (first_page_names fs) ≡ (has_token pairs || list_all (has_pair pairs) (first_page_names fs))
   pages_are =
-      ap (λ (b : Bool). b && (listed_if_there (lists_name (page_parameters table fs)) pairs (codes "page_token") && (has_token pairs || list_all (has_pair pairs) (first_page_names fs)))) (lists (codes "limit") refl)
+      ap (λ (b : Bool). b && (listed_if_there (lists_name all) pairs (codes "page_token") && (has_token pairs || list_all (has_pair pairs) (first_page_names fs)))) (lists (codes "limit") refl)
       ∙ ap (λ (b : Bool). b && (has_token pairs || list_all (has_pair pairs) (first_page_names fs))) (lists (codes "page_token") refl)
 
   module _ (no_limit : NoneNamed (codes "limit") fs) where
-    pub later_pages : NoneNamed (codes "page_token") fs → has_token pairs ≡ true → PagesHold doc table request fs ↔ HasLimit pairs
+    pub later_pages : NoneNamed (codes "page_token") fs → has_token pairs ≡ true → PagesHold doc table request before fs after ↔ HasLimit pairs
     later_pages no_token some = (
       λ h. let (limit, scans) = and_parts _ _ (sym listed_are ∙ h.listed) in (limit_where doc pairs).0 limit,
       λ h. record {
@@ -155,10 +163,10 @@ module _ (doc : Json) (table : List Definition) (request : WireRequest) (fs : Li
       scans_where : IsTrue (scans_hold doc table pairs fs && list_all (has_pair pairs) (first_page_names fs)) ↔ ((tree : Tree) × FlatDenotes table desc (last_values pairs) tree)
       scans_where = holds_where _ (flat_told table (last_values pairs) desc) (first_scans doc table pairs fs desc flat no_limit none)
 
-      names_are : listed_pages_hold request (page_parameters table fs) (first_page_names fs) ≡ list_all (has_pair pairs) (first_page_names fs)
+      names_are : listed_pages_hold request all (first_page_names fs) ≡ list_all (has_pair pairs) (first_page_names fs)
       names_are = pages_are ∙ ap (λ (b : Bool). b || list_all (has_pair pairs) (first_page_names fs)) none
 
-      pub first_pages : PagesHold doc table request fs ↔ (HasLimit pairs × ((tree : Tree) × FlatDenotes table desc (last_values pairs) tree))
+      pub first_pages : PagesHold doc table request before fs after ↔ (HasLimit pairs × ((tree : Tree) × FlatDenotes table desc (last_values pairs) tree))
       first_pages = (
         λ h.
             let (limit, scans) = and_parts _ _ (sym listed_are ∙ h.listed) in

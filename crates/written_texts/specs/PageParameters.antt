@@ -1,7 +1,7 @@
 -- The parameters that an operation in pages lists: one for each field of what it scans, `limit` and `page_token`, none of
 -- them required. The names that a request for the first page must have are those of its extension `x-dropshot-pagination`
 -- (OpenAPI 3.0.3, Parameter Object and Specification Extensions; what pages ask is this project's own).
-use Rattle.std.specs.Prelude.{◌≢◌, ℕ, pos, true, false, IsTrue, List, [], ◌∷◌, map, filter, Some, None, codes, Contains}
+use Rattle.std.specs.Prelude.{◌≢◌, ℕ, pos, true, false, IsTrue, List, [], ◌∷◌, ◌++◌, map, filter, Some, None, codes, Contains}
 use Rattle.schema_values.specs.declared.json_value.Json.{Json}
 use Rattle.schema_values.specs.Order.{sorted_by}
 use Rattle.request_words.specs.declared.pairs.NamedText.{NamedText}
@@ -57,10 +57,11 @@ page_parameters table fields =
 abbrev pub first_page_names : List Field → List (List ℕ)
 first_page_names fields = map field_name (filter (λ f. is_required f.presence) (sorted_by field_name fields))
 
--- the parameters hold of a request, and so does what pages ask besides
-pub record PagesHold (doc : Json) (table : List Definition) (request : WireRequest) (fields : List Field) : Type 0 where
+-- of an operation that lists them between other parameters, each of these holds of a request, and so does what pages ask
+-- besides
+pub record PagesHold (doc : Json) (table : List Definition) (request : WireRequest) (before : List Parameter) (fields : List Field) (after : List Parameter) : Type 0 where
   pub listed : AllHold doc request true (page_parameters table fields)
-  pub pages : IsTrue (listed_pages_hold request (page_parameters table fields) (first_page_names fields))
+  pub pages : IsTrue (listed_pages_hold request (before ++ page_parameters table fields ++ after) (first_page_names fields))
 
 -- the pair `limit` stands at most once, and is a number of items where it stands
 abbrev pub HasLimit : List NamedText → Type 0

@@ -3,6 +3,7 @@ ghost use Rattle.schema_values.specs.declared.json_value.Json.{Json as JsonValue
 ghost use Rattle.request_words.specs.declared.pairs.NamedText.{NamedText as Pair};
 ghost use Rattle.request_words.specs.declared.request.WireRequest.{WireRequest as Request};
 ghost use Rattle.request_words.specs.Pairs.{query_pairs};
+ghost use Rattle.openapi_values.specs.declared.parameter.Parameter.{Parameter};
 ghost use Rattle.openapi_values.specs.FormAdmits.{FormAdmits};
 ghost use Rattle.openapi_values.specs.Pages.{has_token};
 ghost use Rattle.descriptors.specs.declared.desc.Desc.{Desc as Descriptor};
@@ -69,22 +70,26 @@ pub fn queries_agree()
         ↔ ((tree : Value) × PairsDenote table desc Refuse (query_pairs request.query) tree) }
 {}
 
-/// The parameters that an operation in pages lists for what it scans, `limit` and `page_token` hold
-/// of a request, and so does what pages ask besides, exactly where `limit` stands at most once, as
-/// the number of items that it is, and, in a request for the first page, which has no page token,
-/// the last values of its query denote a tree under the struct of what is scanned. Of a request for
-/// a later page no more is asked, as the token stands for all of them. No field is named as these.
+/// Of an operation in pages, whatever its other parameters: those that it lists for what it scans,
+/// `limit` and `page_token` hold of a request, and so does what pages ask besides, exactly where
+/// `limit` stands at most once, as the number of items that it is, and, in a request for the first
+/// page, which has no page token, the last values of its query denote a tree under the struct of
+/// what is scanned. Of a request for a later page no more is asked, as the token stands for all of
+/// them. No field is named as these two.
 pub fn pages_agree()
     ensures first { (doc : JsonValue) (table : List Entry) (desc : Descriptor) (fields : List Part)
         → IsFlatStruct doc table desc fields → NoneNamed (codes "limit") fields
-        → (request : Request) → has_token (query_pairs request.query) ≡ false
-        → PagesHold doc table request fields ↔ (HasLimit (query_pairs request.query)
+        → (request : Request) (before after : List Parameter)
+        → has_token (query_pairs request.query) ≡ false
+        → PagesHold doc table request before fields after ↔ (HasLimit (query_pairs request.query)
         × ((tree : Value)
         × FlatDenotes table desc (last_values (query_pairs request.query)) tree)) }
     ensures later { (doc : JsonValue) (table : List Entry) (fields : List Part)
         → NoneNamed (codes "limit") fields → NoneNamed (codes "page_token") fields
-        → (request : Request) → IsTrue (has_token (query_pairs request.query))
-        → PagesHold doc table request fields ↔ HasLimit (query_pairs request.query) }
+        → (request : Request) (before after : List Parameter)
+        → IsTrue (has_token (query_pairs request.query))
+        → PagesHold doc table request before fields after
+        ↔ HasLimit (query_pairs request.query) }
 {}
 
 /// The header parameters that are listed for the fields of a struct hold of a request exactly where

@@ -3,6 +3,6 @@ use Rattle.written_texts.proofs.laws.pages_agree.Goals as goal
 
 pub returns : goal.returns
 returns c = record {
-  first = λ doc table desc fields flat no_limit request none. first_pages doc table request fields no_limit desc flat none;
-  later = λ doc table fields no_limit no_token request some. later_pages doc table request fields no_limit no_token some;
+  first = λ doc table desc fields flat no_limit request before after none. first_pages doc table request before fields after no_limit desc flat none;
+  later = λ doc table fields no_limit no_token request before after some. later_pages doc table request before fields after no_limit no_token some;
 }
