@@ -13,9 +13,10 @@ use Rattle.typed_values.specs.Levels.{DescLevel}
 use Rattle.typed_values.specs.Parts.{the_whole}
 use Rattle.typed_values.proofs.CallerLemmas.{IsNeeded, of_whole, field_needed, reference_needed}
 use Rattle.flat_maps.specs.Flat.{resolved_by, resolved_at, resolved, fields_by, flat_fields}
+use Rattle.written_schemas.specs.Reached.{DefinesReached}
 use Rattle.written_schemas.specs.Written.{IsWritten}
-use Rattle.written_texts.specs.FlatStructs.{IsFlatStruct}
-use Rattle.written_texts.proofs.WrittenParts.{written_part}
+use Rattle.written_texts.specs.FlatStructs.{IsFlatStruct, DefinesFields}
+use Rattle.written_texts.proofs.WrittenParts.{passes_deeper, defines_deeper}
 
 -- a descriptor that has fields with flat names is a struct of them that takes unknown names
 pub record IsStructOf (fs : List Field) (o : Option Desc) : Type 0 where
@@ -50,11 +51,21 @@ module _ (table : List Definition) (whole : Desc) where
   led_needed zero d r led need = absurd (cc led)
   led_needed (suc n) d r led need = led_by (resolved_at table n) d r need (λ y e k. led_needed n y r e k) (out-Desc d) refl led
 
-module _ (doc : Json) (table : List Definition) (desc : Desc) (fs : List Field) (flat : IsFlatStruct doc table desc fs) where
+module _ (table : List Definition) (desc : Desc) (fs : List Field) (flat : IsFlatStruct table desc fs) where
   -- the type of each field is needed where the struct is
-  pub field_written : (f : Field) → Contains fs f → IsWritten doc table f.desc
+  field_part : (f : Field) → Contains fs f → IsNeeded table desc f.desc
   unfolding resolved
-  field_written f c =
+  field_part f c =
       let struct = struct_of fs (resolved table desc) flat.has_fields in
-      let need = led_needed table desc (room table desc) desc struct.struct struct.there (of_whole the_whole) in
-      written_part table desc f.desc doc flat.written (field_needed table desc struct.struct fs false f struct.level c need)
+      field_needed table desc struct.struct fs false f struct.level c (led_needed table desc (room table desc) desc struct.struct struct.there (of_whole the_whole))
+
+  -- so where a document says what the struct says, it does so of each field
+  pub fields_defined : (doc : Json) → DefinesReached doc table desc → DefinesFields doc table fs
+  fields_defined doc defines f c = defines_deeper table desc f.desc doc defines (field_part f c)
+
+  pub field_written : (doc : Json) → DefinesFields doc table fs → (f : Field) → Contains fs f → IsWritten doc table f.desc
+  field_written doc defines f c = record {
+    table_passes = flat.table_passes;
+    desc_passes = passes_deeper table desc f.desc flat.table_passes flat.desc_passes (field_part f c);
+    defined = defines f c;
+  }

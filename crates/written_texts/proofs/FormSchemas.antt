@@ -25,6 +25,7 @@ use Rattle.typed_values.proofs.CallerLemmas.{IsNeeded, of_whole, reference_reach
 use Rattle.flat_maps.specs.declared.repeats.Repeats.TheVariants.{Refuse}
 use Rattle.flat_maps.specs.Flat.{resolved_by, resolved_at, resolved, under_struct}
 use Rattle.flat_maps.specs.Pairs.{pairs_fields, pairs_told, PairsDenote}
+use Rattle.written_schemas.specs.Reached.{DefinesReached}
 use Rattle.written_schemas.specs.Written.{IsWritten}
 use Rattle.written_schemas.proofs.Costs.{cost_after, cost_by, cost}
 use Rattle.written_schemas.proofs.Forms.{drawn_row, properties_drawn, names_required, fields_drawn}
@@ -32,7 +33,7 @@ use Rattle.written_schemas.proofs.Notes.{noted, before_members}
 use Rattle.written_schemas.proofs.Rooms.{cost_bounded}
 use Rattle.written_schemas.proofs.Sizes.{bare_fits}
 use Rattle.written_texts.specs.FlatStructs.{IsFlatStruct}
-use Rattle.written_texts.proofs.FlatFields.{struct_of, field_written}
+use Rattle.written_texts.proofs.FlatFields.{struct_of, fields_defined, field_written}
 use Rattle.written_texts.proofs.FormObjects.{object_told}
 use Rattle.written_texts.proofs.FormSteps.{reference_leads, wrapped_leads, schema_there}
 use Rattle.written_texts.proofs.Whole.{remarked_texts, holds_where}
@@ -126,18 +127,21 @@ module _ (table : List Definition) (whole : Desc) (doc : Json) (written : IsWrit
     leads_at zero d led need m le = absurd (cc led)
     leads_at (suc n) d led need m le = leads_by n d (leads_at n) need m le (out-Desc d) refl led
 
-module _ (doc : Json) (table : List Definition) (desc : Desc) (fs : List Field) (flat : IsFlatStruct doc table desc fs) (pairs : List NamedText) where
+module _ (doc : Json) (table : List Definition) (desc : Desc) (fs : List Field) (flat : IsFlatStruct table desc fs) (defines : DefinesReached doc table desc) (pairs : List NamedText) where
+  written : IsWritten doc table desc
+  written = record { table_passes = flat.table_passes; desc_passes = flat.desc_passes; defined = defines }
+
   -- under any title and remarks
   noted_forms : (t : Option (List ℕ)) (s : Remarks) → form_admitted doc (drawn_json (noted (drawn table desc).nullable t s (drawn table desc))) pairs ≡ is_ok (pairs_told table Refuse pairs desc)
   unfolding resolved
   noted_forms t s =
       let schema = drawn_json (noted (drawn table desc).nullable t s (drawn table desc)) in
       let struct = struct_of fs (resolved table desc) flat.has_fields in
-      let led = leads_at table desc doc flat.written fs struct.struct struct.level (table_room table desc) desc struct.there (of_whole the_whole) (room doc schema)
-      (omega (arith, bare_fits table desc (drawn table desc).nullable t s, cost_bounded table desc doc flat.written.table_passes flat.written.defined (table_room table desc) desc (of_whole the_whole))) t s in
+      let led = leads_at table desc doc written fs struct.struct struct.level (table_room table desc) desc struct.there (of_whole the_whole) (room doc schema)
+      (omega (arith, bare_fits table desc (drawn table desc).nullable t s, cost_bounded table desc doc flat.table_passes defines (table_room table desc) desc (of_whole the_whole))) t s in
       ap (λ (o : Option (List Member)). is_some_and o (object_holds doc pairs)) led.leads
       ∙ object_told table doc pairs false led.title led.remarks fs
-      (λ f c text. remarked_texts doc table f.desc (field_written doc table desc fs flat f c) (flat.scalar f c) text (default_of table f.presence f.desc) f.description)
+      (λ f c text. remarked_texts doc table f.desc (field_written table desc fs flat doc (fields_defined table desc fs flat doc defines) f c) (flat.scalar f c) text (default_of table f.presence f.desc) f.description)
       ∙ ap (λ o. is_ok (under_struct (pairs_fields table Refuse pairs) o)) (sym flat.has_fields)
 
   form_where : (schema : Json) → form_admitted doc schema pairs ≡ is_ok (pairs_told table Refuse pairs desc) → FormAdmits doc schema pairs ↔ ((tree : Tree) × PairsDenote table desc Refuse pairs tree)

@@ -37,7 +37,7 @@ use Rattle.flat_maps.proofs.TextSteps.{text_row}
 use Rattle.written_schemas.proofs.Forms.{drawn_row}
 use Rattle.written_schemas.proofs.Sorted.{all_sorted, any_sorted}
 use Rattle.written_texts.specs.FieldParameters.{parameter_of}
-use Rattle.written_texts.specs.FlatStructs.{IsFlatStruct}
+use Rattle.written_texts.specs.FlatStructs.{IsFlatStruct, DefinesFields}
 use Rattle.written_texts.specs.PageParameters.{scan_parameter, limit_field, token_field, parameter_name, page_parameters, first_page_names, PagesHold, HasLimit, NoneNamed}
 use Rattle.written_texts.proofs.Places.{AgreesOn, pairs_told_where}
 use Rattle.written_texts.proofs.ScalarTexts.{number_text, words_text}
@@ -159,9 +159,9 @@ module _ (doc : Json) (table : List Definition) (request : WireRequest) (before 
       },
     )
 
-    module _ (desc : Desc) (flat : IsFlatStruct doc table desc fs) (none : has_token pairs ≡ false) where
+    module _ (desc : Desc) (flat : IsFlatStruct table desc fs) (defines : DefinesFields doc table fs) (none : has_token pairs ≡ false) where
       scans_where : IsTrue (scans_hold doc table pairs fs && list_all (has_pair pairs) (first_page_names fs)) ↔ ((tree : Tree) × FlatDenotes table desc (last_values pairs) tree)
-      scans_where = holds_where _ (flat_told table (last_values pairs) desc) (first_scans doc table pairs fs desc flat no_limit none)
+      scans_where = holds_where _ (flat_told table (last_values pairs) desc) (first_scans doc table pairs fs desc flat defines no_limit none)
 
       names_are : listed_pages_hold request all (first_page_names fs) ≡ list_all (has_pair pairs) (first_page_names fs)
       names_are = pages_are ∙ ap (λ (b : Bool). b || list_all (has_pair pairs) (first_page_names fs)) none

@@ -22,7 +22,7 @@ use Rattle.flat_maps.specs.Flat.{under_struct, fields_told, given_told, looked_u
 use Rattle.flat_maps.specs.Pairs.{last_values}
 use Rattle.written_schemas.proofs.Sorted.{all_sorted}
 use Rattle.written_texts.specs.FieldParameters.{is_required}
-use Rattle.written_texts.specs.FlatStructs.{IsFlatStruct}
+use Rattle.written_texts.specs.FlatStructs.{IsFlatStruct, DefinesFields}
 use Rattle.written_texts.specs.PageParameters.{first_page_names, NoneNamed}
 use Rattle.written_texts.proofs.FieldTexts.{told_or_not, field_holds, ok_fields, all_alike, all_both, stands_if}
 use Rattle.written_texts.proofs.FlatFields.{field_written}
@@ -111,11 +111,11 @@ module _ (doc : Json) (table : List Definition) (pairs : List NamedText) (fs : L
       all_true [] = refl
       all_true (f ∷ fs) = all_true fs
 
-  pub first_scans : (desc : Desc) → IsFlatStruct doc table desc fs → NoneNamed (codes "limit") fs → has_token pairs ≡ false
+  pub first_scans : (desc : Desc) → IsFlatStruct table desc fs → DefinesFields doc table fs → NoneNamed (codes "limit") fs → has_token pairs ≡ false
       → (scans_hold && list_all (has_pair pairs) (first_page_names fs)) ≡ is_ok (flat_told table (last_values pairs) desc)
-  first_scans desc flat no_limit none =
+  first_scans desc flat defines no_limit none =
       ap (λ (b : Bool). b && list_all (has_pair pairs) (first_page_names fs))
       (all_alike (λ f. page_query_holds pairs (admits f) false f.name) (λ f. stands_or_not (admits f) false (last_value f.name pairs)) fs
       (λ f c. on_first pairs f.name (admits f) (not_named (codes "limit") no_limit f c) none))
-      ∙ scan_told_where table pairs admits fs (λ f c. query_texts doc table f.desc (field_written doc table desc fs flat f c) (flat.scalar f c))
+      ∙ scan_told_where table pairs admits fs (λ f c. query_texts doc table f.desc (field_written table desc fs flat doc defines f c) (flat.scalar f c))
       ∙ ap (λ o. is_ok (under_struct (fields_told (looked_up table (last_values pairs))) o)) (sym flat.has_fields)

@@ -17,11 +17,12 @@ ghost use Rattle.flat_maps.specs.declared.repeats.Repeats.TheVariants.{Refuse};
 ghost use Rattle.flat_maps.specs.Flat.{FlatDenotes};
 ghost use Rattle.flat_maps.specs.Maps.{map_values};
 ghost use Rattle.flat_maps.specs.Pairs.{PairsDenote, last_values};
+ghost use Rattle.written_schemas.specs.Reached.{DefinesReached};
 ghost use Rattle.written_schemas.specs.Written.{IsWritten};
 ghost use Rattle.written_texts.specs.Agrees.{AdmitsTexts};
 ghost use Rattle.written_texts.specs.FieldParameters.{AllHold, AllRequired, path_parameters};
 ghost use Rattle.written_texts.specs.FieldParameters.{query_parameters, header_parameters};
-ghost use Rattle.written_texts.specs.FlatStructs.{IsFlatStruct};
+ghost use Rattle.written_texts.specs.FlatStructs.{IsFlatStruct, DefinesFields};
 ghost use Rattle.written_texts.specs.HeaderTexts.{HeadersDenote};
 ghost use Rattle.written_texts.specs.PageParameters.{HasLimit, NoneNamed, PagesHold};
 ghost use Rattle.written_texts.specs.ScalarTypes.{IsScalarType};
@@ -50,11 +51,12 @@ pub fn texts_agree()
 
 /// The parameters of a path that are listed for the fields of a struct, each of which must be
 /// there, hold of a request exactly where its variables denote a tree under the struct, whether or
-/// not the operation answers in pages.
+/// not the operation answers in pages. As for all parameters, the document has the schemas of the
+/// definitions that the types of the fields reach; that of the struct need not stand there.
 pub fn variables_agree()
     ensures { (doc : JsonValue) (table : List Entry) (desc : Descriptor) (fields : List Part)
-        → IsFlatStruct doc table desc fields → AllRequired fields
-        → (request : Request) (in_pages : Bool)
+        → IsFlatStruct table desc fields → DefinesFields doc table fields
+        → AllRequired fields → (request : Request) (in_pages : Bool)
         → AllHold doc request in_pages (path_parameters table fields)
         ↔ ((tree : Value)
         × FlatDenotes table desc (map_values (λ value. value) request.variables) tree) }
@@ -65,7 +67,7 @@ pub fn variables_agree()
 /// where no field's name stands twice.
 pub fn queries_agree()
     ensures { (doc : JsonValue) (table : List Entry) (desc : Descriptor) (fields : List Part)
-        → IsFlatStruct doc table desc fields → (request : Request)
+        → IsFlatStruct table desc fields → DefinesFields doc table fields → (request : Request)
         → AllHold doc request false (query_parameters table fields)
         ↔ ((tree : Value) × PairsDenote table desc Refuse (query_pairs request.query) tree) }
 {}
@@ -78,7 +80,8 @@ pub fn queries_agree()
 /// them. No field is named as these two.
 pub fn pages_agree()
     ensures first { (doc : JsonValue) (table : List Entry) (desc : Descriptor) (fields : List Part)
-        → IsFlatStruct doc table desc fields → NoneNamed (codes "limit") fields
+        → IsFlatStruct table desc fields → DefinesFields doc table fields
+        → NoneNamed (codes "limit") fields
         → (request : Request) (before after : List Parameter)
         → has_token (query_pairs request.query) ≡ false
         → PagesHold doc table request before fields after ↔ (HasLimit (query_pairs request.query)
@@ -96,24 +99,28 @@ pub fn pages_agree()
 /// its header lines denote a tree under the struct, whether or not the operation answers in pages.
 pub fn headers_agree()
     ensures { (doc : JsonValue) (table : List Entry) (desc : Descriptor) (fields : List Part)
-        → IsFlatStruct doc table desc fields → (request : Request) (in_pages : Bool)
+        → IsFlatStruct table desc fields → DefinesFields doc table fields
+        → (request : Request) (in_pages : Bool)
         → AllHold doc request in_pages (header_parameters table fields)
         ↔ ((tree : Value) × HeadersDenote table desc request.headers tree) }
 {}
 
 /// The schema of a struct admits exactly the forms whose pairs denote a tree, where no field's name
-/// stands twice; so it does under a title or a description.
+/// stands twice; so it does under a title or a description. Here the document has the schemas of
+/// the definitions that the struct reaches.
 pub fn forms_agree()
     ensures plain { (doc : JsonValue) (table : List Entry) (desc : Descriptor) (fields : List Part)
-        → IsFlatStruct doc table desc fields → (pairs : List Pair)
+        → IsFlatStruct table desc fields → DefinesReached doc table desc → (pairs : List Pair)
         → FormAdmits doc (schema_json table desc) pairs
         ↔ ((tree : Value) × PairsDenote table desc Refuse pairs tree) }
     ensures titled { (doc : JsonValue) (table : List Entry) (desc : Descriptor) (fields : List Part)
-        (name : List ℕ) → IsFlatStruct doc table desc fields → (pairs : List Pair)
+        (name : List ℕ) → IsFlatStruct table desc fields → DefinesReached doc table desc
+        → (pairs : List Pair)
         → FormAdmits doc (schema_json_titled table name desc) pairs
         ↔ ((tree : Value) × PairsDenote table desc Refuse pairs tree) }
     ensures described { (doc : JsonValue) (table : List Entry) (desc : Descriptor)
-        (fields : List Part) (text : Option (List ℕ)) → IsFlatStruct doc table desc fields
-        → (pairs : List Pair) → FormAdmits doc (schema_json_described table text desc) pairs
+        (fields : List Part) (text : Option (List ℕ)) → IsFlatStruct table desc fields
+        → DefinesReached doc table desc → (pairs : List Pair)
+        → FormAdmits doc (schema_json_described table text desc) pairs
         ↔ ((tree : Value) × PairsDenote table desc Refuse pairs tree) }
 {}
