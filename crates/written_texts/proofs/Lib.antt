@@ -1,0 +1,16 @@
+pub mod SchemaSteps
+pub mod ScalarTexts
+pub mod NameTexts
+pub mod Agreement
+pub mod WrittenParts
+pub mod Whole
+pub mod FieldTexts
+pub mod Places
+pub mod FlatFields
+pub mod ParameterLists
+pub mod ScanTexts
+pub mod PageTexts
+pub mod FormObjects
+pub mod FormSteps
+pub mod FormSchemas
+pub mod CallerLemmas

@@ -1,0 +1,6 @@
+pub mod ScalarTypes
+pub mod Agrees
+pub mod FieldParameters
+pub mod HeaderTexts
+pub mod FlatStructs
+pub mod PageParameters

@@ -1,0 +1,8 @@
+//! What the schemas of descriptors admit of texts, in documents: exactly what denotes a tree.
+#![tactic(auto)]
+
+mod laws;
+
+pub use laws::{
+    forms_agree, headers_agree, pages_agree, queries_agree, texts_agree, variables_agree,
+};
