@@ -38,7 +38,7 @@ use Rattle.written_schemas.proofs.Forms.{drawn_row}
 use Rattle.written_schemas.proofs.Sorted.{all_sorted, any_sorted}
 use Rattle.written_texts.specs.FieldParameters.{parameter_of}
 use Rattle.written_texts.specs.FlatStructs.{IsFlatStruct, DefinesFields}
-use Rattle.written_texts.specs.PageParameters.{scan_parameter, limit_field, token_field, parameter_name, page_parameters, first_page_names, PagesHold, HasLimit, NoneNamed}
+use Rattle.written_texts.specs.PageParameters.{scan_parameter, limit_field, token_field, parameter_name, page_parameters, first_page_names, PageParametersHold, HasLimit, NoneNamed}
 use Rattle.written_texts.proofs.Places.{AgreesOn, pairs_told_where}
 use Rattle.written_texts.proofs.ScalarTexts.{number_text, words_text}
 use Rattle.written_texts.proofs.ScanTexts.{scans_hold, first_scans, later_scans}
@@ -150,7 +150,7 @@ module _ (doc : Json) (table : List Definition) (request : WireRequest) (before 
       ∙ ap (λ (b : Bool). b && (has_token pairs || list_all (has_pair pairs) (first_page_names fs))) (lists (codes "page_token") refl)
 
   module _ (no_limit : NoneNamed (codes "limit") fs) where
-    pub later_pages : NoneNamed (codes "page_token") fs → has_token pairs ≡ true → PagesHold doc table request before fs after ↔ HasLimit pairs
+    pub later_pages : NoneNamed (codes "page_token") fs → has_token pairs ≡ true → PageParametersHold doc table request before fs after ↔ HasLimit pairs
     later_pages no_token some = (
       λ h. let (limit, scans) = and_parts _ _ (sym listed_are ∙ h.listed) in (limit_where doc pairs).0 limit,
       λ h. record {
@@ -166,7 +166,7 @@ module _ (doc : Json) (table : List Definition) (request : WireRequest) (before 
       names_are : listed_pages_hold request all (first_page_names fs) ≡ list_all (has_pair pairs) (first_page_names fs)
       names_are = pages_are ∙ ap (λ (b : Bool). b || list_all (has_pair pairs) (first_page_names fs)) none
 
-      pub first_pages : PagesHold doc table request before fs after ↔ (HasLimit pairs × ((tree : Tree) × FlatDenotes table desc (last_values pairs) tree))
+      pub first_pages : PageParametersHold doc table request before fs after ↔ (HasLimit pairs × ((tree : Tree) × FlatDenotes table desc (last_values pairs) tree))
       first_pages = (
         λ h.
             let (limit, scans) = and_parts _ _ (sym listed_are ∙ h.listed) in

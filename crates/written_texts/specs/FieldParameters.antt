@@ -23,20 +23,20 @@ is_required Nullable = false
 is_required Skipped = false
 is_required (Default tree) = false
 
--- a field as a parameter of a place, where `shown` says what is written there in the place of its type: the schema has
+-- a field as a parameter of a place, where `written_as` says what is written there in the place of its type: the schema has
 -- neither the field's default nor its description, which stands beside it
 abbrev pub parameter_of : List ℕ → (Desc → Desc) → List Definition → Field → Parameter
-parameter_of place shown table f = record {
+parameter_of place written_as table f = record {
   location = place;
   name = f.name;
   description = f.description;
   required = is_required f.presence;
-  schema = schema_json table (shown f.desc);
+  schema = schema_json table (written_as f.desc);
 }
 
 -- all fields, in the order of their names
 abbrev pub field_parameters : List ℕ → (Desc → Desc) → List Definition → List Field → List Parameter
-field_parameters place shown table fields = map (parameter_of place shown table) (sorted_by field_name fields)
+field_parameters place written_as table fields = map (parameter_of place written_as table) (sorted_by field_name fields)
 
 -- in a path each type is written as itself
 abbrev pub path_parameters : List Definition → List Field → List Parameter

@@ -59,7 +59,7 @@ first_page_names fields = map field_name (filter (λ f. is_required f.presence) 
 
 -- of an operation that lists them between other parameters, each of these holds of a request, and so does what pages ask
 -- besides
-pub record PagesHold (doc : Json) (table : List Definition) (request : WireRequest) (before : List Parameter) (fields : List Field) (after : List Parameter) : Type 0 where
+pub record PageParametersHold (doc : Json) (table : List Definition) (request : WireRequest) (before : List Parameter) (fields : List Field) (after : List Parameter) : Type 0 where
   pub listed : AllHold doc request true (page_parameters table fields)
   pub pages : IsTrue (listed_pages_hold request (before ++ page_parameters table fields ++ after) (first_page_names fields))
 

@@ -24,7 +24,7 @@ ghost use Rattle.written_texts.specs.FieldParameters.{AllHold, AllRequired, path
 ghost use Rattle.written_texts.specs.FieldParameters.{query_parameters, header_parameters};
 ghost use Rattle.written_texts.specs.FlatStructs.{IsFlatStruct, DefinesFields};
 ghost use Rattle.written_texts.specs.HeaderTexts.{HeadersDenote};
-ghost use Rattle.written_texts.specs.PageParameters.{HasLimit, NoneNamed, PagesHold};
+ghost use Rattle.written_texts.specs.PageParameters.{HasLimit, NoneNamed, PageParametersHold};
 ghost use Rattle.written_texts.specs.ScalarTypes.{IsScalarType};
 
 /// The schema of a scalar type admits exactly the texts that denote a tree; so it does under a
@@ -84,14 +84,14 @@ pub fn pages_agree()
         → NoneNamed (codes "limit") fields
         → (request : Request) (before after : List Parameter)
         → has_token (query_pairs request.query) ≡ false
-        → PagesHold doc table request before fields after ↔ (HasLimit (query_pairs request.query)
+        → PageParametersHold doc table request before fields after ↔ (HasLimit (query_pairs request.query)
         × ((tree : Value)
         × FlatDenotes table desc (last_values (query_pairs request.query)) tree)) }
     ensures later { (doc : JsonValue) (table : List Entry) (fields : List Part)
         → NoneNamed (codes "limit") fields → NoneNamed (codes "page_token") fields
         → (request : Request) (before after : List Parameter)
         → IsTrue (has_token (query_pairs request.query))
-        → PagesHold doc table request before fields after
+        → PageParametersHold doc table request before fields after
         ↔ HasLimit (query_pairs request.query) }
 {}
 
