@@ -24,7 +24,7 @@ use Rattle.typed_values.specs.declared.fault.Place.{Place}
 use Rattle.typed_values.specs.declared.fault.Place.TheVariants.{Name, Item}
 use Rattle.typed_values.specs.Bounds.{is_length_within}
 use Rattle.typed_values.specs.Checks.{IsOption, IsFieldOf, of_struct, IsBadField, no_option, default_misfits, TablePasses, DescPasses}
-use Rattle.typed_values.specs.Denotes.{Told, below, and_then, all_told, as_tree, by_presence, if_absent, if_present, if_holds, items_told, room}
+use Rattle.typed_values.specs.Denotes.{Told, below, at_definition, and_then, all_told, as_tree, by_presence, if_absent, if_present, if_holds, items_told, room}
 use Rattle.typed_values.specs.Faults.{Trouble}
 use Rattle.typed_values.specs.Fits.{option_fits, each_fits, items_fit, field_desc, fields_fit, parts_fit, fits_under, Fits}
 use Rattle.typed_values.specs.Levels.{DescLevel}
@@ -37,6 +37,7 @@ use Rattle.flat_maps.specs.Texts.{text_told}
 use Rattle.flat_maps.proofs.ResolveSteps.{at_name, here}
 use Rattle.flat_maps.proofs.ScalarFits.{Gives, shown, just_gives}
 use Rattle.flat_maps.proofs.TextFits.{named_part, rests, text_gives}
+use Rattle.flat_maps.proofs.TextSteps.{text_row}
 
 below_ok : (place : Place) (o : Told) (t : Tree) → below place o ≡ Ok t → o ≡ Ok t
 below_ok place (Ok s) t e = e
@@ -95,30 +96,35 @@ option_by : (d : Desc) (x : DescLevel) → out-Desc d ≡ x → ((IsOption d →
 option_by d (Desc-F.Option x) e h = (x, e)
 option_by d _ e h = absurd (h (λ o. cc (e, o.1)))
 
-required_desc : (f : Field) → f.presence ≡ Required → field_desc f ≡ f.desc
+pub required_desc : (f : Field) → f.presence ≡ Required → field_desc f ≡ f.desc
 required_desc f e = rw e refl
 
-nullable_desc : (f : Field) → f.presence ≡ Nullable → field_desc f ≡ f.desc
+pub nullable_desc : (f : Field) → f.presence ≡ Nullable → field_desc f ≡ f.desc
 nullable_desc f e = rw e refl
 
-skipped_desc : (f : Field) → f.presence ≡ Skipped → field_desc f ≡ OptionOf f.desc
+pub skipped_desc : (f : Field) → f.presence ≡ Skipped → field_desc f ≡ OptionOf f.desc
 skipped_desc f e = rw e refl
 
-default_desc : (f : Field) (t : Tree) → f.presence ≡ Default t → field_desc f ≡ f.desc
+pub default_desc : (f : Field) (t : Tree) → f.presence ≡ Default t → field_desc f ≡ f.desc
 default_desc f t e = rw e refl
 
 module _ (table : List Definition) (whole : Desc) (passes : TablePasses table) (right : DescPasses table whole) where
-  -- what references lead to is a part with the same values
-  record IsSameAs (d r : Desc) : Type 0 where
-    part : IsPart table whole r
-    same : (t : Tree) → fits_under table whole t d ≡ fits_under table whole t r
+  -- what references lead to is a part with the same values, of which texts denote the same
+  pub record IsSameAs (d r : Desc) : Type 0 where
+    pub part : IsPart table whole r
+    pub same : (t : Tree) → fits_under table whole t d ≡ fits_under table whole t r
+    pub told : (text : List ℕ) → text_told table text d ≡ text_told table text r
 
   same_behind : (d : Desc) (name : List ℕ) → IsPart table whole d → d ≡ desc.Ref name → (o : Option Desc) → definition table name ≡ o → ((y : Desc) → o ≡ Some y → (r : Desc) → resolved table y ≡ Some r → IsSameAs y r)
       → (r : Desc) → option_and_then (resolved table) o ≡ Some r → IsSameAs d r
   same_behind d name part e None f later r q = absurd (cc q)
   same_behind d name part e (Some y) f later r q =
       let h = later y refl r q in
-      record { part = h.part; same = λ t. fits_ref table whole t d (rests table whole passes.guarded d part) name (Some y) e f ∙ h.same t }
+      record {
+        part = h.part;
+        same = λ t. fits_ref table whole t d (rests table whole passes.guarded d part) name (Some y) e f ∙ h.same t;
+        told = λ text. text_row table text passes.guarded d (Desc-F.Ref name) (ap out-Desc e ∙ desc.outs-Ref name) ∙ ap (at_definition (text_told table text)) f ∙ h.told text;
+      }
 
   same_by : (n : ℕ) → ((d : Desc) → Rests table n d → IsPart table whole d → (r : Desc) → resolved table d ≡ Some r → IsSameAs d r) → (d : Desc) → IsPart table whole d → (x : DescLevel) → out-Desc d ≡ x
       → ((name : List ℕ) (y : Desc) → x ≡ Desc-F.Ref name → definition table name ≡ Some y → Rests table n y) → (r : Desc) → resolved table d ≡ Some r → IsSameAs d r
@@ -128,7 +134,7 @@ module _ (table : List Definition) (whole : Desc) (passes : TablePasses table) (
   same_by n next d part _ e less r q =
       let there : resolved table d ≡ Some d = here table passes.guarded d (λ name is. cc (sym e ∙ ap out-Desc is ∙ desc.outs-Ref name)) in
       let it : d ≡ r = cc (sym there ∙ q) in
-      subst (IsSameAs d) it (record { part = part; same = λ t. refl })
+      subst (IsSameAs d) it (record { part = part; same = λ t. refl; told = λ text. refl })
 
   same_within : (n : ℕ) (d : Desc) → Rests table n d → IsPart table whole d → (r : Desc) → resolved table d ≡ Some r → IsSameAs d r
   unfolding Rests
@@ -139,14 +145,14 @@ module _ (table : List Definition) (whole : Desc) (passes : TablePasses table) (
       behind : (name : List ℕ) (x : DescLevel) → x ≡ Desc-F.Ref name → RestsBy table (Rests table n) x → MatchOption (definition table name) ⊤ (Rests table n)
       behind name x e h = subst (RestsBy table (Rests table n)) e h
 
-  same_as : (d r : Desc) → IsPart table whole d → resolved table d ≡ Some r → IsSameAs d r
+  pub same_as : (d r : Desc) → IsPart table whole d → resolved table d ≡ Some r → IsSameAs d r
   same_as d r part q = same_within (room table whole) d (rests table whole passes.guarded d part) part r q
 
   list_part : (r x : Desc) (min max : Option ℕ) → IsPart table whole r → out-Desc r ≡ Desc-F.List x min max → IsPart table whole x
   list_part r x min max (of_whole s) e = of_whole (in_list x min max s e)
   list_part r x min max (of_table y c s) e = of_table y c (in_list x min max s e)
 
-  field_part : (r : Desc) (fs : List Field) (deny : Bool) (f : Field) → IsPart table whole r → out-Desc r ≡ Desc-F.Struct fs deny → Contains fs f → IsPart table whole f.desc
+  pub field_part : (r : Desc) (fs : List Field) (deny : Bool) (f : Field) → IsPart table whole r → out-Desc r ≡ Desc-F.Struct fs deny → Contains fs f → IsPart table whole f.desc
   field_part r fs deny f (of_whole s) e c = of_whole (in_field fs deny f s e c)
   field_part r fs deny f (of_table y k s) e c = of_table y k (in_field fs deny f s e c)
 

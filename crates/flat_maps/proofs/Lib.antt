@@ -10,3 +10,10 @@ pub mod ScalarFits
 pub mod TextFits
 pub mod FlatFits
 pub mod PairFits
+pub mod TextLoops
+pub mod EntryLookups
+pub mod ReadBack
+pub mod OwnTables
+pub mod Chosen
+pub mod OkFields
+pub mod CallerLemmas

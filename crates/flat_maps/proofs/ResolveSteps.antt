@@ -27,13 +27,13 @@ module _ (table : List Definition) where
   next_row n d = refl
 
   module _ (guarded : IsGuarded table) (d : Desc) where
-    one_row : (x : DescLevel) → out-Desc d ≡ x → resolved table d ≡ resolved_by table (resolved table) d x
+    pub resolved_row : (x : DescLevel) → out-Desc d ≡ x → resolved table d ≡ resolved_by table (resolved table) d x
     unfolding resolved
-    one_row x e = row table guarded (resolved_by table) (resolved_at table) next_row same_row d ∙ ap (resolved_by table (resolved table) d) e
+    resolved_row x e = row table guarded (resolved_by table) (resolved_at table) next_row same_row d ∙ ap (resolved_by table (resolved table) d) e
 
     -- a reference leads on
     pub at_name : (name : List ℕ) (o : Option Desc) → d ≡ desc.Ref name → definition table name ≡ o → resolved table d ≡ option_and_then (resolved table) o
-    at_name name o e f = one_row (Desc-F.Ref name) (ap out-Desc e ∙ desc.outs-Ref name) ∙ ap (option_and_then (resolved table)) f
+    at_name name o e f = resolved_row (Desc-F.Ref name) (ap out-Desc e ∙ desc.outs-Ref name) ∙ ap (option_and_then (resolved table)) f
 
     -- any other descriptor is there
     pub here : ((name : List ℕ) → d ≡ desc.Ref name → ⊥) → resolved table d ≡ Some d
@@ -41,4 +41,4 @@ module _ (table : List Definition) where
       where
         by_level : (x : DescLevel) → out-Desc d ≡ x → resolved table d ≡ Some d
         by_level (Desc-F.Ref name) e = absurd (none name (sym (roll-out-Desc d) ∙ ap roll-Desc e ∙ desc.rolls-Ref name))
-        by_level _ e = one_row _ e
+        by_level _ e = resolved_row _ e

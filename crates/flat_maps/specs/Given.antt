@@ -1,5 +1,6 @@
 -- What stands under a name: one text, or a list of texts, as the components that are left of a path.
 use Rattle.std.specs.Prelude.{ℕ, List, Option, Some, None}
+use Rattle.request_words.specs.HeaderLines.{lower}
 use Rattle.schema_values.specs.declared.variables.VariableValue.{VariableValue}
 use Rattle.schema_values.specs.declared.variables.VariableValue.TheVariants.{String, Components}
 
@@ -16,3 +17,7 @@ text_list (Components texts) = Some texts
 -- what stands under each name, nothing under some
 abbrev pub Names : Type 0
 Names = List ℕ → Option VariableValue
+
+-- the same, where each name is compared with its ASCII letters in lower case, as the name of a header is (RFC 9110, section 5.1)
+abbrev pub lowered : Names → Names
+lowered names name = names (lower name)

@@ -5,3 +5,10 @@ pub mod Lookups
 pub mod Flat
 pub mod Pairs
 pub mod Maps
+pub mod Held
+pub mod MapErrors
+pub mod Refusals
+pub mod TextMaps
+pub mod FaultWords
+pub mod TextStructs
+pub mod TypedMaps

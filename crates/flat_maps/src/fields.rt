@@ -28,7 +28,8 @@ pub(crate) fn decode_fields<L: LookUp>(
 {
     let mut trees = List::new(alloc);
     for field in fields {
-        let tree = decode_field(alloc, table, field, names.look_up(&field.name))?;
+        let given = names.look_up(alloc, &field.name)?;
+        let tree = decode_field(alloc, table, field, given)?;
         trees.push(tree)?;
     }
     Ok(Tree::Fields(trees))

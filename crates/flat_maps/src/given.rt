@@ -10,7 +10,7 @@ use crate::resolve::resolve;
 use crate::texts::tree_of_text;
 use descriptors::{Desc, DescTable, Tree};
 use schema_values::{List, Text};
-use std::alloc::Global;
+use std::alloc::{AllocError, Global};
 use typed_values::{FaultKind, Place, Stop, is_length_within};
 
 /// What stands under a name: one text, or a list of texts.
@@ -20,17 +20,17 @@ pub(crate) enum Given<'a> {
     Several(&'a [Text]),
 }
 
-/// Names, under which texts are looked up.
+/// Names, under which texts are looked up. A look-up fails only for want of memory.
 pub(crate) trait LookUp {
-    ghost use Rattle.std.specs.Prelude.{◌≡◌, option_map};
+    ghost use Rattle.std.specs.Prelude.{◌≡◌, option_map, IfOk};
     ghost use Rattle.flat_maps.specs.Given.{Names};
     ghost use Rattle.flat_maps.specs.Lookups.{given_of};
 
     ghost names: { Self → Names };
 
     /// What stands under a name, if anything does.
-    fn look_up(&self, name: &Text) -> Option<Given<'_>>
-        ensures { option_map given_of result ≡ names self.now name.now };
+    fn look_up(&self, alloc: Global, name: &Text) -> Result<Option<Given<'_>>, AllocError>
+        ensures { IfOk result (λ given. option_map given_of given ≡ names self.now name.now) };
 }
 
 /// What is given under a name, under a descriptor.

@@ -13,7 +13,7 @@ use crate::given::{Given, LookUp};
 use crate::resolve::fields_of;
 use descriptors::{Desc, DescTable, Tree};
 use schema_values::{Text, VariableValue};
-use std::alloc::Global;
+use std::alloc::{AllocError, Global};
 use std::collections::BTreeMap;
 use typed_values::{DecodeError, FaultKind, Stop};
 
@@ -72,13 +72,15 @@ impl<Z: MapValue> LookUp for BTreeMap<Text, Z> {
 
     ghost names = { λ map. map_values Z.given map };
 
-    fn look_up(&self, name: &Text) -> Option<Given<'_>> {
-        let value = self.get(name)?;
+    fn look_up(&self, _alloc: Global, name: &Text) -> Result<Option<Given<'_>>, AllocError> {
+        let Some(value) = self.get(name) else {
+            return Ok(None);
+        };
         match value.as_value() {
-            Some(text) => Some(Given::One(text)),
+            Some(text) => Ok(Some(Given::One(text))),
             None => match value.as_seq() {
-                Some(texts) => Some(Given::Several(texts)),
-                None => None,
+                Some(texts) => Ok(Some(Given::Several(texts))),
+                None => Ok(None),
             },
         }
     }
@@ -103,24 +105,25 @@ pub fn decode_map<Z: MapValue>(
     ensures refused { IfErr result (λ error. IfFault error (λ fault.
         (tree : Tree) → FlatDenotes table.now desc.now (map_values Z.given map.now) tree → ⊥)) }
 {
-    match tree_of_map(alloc, table, desc, map) {
+    match tree_of_names(alloc, table, desc, map) {
         Ok(tree) => Ok(tree),
         Err(stop) => Err(stop.into_error(alloc)),
     }
 }
 
-fn tree_of_map<Z: MapValue>(
+/// The tree that names denote, with a fault on its way out.
+pub(crate) fn tree_of_names<L: LookUp>(
     alloc: Global,
     table: &DescTable,
     desc: &Desc,
-    map: &BTreeMap<Text, Z>,
+    names: &L,
 ) -> Result<Tree, Stop>
     requires table { TablePasses table.now }
     requires desc { DescPasses table.now desc.now }
-    ensures { Tells result (flat_told table.now (map_values Z.given map.now) desc.now) }
+    ensures { Tells result (flat_told table.now (L.names names.now) desc.now) }
 {
     match fields_of(table, desc) {
-        Some(fields) => decode_fields(alloc, table, fields, map),
+        Some(fields) => decode_fields(alloc, table, fields, names),
         None => Err(Stop::refused(alloc, FaultKind::WrongKind)),
     }
 }

@@ -17,7 +17,7 @@ use crate::resolve::fields_of;
 use descriptors::{Desc, DescTable, Field, Tree};
 use request_words::{NamedText, SortedPairs};
 use schema_values::{List, Text};
-use std::alloc::Global;
+use std::alloc::{AllocError, Global};
 use typed_values::{DecodeError, FaultKind, Stop};
 
 impl LookUp for SortedPairs<'_> {
@@ -25,10 +25,10 @@ impl LookUp for SortedPairs<'_> {
 
     ghost names = { λ sorted. last_values sorted.pairs.now };
 
-    fn look_up(&self, name: &Text) -> Option<Given<'_>> {
+    fn look_up(&self, _alloc: Global, name: &Text) -> Result<Option<Given<'_>>, AllocError> {
         match self.last_value(name) {
-            Some(text) => Some(Given::One(text.as_str())),
-            None => None,
+            Some(text) => Ok(Some(Given::One(text.as_str()))),
+            None => Ok(None),
         }
     }
 }

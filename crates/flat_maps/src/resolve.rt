@@ -5,6 +5,7 @@ ghost use Rattle.descriptors.specs.declared.desc.Field.{Field};
 ghost use Rattle.descriptors.specs.declared.table.Definition.{Definition};
 ghost use Rattle.typed_values.specs.Checks.{TablePasses, DescPasses};
 ghost use Rattle.flat_maps.specs.Flat.{flat_fields, resolved};
+ghost use Rattle.flat_maps.specs.Held.{held};
 
 use descriptors::{Desc, DescTable, Field};
 
@@ -21,6 +22,21 @@ pub(crate) fn resolve<'a>(table: &'a DescTable, desc: &'a Desc) -> Option<&'a De
             None => None,
         },
         _ => Some(desc),
+    }
+}
+
+/// What references lead to, and behind an option that stands there what they lead to from it.
+pub(crate) fn held<'a>(table: &'a DescTable, desc: &'a Desc) -> Option<&'a Desc>
+    requires table { TablePasses table.now }
+    requires desc { DescPasses table.now desc.now }
+    ensures { option_copied result ≡ held table.now desc.now }
+{
+    match resolve(table, desc) {
+        Some(resolved) => match resolved {
+            Desc::Option(inner) => resolve(table, inner.get()),
+            _ => Some(resolved),
+        },
+        None => None,
     }
 }
 

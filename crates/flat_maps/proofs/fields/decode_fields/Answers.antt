@@ -19,9 +19,9 @@ returns-in_err-tree g c =
     let field = c.field-item.result in
     let f : ℕ → Field → Told = λ i x. by_presence x (looked_up c.args.table.now (g.L.LookUp.names c.args.names.now) x) in
     let told : Option VariableValue → Told = λ o. by_presence field (option_map (given_told c.args.table.now field.desc) o) in
-    let p = err_from_is_err_and c.from_residual.result c.from_residual.ensures.1 in
+    let p = err_from_is_err_and c.from_residual-in_err-tree.result c.from_residual-in_err-tree.ensures.1 in
     rw (p.1, p.2) (all_err f (all_told f 0 fs) fs c.loop-field.field-index c.loop-field.trees c.loop-field.invariant field (omega arith) c.field-item.is (as_tree Parts) (λ k. refl) c.in_err-tree.field-0.0
-    (subst (λ (o : Option VariableValue). Tells {T = Tree} (Err c.in_err-tree.field-0.0) (told o)) c.look_up.ensures c.in_err-tree.ensures))
+    (subst (λ (o : Option VariableValue). Tells {T = Tree} (Err c.in_err-tree.field-0.0) (told o)) c.in_ok-given.ensures c.in_err-tree.ensures))
 
 pub loop-field-preserved : goal.loop-field-preserved
 loop-field-preserved g c =
@@ -29,7 +29,7 @@ loop-field-preserved g c =
     let field = c.field-item.result in
     let f : ℕ → Field → Told = λ i x. by_presence x (looked_up c.args.table.now (g.L.LookUp.names c.args.names.now) x) in
     let told : Option VariableValue → Told = λ o. by_presence field (option_map (given_told c.args.table.now field.desc) o) in
-    all_step f (all_told f 0 fs) fs c.loop-field.field-index c.loop-field.trees c.loop-field.invariant field (omega arith) c.field-item.is _ (ap told (sym c.look_up.ensures) ∙ c.in_ok-tree.ensures)
+    all_step f (all_told f 0 fs) fs c.loop-field.field-index c.loop-field.trees c.loop-field.invariant field (omega arith) c.field-item.is _ (ap told (sym c.in_ok-given.ensures) ∙ c.in_ok-tree.ensures)
     ∙ ap (λ (ts : List Tree). after ts (all_told f (c.loop-field.field-index + 1) (drop (c.loop-field.field-index + 1) fs))) (sym c.in_ok-push.ensures.ok)
 
 pub returns : goal.returns

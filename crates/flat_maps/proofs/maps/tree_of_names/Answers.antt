@@ -1,4 +1,4 @@
-use Rattle.flat_maps.proofs.maps.tree_of_map.Goals as goal
+use Rattle.flat_maps.proofs.maps.tree_of_names.Goals as goal
 
 pub returns-in-Some : goal.returns-in-Some
 returns-in-Some g c = rw (← c.in-Some.ensures.fields) c.decode_fields.ensures

@@ -1,0 +1,11 @@
+use Rattle.std.proofs.Common.{sym, ◌∙◌, ap}
+use Rattle.std.proofs.lemmas.Iterator.{YieldsList-from_chars}
+use Rattle.std.proofs.lemmas.Iterator.Consumers.{YieldsList-end}
+use Rattle.std.proofs.lemmas.List.{map-id}
+use Rattle.request_words.specs.HeaderLines.{lower}
+use Rattle.flat_maps.proofs.lowered.lower.Goals as goal
+
+pub returns : goal.returns
+returns c =
+    let all = YieldsList-end (YieldsList-from_chars c.as_str.result.now c.as_str.utf8 cc) c.loop-character.yielded _ c.loop-character.yielded_by _ _ c.in-None.is c.next.ensures.steps in
+    c.loop-character.invariant ∙ ap lower (sym (map-id c.loop-character.yielded) ∙ all.0 ∙ sym c.as_str.ensures)
