@@ -1,0 +1,4 @@
+pub mod Forms
+pub mod Encoded
+pub mod Reaching
+pub mod Tokens

@@ -1,0 +1,10 @@
+//! Pages of results, and the tokens that say where the next page starts.
+#![tactic(auto)]
+
+mod encoding;
+mod form;
+mod token;
+mod token_error;
+
+pub use token::{read_token, write_token};
+pub use token_error::TokenError;
