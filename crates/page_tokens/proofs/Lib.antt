@@ -5,3 +5,4 @@ pub mod Sorting
 pub mod InOrder
 pub mod Held
 pub mod Again
+pub mod Orders

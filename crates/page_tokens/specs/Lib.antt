@@ -2,3 +2,5 @@ pub mod Forms
 pub mod Encoded
 pub mod Reaching
 pub mod Tokens
+pub mod Orders
+pub mod Pages
