@@ -1,5 +1,6 @@
 -- Header lines in order, by names (RFC 9110, sections 5.1 to 5.3).
-use Rattle.std.specs.Prelude.{ℕ, ◌-◌, Bool, not, List, [], ◌∷◌, ◌++◌, length, map, slice_get, Option, if◌then◌else◌, bytes_eq}
+use Rattle.std.specs.Prelude.{ℕ, ◌-◌, Bool, not, List, [], ◌∷◌, ◌++◌, length, map, slice_get, Option}
+use Rattle.std.specs.Prelude.{if◌then◌else◌, bytes_eq}
 use Rattle.std.specs.List.{filter, list_any}
 use Rattle.http_header.specs.FieldValue.{FieldValue}
 use Rattle.http_header.specs.Token.{lowercase}
@@ -39,7 +40,8 @@ without name lines = filter (λ line. not (is_line_of name line)) lines
 -- one line of this name, in the place of the first that there was, else behind the others
 abbrev pub inserted : List ℕ → FieldValue → List Line → List Line
 inserted name value [] = (name, value) ∷ []
-inserted name value (line ∷ lines) = if is_line_of name line then (name, value) ∷ without name lines else line ∷ inserted name value lines
+inserted name value (line ∷ lines) =
+    if is_line_of name line then (name, value) ∷ without name lines else line ∷ inserted name value lines
 
 -- the lines whose names no other line has, and behind them the others
 abbrev pub extended : List Line → List Line → List Line
