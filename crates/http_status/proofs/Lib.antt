@@ -1,1 +1,2 @@
 mod Phrases
+mod WrittenBodies
