@@ -3,8 +3,8 @@ ghost use Rattle.std.specs.Prelude.{◌≡◌, [], ◌∷◌, ◌++◌, IfOk, On
 ghost use Rattle.std.specs.List.{list_any, position};
 ghost use Rattle.std.specs.Option.{option_copied};
 ghost use Rattle.std.specs.Vec.{vec_capacity};
-ghost use Rattle.header_lists.specs.HeaderLists.{extended, first_of, has_line, inserted, is_line_of};
-ghost use Rattle.header_lists.specs.HeaderLists.{last_of, without};
+ghost use Rattle.header_lists.specs.HeaderLists.{extended, first_of, has_line, inserted};
+ghost use Rattle.header_lists.specs.HeaderLists.{is_line_of, last_of, without};
 
 use http_header::{HeaderName, HeaderValue};
 use std::alloc::{AllocError, Global};
@@ -12,8 +12,8 @@ use std::marker::Model;
 
 /// Header lines in order, without a greatest size (RFC 9110, sections 5.1 to 5.3).
 ///
-/// Contracts see them as pairs of a name, by its bytes in lower case, and a value. Names are compared
-/// without case.
+/// Contracts see them as pairs of a name, by its bytes in lower case, and a value. Names are
+/// compared without case.
 #[derive(Drop)]
 pub struct HeaderList {
     lines: Vec<(HeaderName, HeaderValue)>,
@@ -51,8 +51,8 @@ impl HeaderList {
         Ok(())
     }
 
-    /// Puts a line in the place of the first one of its name, and drops the further ones; or adds it
-    /// behind the others, where there is none of its name. Fails only for want of memory.
+    /// Puts a line in the place of the first one of its name, and drops the further ones; or adds
+    /// it behind the others, where there is none of its name. Fails only for want of memory.
     pub fn insert(&mut self, name: HeaderName, value: HeaderValue) -> Result<(), AllocError>
         ensures ok { OnOk result (self.new ≡ inserted name value self.old) }
         ensures err { OnErr result (self.new ≡ self.old) }
@@ -66,8 +66,8 @@ impl HeaderList {
         Ok(())
     }
 
-    /// Drops each line whose name is that of a line of `other`, and adds the lines of `other` behind the
-    /// rest. Each line is compared with those of `other`. Fails only for want of memory.
+    /// Drops each line whose name is that of a line of `other`, and adds the lines of `other`
+    /// behind the rest. Each line is compared with those of `other`. Fails only for want of memory.
     pub fn extend(&mut self, other: HeaderList) -> Result<(), AllocError>
         ensures ok { OnOk result (self.new ≡ extended self.old other) }
         ensures err { OnErr result (self.new ≡ self.old) }

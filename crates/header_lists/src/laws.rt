@@ -5,8 +5,8 @@ ghost use Rattle.http_header.specs.FieldValue.{FieldValue};
 ghost use Rattle.header_lists.specs.HeaderLists.{Line, extended, first_of, has_line, inserted};
 ghost use Rattle.header_lists.specs.HeaderLists.{is_same_name, last_of, values_of};
 
-/// After `insert` a name has the one value that was put there, which is its first and its last. Every
-/// other name has the values that it had.
+/// After `insert` a name has the one value that was put there, which is its first and its last.
+/// Every other name has the values that it had.
 pub fn insert_leaves_one_value()
     ensures one { (name other : List ℕ) (value : FieldValue) (lines : List Line)
         → is_same_name name other ≡ true
@@ -22,8 +22,8 @@ pub fn insert_leaves_one_value()
         → last_of other (inserted name value lines) ≡ Some value }
 {}
 
-/// After `append` a name has the values that it had and behind them the one that was added, which is its
-/// last, and its first where it had none. Every other name has the values that it had.
+/// After `append` a name has the values that it had and behind them the one that was added, which
+/// is its last, and its first where it had none. Every other name has the values that it had.
 pub fn append_adds_a_value()
     ensures more { (name other : List ℕ) (value : FieldValue) (lines : List Line)
         → is_same_name name other ≡ true
@@ -40,8 +40,8 @@ pub fn append_adds_a_value()
         → last_of other (lines ++ (name, value) ∷ []) ≡ Some value }
 {}
 
-/// After `extend` a name of a line that was added has the values of those lines alone. Every other name
-/// has the values that it had.
+/// After `extend` a name of a line that was added has the values of those lines alone. Every other
+/// name has the values that it had.
 pub fn extend_replaces_values()
     ensures values { (name : List ℕ) (lines others : List Line)
         → values_of name (extended lines others)

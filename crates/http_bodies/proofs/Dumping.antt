@@ -3,9 +3,9 @@ use Rattle.std.proofs.Common.{◌≡◌, ℕ, ◌+◌, ◌-◌, ◌^◌, min, Li
 use Rattle.std.specs.Prelude.{Some}
 use Rattle.std.proofs.lemmas.List.{length-append}
 use Rattle.http_bodies.specs.declared.frame.Frame.{Frame}
-use Rattle.http_bodies.specs.Frames.{SourceState, data_of, joined}
+use Rattle.http_bodies.specs.Frames.{SourceState, data_of, all_data}
 use Rattle.http_bodies.specs.Sources.{Gives, GoesOn, Takes}
-use Rattle.http_bodies.proofs.Taken.{joined-more, takes-more}
+use Rattle.http_bodies.proofs.Taken.{all_data-more, takes-more}
 use Rattle.http_bodies.specs.Dumping.{data_size}
 
 -- so many frames came, with so many bytes, and no call failed
@@ -19,7 +19,7 @@ pub record IsDumping (start now : SourceState) (sum count : ℕ) : Type 0 where
 
 size-more : (came : List Frame) (frame : Frame) (sum : ℕ) → sum ≡ data_size came → min (sum + length (data_of frame)) (2 ^ 64 - 1) ≡ data_size (came ++ frame ∷ [])
 size-more came frame sum is =
-    omega (arith, is, ap length (joined-more came frame), length-append (joined came) (data_of frame))
+    omega (arith, is, ap length (all_data-more came frame), length-append (all_data came) (data_of frame))
 
 -- one frame more came
 pub dumping_more : (start now after : SourceState) (sum count : ℕ) (frame : Frame) → IsDumping start now sum count → Gives now.left (Some frame) after.left

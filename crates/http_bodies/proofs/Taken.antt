@@ -3,7 +3,7 @@ use Rattle.std.proofs.Common.{◌≡◌, ℕ, List, [], ◌∷◌, ◌++◌, sym
 use Rattle.std.specs.Prelude.{Option, Some, None}
 use Rattle.std.proofs.lemmas.List.Concat.{flat_map-append}
 use Rattle.http_bodies.specs.declared.frame.Frame.{Frame}
-use Rattle.http_bodies.specs.Frames.{data_of, joined}
+use Rattle.http_bodies.specs.Frames.{data_of, all_data}
 use Rattle.http_bodies.specs.Sources.{Takes}
 
 -- behind some frames one more was taken
@@ -15,5 +15,5 @@ takes-more (Some before) (Some left) None came frame e next = absurd next
 takes-more (Some before) (Some left) (Some rest) came frame e next = e ∙ ap (λ (frames : List Frame). came ++ frames) next ∙ sym (append_assoc came (frame ∷ []) rest)
 
 -- and has the content behind theirs
-pub joined-more : (came : List Frame) (frame : Frame) → joined (came ++ frame ∷ []) ≡ joined came ++ data_of frame
-joined-more came frame = flat_map-append data_of came (frame ∷ []) ∙ ap (λ (bytes : List ℕ). joined came ++ bytes) (append-nil (data_of frame))
+pub all_data-more : (came : List Frame) (frame : Frame) → all_data (came ++ frame ∷ []) ≡ all_data came ++ data_of frame
+all_data-more came frame = flat_map-append data_of came (frame ∷ []) ∙ ap (λ (bytes : List ℕ). all_data came ++ bytes) (append-nil (data_of frame))

@@ -1,14 +1,15 @@
 -- Frames that are read and thrown away.
-use Rattle.std.specs.Prelude.{ℕ, ◌≡◌, ◌⊎◌, ◌↔◌, ◌+◌, ◌-◌, ◌^◌, ◌<◌, ◌≤◌, min, nat_lt, if◌then◌else◌, List, length, Option, Result, Ok, Err, OnOk, IfOk, IsErrOf}
+use Rattle.std.specs.Prelude.{ℕ, ◌≡◌, ◌⊎◌, ◌↔◌, ◌+◌, ◌-◌, ◌^◌, ◌<◌, ◌≤◌, min, nat_lt}
+use Rattle.std.specs.Prelude.{if◌then◌else◌, List, length, Option, Result, Ok, Err, OnOk, IfOk, IsErrOf}
 use Rattle.http_bodies.specs.declared.dump.DumpError.{DumpError}
 use Rattle.http_bodies.specs.declared.dump.DumpError.TheVariants.{FrameBudget, OutOfMemory}
 use Rattle.http_bodies.specs.declared.frame.Frame.{Frame}
-use Rattle.http_bodies.specs.Frames.{joined}
+use Rattle.http_bodies.specs.Frames.{all_data}
 use Rattle.http_bodies.specs.Sources.{IsAtEnd, Takes}
 
 -- how many bytes of content frames have, or the last value of a counter where that is less
 abbrev pub data_size : List Frame → ℕ
-data_size frames = min (length (joined frames)) (2 ^ 64 - 1)
+data_size frames = min (length (all_data frames)) (2 ^ 64 - 1)
 
 -- what frames and budget call for
 abbrev pub dumped : ℕ → List Frame → Result ℕ DumpError

@@ -4,7 +4,7 @@ use Rattle.std.specs.List.{flat_map}
 use Rattle.http_bodies.specs.declared.frame.Frame.{Frame}
 use Rattle.http_bodies.specs.declared.frame.Frame.TheVariants.{Bytes, Trailers}
 
--- the frames that are left, where the source tells them; how often it has failed; whether a call on it can fail
+-- the frames that are left, where the source tells them; how often it has failed; whether a call can fail
 pub record SourceState : Type 0 where
   pub left : Option (List Frame)
   pub faults : ℕ
@@ -15,9 +15,9 @@ abbrev pub data_of : Frame → List ℕ
 data_of (Bytes bytes) = bytes
 data_of (Trailers lines) = []
 
--- the content of frames, one after the other
-abbrev pub joined : List Frame → List ℕ
-joined frames = flat_map data_of frames
+-- the content that frames have together, one after the other
+abbrev pub all_data : List Frame → List ℕ
+all_data frames = flat_map data_of frames
 
 -- the frames of a content: one, or none where it is empty
 abbrev pub content_frames : List ℕ → List Frame

@@ -1,5 +1,5 @@
 -- What a call on a source of frames changes.
-use Rattle.std.specs.Prelude.{◌≡◌, ◌≤◌, true, List, [], ◌∷◌, ◌++◌, Option, Some, None}
+use Rattle.std.specs.Prelude.{◌≡◌, ◌≤◌, true, false, List, [], ◌∷◌, ◌++◌, Option, Some, None}
 use Rattle.std.specs.Option.{IfSome}
 use Rattle.schema_values.specs.Causes.{HasRisen}
 use Rattle.http_bodies.specs.declared.frame.Frame.{Frame}
@@ -19,6 +19,10 @@ IsAtEnd left = IfSome left (λ frames. frames ≡ [])
 abbrev pub Gives : Option (List Frame) → Option Frame → Option (List Frame) → Type 0
 Gives before (Some frame) after = Takes before (frame ∷ []) after
 Gives before None after = IsAtEnd before × (after ≡ before)
+
+-- no call on the source fails
+abbrev pub IsSafe : SourceState → Type 0
+IsSafe state = state.can_fail ≡ false
 
 -- a call failed: the source can fail, and its count of faults rose
 pub record HasFailed (old new : SourceState) : Type 0 where

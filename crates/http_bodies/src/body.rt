@@ -2,7 +2,7 @@
 ghost use Rattle.std.specs.Prelude.{◌≡◌, [], IfOk, IsErrOf, OnErr, option_to_list};
 ghost use Rattle.http_bodies.specs.Frames.{content_frames};
 ghost use Rattle.http_bodies.specs.Memory.{safe, shown};
-ghost use Rattle.http_bodies.specs.Sources.{Gives, GoesOn, HasFailed};
+ghost use Rattle.http_bodies.specs.Sources.{Gives, GoesOn, HasFailed, IsSafe};
 
 use crate::frame::{Frame, FrameError, FrameSource};
 use crate::memory::{MemoryFrames, SafeFrames};
@@ -22,8 +22,9 @@ enum Held {
 
 /// A body: frames in memory, of which the first that is left is taken next (RFC 9110, section 6.4).
 ///
-/// Contracts see the frames that are left, how many calls failed, and whether a call can fail. It holds no box,
-/// so that a handler behind a box can take one and give one; a boxed or outside source is a `FrameSource` itself.
+/// Contracts see the frames that are left, how many calls failed, and whether a call can fail. It
+/// holds no box, so that a handler behind a box can take one and give one. A boxed source, or one
+/// of a user's own, is a `FrameSource` itself.
 #[derive(Drop)]
 pub struct Body {
     held: Held,
@@ -66,7 +67,7 @@ impl Body {
         }
     }
 
-    /// A body of these frames, some of whose calls fail. It counts on from the faults of its source.
+    /// A body of these frames, some of whose calls fail. It counts on from its source's faults.
     pub fn with_faults(frames: MemoryFrames) -> Body
         ensures { result ≡ shown frames }
     {
@@ -75,17 +76,19 @@ impl Body {
         }
     }
 
-    /// Takes the first frame that is left, and gives it; none exactly where no frame is left. After an error
-    /// nothing was taken. It takes no memory, and the same time for each frame, but for what a source whose
-    /// calls can fail takes.
+    /// Takes the first frame that is left, and gives it; none exactly where no frame is left. After
+    /// an error nothing was taken. It takes no memory, and the same time for each frame, but for
+    /// the search of `MemoryFrames` for the calls that fail.
     pub fn next_frame(&mut self, alloc: Global) -> Result<Option<Frame>, FrameError>
         ensures gives { IfOk result (λ given. Gives self.old.left given self.new.left) }
         ensures kept { OnErr result (self.new.left ≡ self.old.left) }
 
-        // A fault comes only where the count of faults rose, and a count that rose is told as that fault.
+        // A fault comes only where the count of faults rose, and a count that rose is told as that
+        // fault.
         ensures failed { IsErrOf result FrameError.Failed → HasFailed self.old self.new }
         ensures counts { ¬ IsErrOf result FrameError.Failed → self.new.faults ≡ self.old.faults }
         ensures goes_on { GoesOn self.old self.new }
+        ensures constant { IsSafe self.old → self.new.faults ≡ self.old.faults }
         ensures no_memory_needed { ¬ IsErrOf result FrameError.OutOfMemory }
     {
         match &mut self.held {

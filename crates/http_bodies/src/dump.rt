@@ -17,8 +17,9 @@ pub enum DumpError {
     OutOfMemory,
 }
 
-/// Reads a body to its end, at most `budget` frames of it, and gives the number of bytes of its content, or
-/// 2^64-1 where that is less. It takes at most one frame more than the budget, and asks as often.
+/// Reads a body to its end, at most `budget` frames of it, and gives the number of bytes of its
+/// content, or 2^64-1 where that is less. It asks at most once more than the budget says, and
+/// throws away what comes.
 pub fn http_dump_body<B: FrameSource>(
     alloc: Global,
     body: &mut B,
@@ -26,14 +27,19 @@ pub fn http_dump_body<B: FrameSource>(
 ) -> Result<u64, DumpError>
     requires { budget < 2 ^ 64 - 1 }
 
-    // What came in the call: more frames than the budget exactly at `FrameBudget`, and all at an `Ok`.
+    // What came in the call: more frames than the budget exactly at `FrameBudget`, and all that
+    // were left at an `Ok`.
     ensures came { Dumps budget (B.state body.old).left (B.state body.new).left result }
-    ensures size { IfSome (B.state body.old).left (λ frames. IfOk result (λ sum. sum ≡ data_size frames)) }
+    ensures size { IfSome (B.state body.old).left (λ frames.
+        IfOk result (λ sum. sum ≡ data_size frames)) }
     ensures complete { IfSome (B.state body.old).left (λ frames.
-        ¬ HasFailed (B.state body.old) (B.state body.new) → IsCalledFor (dumped budget frames) result) }
+        ¬ HasFailed (B.state body.old) (B.state body.new)
+        → IsCalledFor (dumped budget frames) result) }
 
-    // A fault comes only where the count of faults rose, and a count that rose is told as that fault.
-    ensures failed { IsErrOf result DumpError.Failed → HasFailed (B.state body.old) (B.state body.new) }
+    // A fault comes only where the count of faults rose, and a count that rose is told as that
+    // fault.
+    ensures failed { IsErrOf result DumpError.Failed
+        → HasFailed (B.state body.old) (B.state body.new) }
     ensures counts { ¬ IsErrOf result DumpError.Failed
         → (B.state body.new).faults ≡ (B.state body.old).faults }
     ensures goes_on { GoesOn (B.state body.old) (B.state body.new) }

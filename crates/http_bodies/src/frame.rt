@@ -51,17 +51,21 @@ pub enum FrameError {
 pub trait FrameSource: Drop {
     ghost use Rattle.http_bodies.specs.Frames.{SourceState};
 
-    /// The frames that are left, where the source tells them; how often it has failed; whether it can fail.
+    /// The frames that are left, where the source tells them; how often it has failed; whether it
+    /// can fail.
     ghost state: { Self → SourceState };
 
-    /// Takes the first frame that is left, and gives it; none exactly where no frame is left. After an error
-    /// nothing was taken.
+    /// Takes the first frame that is left, and gives it; none exactly where no frame is left. After
+    /// an error nothing was taken.
     fn next_frame(&mut self, alloc: Global) -> Result<Option<Frame>, FrameError>
-        ensures gives { IfOk result (λ given. Gives (state self.old).left given (state self.new).left) }
+        ensures gives { IfOk result (λ given.
+            Gives (state self.old).left given (state self.new).left) }
         ensures kept { OnErr result ((state self.new).left ≡ (state self.old).left) }
 
-        // A fault comes only where the count of faults rose, and a count that rose is told as that fault.
-        ensures failed { IsErrOf result FrameError.Failed → HasFailed (state self.old) (state self.new) }
+        // A fault comes only where the count of faults rose, and a count that rose is told as that
+        // fault.
+        ensures failed { IsErrOf result FrameError.Failed
+            → HasFailed (state self.old) (state self.new) }
         ensures counts { ¬ IsErrOf result FrameError.Failed
             → (state self.new).faults ≡ (state self.old).faults }
         ensures goes_on { GoesOn (state self.old) (state self.new) };

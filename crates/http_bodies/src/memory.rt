@@ -15,7 +15,8 @@ pub struct SafeFrames {
     frames: IntoIter<Frame>,
 }
 
-/// Frames, and the numbers, from 0, of the calls that fail. Calls after the first 2^64-1 do not fail.
+/// Frames, and the numbers, from 0, of the calls that fail. Calls after the first 2^64-1 do not
+/// fail.
 #[derive(Drop)]
 pub struct MemoryFrames {
     frames: IntoIter<Frame>,
@@ -91,9 +92,11 @@ impl FrameSource for SafeFrames {
 
     /// It takes no memory, and the same time for each frame.
     fn next_frame(&mut self, alloc: Global) -> Result<Option<Frame>, FrameError>
-        ensures gives { IfOk result (λ given. Gives (safe self.old).left given (safe self.new).left) }
+        ensures gives { IfOk result (λ given.
+            Gives (safe self.old).left given (safe self.new).left) }
         ensures kept { OnErr result ((safe self.new).left ≡ (safe self.old).left) }
-        ensures failed { IsErrOf result FrameError.Failed → HasFailed (safe self.old) (safe self.new) }
+        ensures failed { IsErrOf result FrameError.Failed
+            → HasFailed (safe self.old) (safe self.new) }
         ensures counts { ¬ IsErrOf result FrameError.Failed
             → (safe self.new).faults ≡ (safe self.old).faults }
         ensures goes_on { GoesOn (safe self.old) (safe self.new) }
@@ -107,12 +110,14 @@ impl FrameSource for SafeFrames {
 impl FrameSource for MemoryFrames {
     ghost state = { λ s. shown s };
 
-    /// It takes no memory, and the same time for each frame, but for the search among the numbers of the calls
-    /// that fail.
+    /// It takes no memory, and the same time for each frame, but for the search among the numbers
+    /// of the calls that fail.
     fn next_frame(&mut self, alloc: Global) -> Result<Option<Frame>, FrameError>
-        ensures gives { IfOk result (λ given. Gives (shown self.old).left given (shown self.new).left) }
+        ensures gives { IfOk result (λ given.
+            Gives (shown self.old).left given (shown self.new).left) }
         ensures kept { OnErr result ((shown self.new).left ≡ (shown self.old).left) }
-        ensures failed { IsErrOf result FrameError.Failed → HasFailed (shown self.old) (shown self.new) }
+        ensures failed { IsErrOf result FrameError.Failed
+            → HasFailed (shown self.old) (shown self.new) }
         ensures counts { ¬ IsErrOf result FrameError.Failed
             → (shown self.new).faults ≡ (shown self.old).faults }
         ensures goes_on { GoesOn (shown self.old) (shown self.new) }
