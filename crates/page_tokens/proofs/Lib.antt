@@ -6,3 +6,5 @@ pub mod InOrder
 pub mod Held
 pub mod Again
 pub mod Orders
+pub mod Clashes
+pub mod NextPages

@@ -4,3 +4,4 @@ pub mod Reaching
 pub mod Tokens
 pub mod Orders
 pub mod Pages
+pub mod NextPages

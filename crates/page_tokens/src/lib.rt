@@ -4,6 +4,7 @@
 mod empty_scan_params;
 mod encoding;
 mod form;
+mod next_page;
 mod pagination_order;
 mod pagination_params;
 mod results_page;
