@@ -1,5 +1,5 @@
 -- Definitions that all stand once they are added do not clash.
-use Rattle.std.proofs.Common.{◌≡◌, List, [], ◌∷◌, ◌++◌, ℕ, Option, Some, None, refl, sym, ◌∙◌, ap, subst}
+use Rattle.std.proofs.Common.{◌≡◌, List, [], ◌∷◌, ◌++◌, ℕ, Option, Some, None, refl, ◌∙◌, ap, subst}
 use Rattle.std.proofs.lemmas.List.Elements.{Contains-append_right}
 use Rattle.descriptors.specs.declared.table.AddError.TheVariants.{Clash}
 use Rattle.descriptors.specs.declared.table.Definition.{Definition}

@@ -1,6 +1,8 @@
 -- The start that bytes hold is sound, and a token is refused for what its bytes are.
-use Rattle.std.proofs.Common.{◌≡◌, ◌≤◌, ℕ, List, [], ◌∷◌, length, Bool, true, false, Some, bytes_eq, codes, cond, refl, sym, subst}
-use Rattle.std.specs.declared.result.Result.TheVariants.{Ok}
+use Rattle.std.proofs.Common.{◌≡◌, ◌≤◌, ◌⊎◌, inl, inr, ap, ℕ, List, [], ◌∷◌, length, Bool, true, false, Some, bytes_eq, codes, cond, refl, sym, subst}
+use Rattle.std.specs.declared.result.Result.{Result}
+use Rattle.std.specs.declared.result.Result.TheVariants.{Ok, Err}
+use Rattle.std.specs.Prelude.{IfOk, IfErr}
 use Rattle.base64.specs.Engines.{url_safe}
 use Rattle.base64.specs.GeneralPurpose.{decode_of}
 use Rattle.std.specs.List.{AllByRecursion}
@@ -14,14 +16,15 @@ use Rattle.schema_values.specs.Get.{get_of, first_named}
 use Rattle.schema_values.specs.Reading.{Reads}
 use Rattle.schema_values.specs.Sound.{IsSound}
 use Rattle.schema_values.specs.SoundMembers.{HasSoundValue}
-use Rattle.schema_values.proofs.CallerLemmas.{IsSound-Object, reading_sound}
+use Rattle.schema_values.proofs.CallerLemmas.{IsSound-Object, one_reading, reading_sound}
 use Rattle.descriptors.specs.declared.desc.Desc.{Desc}
 use Rattle.descriptors.specs.declared.table.Definition.{Definition}
 use Rattle.descriptors.specs.declared.tree.Tree.{Tree}
+use Rattle.typed_values.specs.Denotes.{JsonDenotes}
 use Rattle.page_tokens.specs.declared.token_error.TokenError.{TokenError}
 use Rattle.page_tokens.specs.declared.token_error.TokenError.TheVariants.{TooLarge, NotBase64, Corrupted, OutOfMemory}
 use Rattle.page_tokens.specs.Forms.{Form, v1}
-use Rattle.page_tokens.specs.Tokens.{AreRefused, HoldsStart, IsRefused, TokenReads}
+use Rattle.page_tokens.specs.Tokens.{AreRefused, HoldsStart, IsRefused}
 
 -- ---- the values of members that are found
 
@@ -56,10 +59,29 @@ module _ (form : Form) (table : List Definition) (selector : Desc) (token bytes 
   token_refused small Corrupted refused = (small, bytes, decodes, refused)
   token_refused small OutOfMemory refused = tt
 
-  -- a token that reads is refused for want of memory alone
-  pub only_memory : (tree : Tree) → TokenReads form table selector token tree → (error : TokenError) → AreRefused form table selector bytes error → error ≡ OutOfMemory
-  only_memory tree reads (TooLarge size) refused = absurd refused
-  only_memory tree reads NotBase64 refused = absurd refused
-  only_memory tree reads Corrupted refused =
-      let same : reads.bytes ≡ bytes = cc (reads.decodes, decodes) in absurd (refused tree (subst (λ (b : List ℕ). HoldsStart form table selector b tree) same reads.holds))
-  only_memory tree reads OutOfMemory refused = refl
+-- ---- a token that reads
+
+-- there is one start at most
+one_start : (json a b : Json) → v1.HasStart json a → v1.HasStart json b → a ≡ b
+one_start json a b first second = cc (first.1, second.1)
+
+module _ (table : List Definition) (selector : Desc) (bytes : List ℕ) where
+  -- and so one tree at most
+  one_tree : (a b : Tree) → HoldsStart v1 table selector bytes a → HoldsStart v1 table selector bytes b → a ≡ b
+  one_tree a b first second =
+      let json = one_reading bytes first.json second.json first.reads second.reads in
+      let start = one_start second.json first.start second.start (subst (λ (j : Json). v1.HasStart j first.start) json first.has_start) second.has_start in
+      let told = subst (λ (s : Json). JsonDenotes table selector s a) start first.denotes in
+      cc (told, second.denotes)
+
+  module _ (tree : Tree) (holds : HoldsStart v1 table selector bytes tree) where
+    only_memory : (error : TokenError) → AreRefused v1 table selector bytes error → error ≡ OutOfMemory
+    only_memory (TooLarge size) refused = absurd refused
+    only_memory NotBase64 refused = absurd refused
+    only_memory Corrupted refused = absurd (refused tree holds)
+    only_memory OutOfMemory refused = refl
+
+    -- the answer is the tree that the bytes hold, unless memory runs out
+    pub tree_told : (result : Result Tree TokenError) → IfOk result (HoldsStart v1 table selector bytes) → IfErr result (AreRefused v1 table selector bytes) → (result ≡ Ok tree) ⊎ (result ≡ Err OutOfMemory)
+    tree_told (Ok read) held refused = inl (ap Ok (one_tree read tree held holds))
+    tree_told (Err error) held refused = inr (ap Err (only_memory error refused))

@@ -1,5 +1,5 @@
 -- What has a start in the first form, by the look-ups of its two members.
-use Rattle.std.proofs.Common.{◌≡◌, Option, Some, None, codes, option_map, sym, ◌∙◌}
+use Rattle.std.proofs.Common.{◌≡◌, Option, Some, None, codes, option_map, sym}
 use Rattle.std.specs.Prelude.{MatchOption}
 use Rattle.schema_values.specs.declared.json_value.Json.{Json, Text as Words}
 use Rattle.schema_values.specs.Get.{get_of}

@@ -1,13 +1,10 @@
 //! The page of some items.
-ghost use Rattle.std.specs.Prelude.{◌≡◌, ◌≤◌, ◌++◌, [], IfOk, IfErr, OnOk, length};
+ghost use Rattle.std.specs.Prelude.{◌≡◌, ◌≤◌, ◌++◌, [], IfOk, IfErr, IsErr, OnOk, length};
 ghost use Rattle.std.specs.Fmt.{decimal};
 ghost use Rattle.http_status.specs.Errors.{internal_error};
 ghost use Rattle.api_types.specs.Additions.{with_all};
-ghost use Rattle.api_types.specs.Types.{IsTableOf};
-ghost use Rattle.page_tokens.specs.Forms.{v1};
-ghost use Rattle.page_tokens.specs.NextPages.{IsNextPage, IsNoPage, Selects, too_large_text};
-ghost use Rattle.page_tokens.specs.NextPages.{IsNoToken};
-ghost use Rattle.page_tokens.specs.Tokens.{token_of};
+ghost use Rattle.page_tokens.specs.NextPages.{AreAllTooLarge, HasTable, IsNextPage, IsNoPage};
+ghost use Rattle.page_tokens.specs.NextPages.{IsNoToken, Selects, too_large_text, type_token};
 
 use crate::results_page::ResultsPage;
 use crate::token::write_token;
@@ -19,10 +16,10 @@ use std::alloc::{AllocError, Global};
 use typed_values::{AddError, DescTable};
 
 impl<T: Drop> ResultsPage<T> {
-    /// The page of some items. Where there are any, its token is that of the selector that
-    /// `get_page_selector` gives for the last one; none else.
+    /// The page of some items: its token is that of the selector that `get_page_selector` gives for the last
+    /// of them, and none exactly where there is no item.
     ///
-    /// A token above 512 bytes is the internal error
+    /// Where that token would have above 512 bytes, the refusal is the internal error
     /// `serialized token is too large (K bytes, max is 512)`.
     pub fn new<F, S, P>(
         alloc: Global,
@@ -34,16 +31,20 @@ impl<T: Drop> ResultsPage<T> {
         F: Fn(Global, &T, &S) -> Result<P, AllocError>,
         P: ApiType,
         requires callable { F.IsAlwaysCallable get_page_selector }
-        requires table { IsTableOf P.definitions_of P.desc_of (with_all [] P.definitions_of) }
+        requires table { HasTable P.definitions_of P.desc_of }
         ensures items { IfOk result (λ page. page.items ≡ items) }
         ensures next_page { IfOk result (λ page. IsNextPage
             (Selects F.Fn get_page_selector scan_params.now)
-            (λ selector. token_of v1 (with_all [] P.definitions_of) P.desc_of (P.tree_of selector))
+            (λ selector. type_token P.definitions_of P.desc_of (P.tree_of selector))
             items page.next_page) }
         ensures refused { IfErr result (IsNoPage
             (Selects F.Fn get_page_selector scan_params.now)
-            (λ selector. token_of v1 (with_all [] P.definitions_of) P.desc_of (P.tree_of selector))
+            (λ selector. type_token P.definitions_of P.desc_of (P.tree_of selector))
             items) }
+        ensures too_large { AreAllTooLarge
+            (Selects F.Fn get_page_selector scan_params.now)
+            (λ selector. type_token P.definitions_of P.desc_of (P.tree_of selector))
+            items → IsErr result }
     {
         let next_page = next_page(alloc, items.as_slice(), scan_params, get_page_selector)?;
         Ok(ResultsPage { next_page, items })
@@ -61,12 +62,12 @@ where
     F: Fn(Global, &T, &S) -> Result<P, AllocError>,
     P: ApiType,
     requires callable { F.IsAlwaysCallable get_page_selector }
-    requires table { IsTableOf P.definitions_of P.desc_of (with_all [] P.definitions_of) }
+    requires table { HasTable P.definitions_of P.desc_of }
     ensures next_page { IfOk result (IsNextPage (Selects F.Fn get_page_selector scan_params.now)
-        (λ selector. token_of v1 (with_all [] P.definitions_of) P.desc_of (P.tree_of selector))
+        (λ selector. type_token P.definitions_of P.desc_of (P.tree_of selector))
         items.now) }
     ensures refused { IfErr result (IsNoPage (Selects F.Fn get_page_selector scan_params.now)
-        (λ selector. token_of v1 (with_all [] P.definitions_of) P.desc_of (P.tree_of selector))
+        (λ selector. type_token P.definitions_of P.desc_of (P.tree_of selector))
         items.now) }
 {
     match items.last() {
@@ -80,12 +81,12 @@ where
 
 // The token of a selector.
 fn selector_token<P: ApiType>(alloc: Global, selector: &P) -> Result<Text, HttpRefusal>
-    requires { IsTableOf P.definitions_of P.desc_of (with_all [] P.definitions_of) }
+    requires { HasTable P.definitions_of P.desc_of }
     ensures token { IfOk result (λ text. text
-        ≡ token_of v1 (with_all [] P.definitions_of) P.desc_of (P.tree_of selector.now)) }
+        ≡ type_token P.definitions_of P.desc_of (P.tree_of selector.now)) }
     ensures small { IfOk result (λ text. length text ≤ 512) }
     ensures refused { IfErr result (IsNoToken
-        (token_of v1 (with_all [] P.definitions_of) P.desc_of (P.tree_of selector.now))) }
+        (type_token P.definitions_of P.desc_of (P.tree_of selector.now))) }
 {
     let table = selector_table::<P>(alloc)?;
     let desc = P::descriptor(alloc)?;
@@ -101,7 +102,7 @@ fn selector_token<P: ApiType>(alloc: Global, selector: &P) -> Result<Text, HttpR
 
 // The table of a selector's definitions, which do not clash.
 fn selector_table<P: ApiType>(alloc: Global) -> Result<DescTable, AllocError>
-    requires { IsTableOf P.definitions_of P.desc_of (with_all [] P.definitions_of) }
+    requires { HasTable P.definitions_of P.desc_of }
     ensures { IfOk result (λ table. table ≡ with_all [] P.definitions_of) }
 {
     let mut table = DescTable::new(alloc);

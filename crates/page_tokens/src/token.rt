@@ -1,5 +1,5 @@
 //! Tokens: where the next page starts, as a client gets it and sends it back.
-ghost use Rattle.std.specs.Prelude.{◌≡◌, ◌<◌, ◌≤◌, IfOk, IfErr, IsOkUnless, Err, length};
+ghost use Rattle.std.specs.Prelude.{◌≡◌, ◌⊎◌, ◌<◌, ◌≤◌, IfOk, IfErr, Ok, Err, length};
 ghost use Rattle.std.specs.Str.{encode_utf8_all};
 ghost use Rattle.schema_values.specs.Depth.{depth};
 ghost use Rattle.schema_values.specs.Sound.{IsSound};
@@ -67,7 +67,7 @@ pub fn read_token(
     ensures reads { IfOk result (TokenReads v1 table.now selector.now token.now) }
     ensures fits { IfOk result (Fits table.now selector.now) }
     ensures complete { (tree : TreeValue) → TokenReads v1 table.now selector.now token.now tree
-        → IsOkUnless result TokenError.OutOfMemory }
+        → (result ≡ Ok tree) ⊎ (result ≡ Err TokenError.OutOfMemory) }
     ensures refused { IfErr result (IsRefused v1 table.now selector.now token.now) }
     ensures too_large { 512 < length token.now
         → result ≡ Err (TokenError.TooLarge (length token.now)) }
