@@ -10,7 +10,7 @@ use Rattle.typed_values.specs.Checks.{TablePasses}
 use Rattle.typed_values.specs.Denotes.{JsonDenotes}
 use Rattle.typed_values.specs.Parts.{the_whole}
 use Rattle.typed_values.proofs.CallerLemmas.{of_whole}
-use Rattle.page_tokens.specs.Encoded.{Encodes}
+use Rattle.page_tokens.specs.Encoded.{EncodesJson}
 use Rattle.page_tokens.specs.Forms.{v1}
 use Rattle.page_tokens.specs.Reaching.{ReachesNoAny}
 use Rattle.page_tokens.specs.Tokens.{TokenReads}
@@ -18,7 +18,7 @@ use Rattle.page_tokens.proofs.InOrder.{same_in_order}
 use Rattle.page_tokens.proofs.Objects.{in_order_starts}
 
 pub reads_again : (table : List Definition) (selector : Desc) → TablePasses table → ReachesNoAny table selector → (start : Json) → IsSound start → (tree : Tree) → JsonDenotes table selector start tree
-    → (token : List ℕ) → Encodes token (sorted_members (v1.object start)) → TokenReads v1 table selector token tree
+    → (token : List ℕ) → EncodesJson token (sorted_members (v1.object start)) → TokenReads v1 table selector token tree
 reads_again table selector passes none start sound tree denotes token encodes = record {
   bytes = encodes.bytes;
   small = encodes.small;

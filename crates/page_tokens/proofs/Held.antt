@@ -24,7 +24,7 @@ use Rattle.typed_values.specs.Denotes.{JsonDenotes}
 use Rattle.page_tokens.specs.declared.token_error.TokenError.{TokenError}
 use Rattle.page_tokens.specs.declared.token_error.TokenError.TheVariants.{TooLarge, NotBase64, Corrupted, OutOfMemory}
 use Rattle.page_tokens.specs.Forms.{Form, v1}
-use Rattle.page_tokens.specs.Tokens.{AreRefused, HoldsStart, IsRefused}
+use Rattle.page_tokens.specs.Tokens.{AreBytesRefused, HoldsStart, IsTokenRefused}
 
 -- ---- the values of members that are found
 
@@ -53,7 +53,7 @@ start_sound bytes json start reads has =
 -- ---- what is refused, by what its bytes are refused for
 
 module _ (form : Form) (table : List Definition) (selector : Desc) (token bytes : List ℕ) (decodes : decode_of url_safe token ≡ Ok bytes) where
-  pub token_refused : length token ≤ 512 → (error : TokenError) → AreRefused form table selector bytes error → IsRefused form table selector token error
+  pub token_refused : length token ≤ 512 → (error : TokenError) → AreBytesRefused form table selector bytes error → IsTokenRefused form table selector token error
   token_refused small (TooLarge size) refused = absurd refused
   token_refused small NotBase64 refused = absurd refused
   token_refused small Corrupted refused = (small, bytes, decodes, refused)
@@ -75,13 +75,13 @@ module _ (table : List Definition) (selector : Desc) (bytes : List ℕ) where
       cc (told, second.denotes)
 
   module _ (tree : Tree) (holds : HoldsStart v1 table selector bytes tree) where
-    only_memory : (error : TokenError) → AreRefused v1 table selector bytes error → error ≡ OutOfMemory
+    only_memory : (error : TokenError) → AreBytesRefused v1 table selector bytes error → error ≡ OutOfMemory
     only_memory (TooLarge size) refused = absurd refused
     only_memory NotBase64 refused = absurd refused
     only_memory Corrupted refused = absurd (refused tree holds)
     only_memory OutOfMemory refused = refl
 
     -- the answer is the tree that the bytes hold, unless memory runs out
-    pub tree_told : (result : Result Tree TokenError) → IfOk result (HoldsStart v1 table selector bytes) → IfErr result (AreRefused v1 table selector bytes) → (result ≡ Ok tree) ⊎ (result ≡ Err OutOfMemory)
+    pub tree_told : (result : Result Tree TokenError) → IfOk result (HoldsStart v1 table selector bytes) → IfErr result (AreBytesRefused v1 table selector bytes) → (result ≡ Ok tree) ⊎ (result ≡ Err OutOfMemory)
     tree_told (Ok read) held refused = inl (ap Ok (one_tree read tree held holds))
     tree_told (Err error) held refused = inr (ap Err (only_memory error refused))

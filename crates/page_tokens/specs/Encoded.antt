@@ -1,4 +1,5 @@
--- What a token encodes: base64 of the URL-safe alphabet with padding (RFC 4648, section 5) of a JSON text (RFC 8259).
+-- What a token encodes: a JSON text (RFC 8259), as base64 of the URL-safe alphabet with padding (RFC 4648,
+-- section 5).
 use Rattle.std.specs.Prelude.{◌≡◌, ◌⊎◌, ℕ, ◌<◌, ◌≤◌, ⊤, List, length, Result, Ok, Err}
 use Rattle.std.specs.Str.{encode_utf8_all}
 use Rattle.base64.specs.declared.decode.DecodeError.{DecodeError}
@@ -15,7 +16,7 @@ abbrev pub encoding_of : Json → List ℕ
 encoding_of json = encode_of url_safe (encode_utf8_all (compact_of json))
 
 -- the token has at most 512 bytes, which are the base64 of bytes that read as the value
-pub record Encodes (token : List ℕ) (json : Json) : Type 0 where
+pub record EncodesJson (token : List ℕ) (json : Json) : Type 0 where
   pub bytes : List ℕ
   pub small : length token ≤ 512
   pub decodes : decode_of url_safe token ≡ Ok bytes

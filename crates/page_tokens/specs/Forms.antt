@@ -4,7 +4,7 @@ use Rattle.schema_values.specs.declared.json_value.Json.{Json, Text as Words, Ob
 use Rattle.schema_values.specs.Get.{get_of}
 use Rattle.schema_values.specs.Member.{member}
 
--- the object that is written of the JSON of a selector, and of an object that is read the JSON that stands for one
+-- the object that is made of the JSON of a selector, and which JSON stands for one in an object that is read
 pub record Form : Type 1 where
   pub object : Json → Json
   pub HasStart : Json → Json → Type 0
@@ -13,5 +13,6 @@ pub record Form : Type 1 where
 abbrev pub v1 : Form
 v1 = record {
   object = λ start. Object (member (codes "v") (Words (codes "v1")) ∷ member (codes "page_start") start ∷ []);
-  HasStart = λ json start. (get_of (codes "v") json ≡ Some (Words (codes "v1"))) × (get_of (codes "page_start") json ≡ Some start);
+  HasStart = λ json start.
+      (get_of (codes "v") json ≡ Some (Words (codes "v1"))) × (get_of (codes "page_start") json ≡ Some start);
 }

@@ -18,7 +18,8 @@ use Rattle.page_tokens.specs.Forms.{v1}
 use Rattle.page_tokens.specs.Tokens.{token_of}
 
 -- the function, called on an item and the parameters of the scan, may answer the selector
-pub record Selects {F T S P : Type 0} (calls : Shared F (Global × (Bor T × (Bor S × Unit {0}))) (Result P AllocError)) (f : F) (scan : S) (item : T) (selector : P) : Type 0 where
+pub record Selects {F T S P : Type 0} (calls : Shared F (Global × (Bor T × (Bor S × Unit {0}))) (Result P AllocError))
+    (f : F) (scan : S) (item : T) (selector : P) : Type 0 where
   pub alloc : Global
   pub item_lent : Bor T
   pub scan_lent : Bor S
@@ -26,7 +27,8 @@ pub record Selects {F T S P : Type 0} (calls : Shared F (Global × (Bor T × (Bo
   pub answers : calls.post f (alloc, (item_lent, (scan_lent, tt))) (Ok selector)
 
 -- an item is the last one, and a selector is selected for it
-pub record SelectsLast {T P : Type 0} (Selected : T → P → Type 0) (items : List T) (selector : P) : Type 0 where
+pub record SelectsLast {T P : Type 0} (Selected : T → P → Type 0) (items : List T) (selector : P) :
+    Type 0 where
   pub last : T
   pub is_last : slice_get items (length items - 1) ≡ Some last
   pub selected : Selected last selector
@@ -34,7 +36,8 @@ pub record SelectsLast {T P : Type 0} (Selected : T → P → Type 0) (items : L
 -- the next page: none where there is no item, else the token of a selector of the last item
 abbrev pub IsNextPage : {T P : Type 0} → (T → P → Type 0) → (P → List ℕ) → List T → Option (List ℕ) → Type 0
 IsNextPage Selected token items None = items ≡ []
-IsNextPage {P = P} Selected token items (Some text) = (selector : P) × SelectsLast Selected items selector × (text ≡ token selector) × (length text ≤ 512)
+IsNextPage {P = P} Selected token items (Some text) =
+    (selector : P) × SelectsLast Selected items selector × (text ≡ token selector) × (length text ≤ 512)
 
 -- a type's definitions, added to an empty table, do not clash, and pass their checks with its descriptor
 abbrev pub HasTable : List Definition → Desc → Type 0
@@ -59,9 +62,11 @@ IsNoToken token OutOfMemory = ⊤
 
 -- why there is no page: the token of a selector of the last item is too large, or memory is wanting
 abbrev pub IsNoPage : {T P : Type 0} → (T → P → Type 0) → (P → List ℕ) → List T → HttpRefusal → Type 0
-IsNoPage {P = P} Selected token items (Http error) = (selector : P) × SelectsLast Selected items selector × IsTooLarge (token selector) error
+IsNoPage {P = P} Selected token items (Http error) =
+    (selector : P) × SelectsLast Selected items selector × IsTooLarge (token selector) error
 IsNoPage Selected token items OutOfMemory = ⊤
 
 -- there is an item, and each selector of the last one has a token above 512 bytes
 abbrev pub AreAllTooLarge : {T P : Type 0} → (T → P → Type 0) → (P → List ℕ) → List T → Type 0
-AreAllTooLarge {P = P} Selected token items = (items ≢ []) × ((selector : P) → SelectsLast Selected items selector → 512 < length (token selector))
+AreAllTooLarge {P = P} Selected token items =
+    (items ≢ []) × ((selector : P) → SelectsLast Selected items selector → 512 < length (token selector))

@@ -11,16 +11,19 @@ use Rattle.page_tokens.specs.declared.pagination_order.PaginationOrder.{Paginati
 use Rattle.page_tokens.specs.declared.pagination_order.PaginationOrder.TheVariants.{Ascending, Descending}
 
 -- a name without a description
-abbrev pub named : List ℕ → Named
-named name = record { name = name; description = None }
+abbrev pub order_name : List ℕ → Named
+order_name name = record { name = name; description = None }
 
 -- the two names
 abbrev pub order_names : List Named
-order_names = named (codes "ascending") ∷ named (codes "descending") ∷ []
+order_names = order_name (codes "ascending") ∷ order_name (codes "descending") ∷ []
 
 -- the definition of orders
 abbrev pub order_definition : Definition
-order_definition = definition_with (codes "PaginationOrder") (Some (codes "The order in which the client wants to page through the requested collection")) (descs.Enumeration order_names)
+order_definition =
+    definition_with (codes "PaginationOrder")
+    (Some (codes "The order in which the client wants to page through the requested collection"))
+    (descs.Enumeration order_names)
 
 -- the descriptor of orders
 abbrev pub order_desc : Desc

@@ -14,4 +14,5 @@ IsAny d = out-Desc d ≡ Desc-F.Any
 -- no such descriptor stands in a descriptor, or in a definition that it reaches
 pub record ReachesNoAny (table : List Definition) (desc : Desc) : Type 0 where
   pub in_desc : (d : Desc) → StandsIn desc d → IsAny d → ⊥
-  pub in_reached : (name : List ℕ) (e : Definition) → IsReached table desc name → entry_of table name ≡ Some e → (d : Desc) → StandsIn e.desc d → IsAny d → ⊥
+  pub in_reached : (name : List ℕ) (e : Definition) → IsReached table desc name → entry_of table name ≡ Some e
+      → (d : Desc) → StandsIn e.desc d → IsAny d → ⊥

@@ -19,7 +19,8 @@ abbrev pub token_of : Form → List Definition → Desc → Tree → List ℕ
 token_of form table selector tree = encoding_of (form.object (json_of_tree table selector tree))
 
 -- the bytes read as JSON that has, in the form, a start which denotes the tree
-pub record HoldsStart (form : Form) (table : List Definition) (selector : Desc) (bytes : List ℕ) (tree : Tree) : Type 0 where
+pub record HoldsStart (form : Form) (table : List Definition) (selector : Desc) (bytes : List ℕ) (tree : Tree) :
+    Type 0 where
   pub json : Json
   pub start : Json
   pub reads : Reads bytes json
@@ -27,7 +28,8 @@ pub record HoldsStart (form : Form) (table : List Definition) (selector : Desc) 
   pub denotes : JsonDenotes table selector start tree
 
 -- the token has at most 512 bytes and is the base64 of bytes that hold the tree as their start
-pub record TokenReads (form : Form) (table : List Definition) (selector : Desc) (token : List ℕ) (tree : Tree) : Type 0 where
+pub record TokenReads (form : Form) (table : List Definition) (selector : Desc) (token : List ℕ) (tree : Tree) :
+    Type 0 where
   pub bytes : List ℕ
   pub small : length token ≤ 512
   pub decodes : decode_of url_safe token ≡ Ok bytes
@@ -38,20 +40,21 @@ abbrev pub HoldsNone : Form → List Definition → Desc → List ℕ → Type 0
 HoldsNone form table selector bytes = (tree : Tree) → HoldsStart form table selector bytes tree → ⊥
 
 -- Why a token is refused: its size, its letters, or what it encodes. Each cause leaves out those before it.
-abbrev pub IsRefused : Form → List Definition → Desc → List ℕ → TokenError → Type 0
-IsRefused form table selector token (TooLarge size) = (512 < length token) × (size ≡ length token)
-IsRefused form table selector token NotBase64 = (length token ≤ 512) × IsNotBase64 token
-IsRefused form table selector token Corrupted = (length token ≤ 512) × (bytes : List ℕ) × (decode_of url_safe token ≡ Ok bytes) × HoldsNone form table selector bytes
-IsRefused form table selector token OutOfMemory = ⊤
+abbrev pub IsTokenRefused : Form → List Definition → Desc → List ℕ → TokenError → Type 0
+IsTokenRefused form table selector token (TooLarge size) = (512 < length token) × (size ≡ length token)
+IsTokenRefused form table selector token NotBase64 = (length token ≤ 512) × IsNotBase64 token
+IsTokenRefused form table selector token Corrupted =
+    (length token ≤ 512) × (bytes : List ℕ) × (decode_of url_safe token ≡ Ok bytes) × HoldsNone form table selector bytes
+IsTokenRefused form table selector token OutOfMemory = ⊤
 
 -- bytes are refused where they hold no tree, or memory is wanting
-abbrev pub AreRefused : Form → List Definition → Desc → List ℕ → TokenError → Type 0
-AreRefused form table selector bytes Corrupted = HoldsNone form table selector bytes
-AreRefused form table selector bytes OutOfMemory = ⊤
-AreRefused form table selector bytes _ = ⊥
+abbrev pub AreBytesRefused : Form → List Definition → Desc → List ℕ → TokenError → Type 0
+AreBytesRefused form table selector bytes Corrupted = HoldsNone form table selector bytes
+AreBytesRefused form table selector bytes OutOfMemory = ⊤
+AreBytesRefused form table selector bytes _ = ⊥
 
 -- a value is refused where it denotes no tree, or memory is wanting
-abbrev pub IsStrange : List Definition → Desc → Json → TokenError → Type 0
-IsStrange table selector json Corrupted = (tree : Tree) → JsonDenotes table selector json tree → ⊥
-IsStrange table selector json OutOfMemory = ⊤
-IsStrange table selector json _ = ⊥
+abbrev pub IsStartRefused : List Definition → Desc → Json → TokenError → Type 0
+IsStartRefused table selector json Corrupted = (tree : Tree) → JsonDenotes table selector json tree → ⊥
+IsStartRefused table selector json OutOfMemory = ⊤
+IsStartRefused table selector json _ = ⊥

@@ -6,7 +6,7 @@ ghost use Rattle.base64.specs.GeneralPurpose.{decode_of};
 ghost use Rattle.schema_values.specs.Depth.{depth};
 ghost use Rattle.schema_values.specs.Sound.{IsSound};
 ghost use Rattle.schema_values.specs.SortedMembers.{sorted_members};
-ghost use Rattle.page_tokens.specs.Encoded.{Encodes, IsTold, IsUndecoded, IsUnwritten};
+ghost use Rattle.page_tokens.specs.Encoded.{EncodesJson, IsTold, IsUndecoded, IsUnwritten};
 ghost use Rattle.page_tokens.specs.Encoded.{encoding_of};
 ghost use Rattle.page_tokens.specs.declared.token_error.TokenError.{TokenError};
 
@@ -27,7 +27,7 @@ pub(crate) fn encoded(alloc: Global, json: &Json) -> Result<Text, TokenError>
     ensures too_large { 512 < length (encoding_of json.now)
         → IsTold result (TokenError.TooLarge (length (encoding_of json.now))) }
     ensures again { IsSound json.now → depth json.now ≤ 127
-        → IfOk result (λ text. Encodes (encode_utf8_all text) (sorted_members json.now)) }
+        → IfOk result (λ text. EncodesJson (encode_utf8_all text) (sorted_members json.now)) }
 {
     let text = json.compact(alloc)?;
     let token = URL_SAFE.encode(alloc, text.as_bytes())?;

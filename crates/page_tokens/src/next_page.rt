@@ -16,8 +16,8 @@ use std::alloc::{AllocError, Global};
 use typed_values::{AddError, DescTable};
 
 impl<T: Drop> ResultsPage<T> {
-    /// The page of some items: its token is that of the selector that `get_page_selector` gives for the last
-    /// of them, and none exactly where there is no item.
+    /// The page of some items: its token is that of the selector that `get_page_selector` gives for
+    /// the last of them, and none exactly where there is no item.
     ///
     /// Where that token would have above 512 bytes, the refusal is the internal error
     /// `serialized token is too large (K bytes, max is 512)`.

@@ -2,7 +2,8 @@ ghost use Rattle.std.specs.Prelude.{◌≡◌};
 
 use std::num::NonZeroU32;
 
-/// What a client asks of a collection page by page: where the page starts, and how many items it has at most.
+/// What a client asks of a collection page by page: where the page starts, and how many items it
+/// has at most.
 #[derive(Drop)]
 pub struct PaginationParams<S, P> {
     /// The first page of a scan, or the next one of a scan that began.

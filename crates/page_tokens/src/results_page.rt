@@ -130,7 +130,8 @@ fn definition<T: ApiType>(alloc: Global) -> Result<Definition, AllocError>
     })
 }
 
-// Adds the definitions behind pages to a copy of the table, which takes its place where none clashes.
+// Adds the definitions behind pages to a copy of the table, which takes its place where none
+// clashes.
 fn add_page<T: ApiType>(alloc: Global, table: &mut DescTable) -> Result<(), AddError>
     ensures adds { AddsAll result table.old
         (page_definitions T.name_of T.definitions_of T.desc_of) table.new }

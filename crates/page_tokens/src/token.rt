@@ -12,8 +12,8 @@ ghost use Rattle.typed_values.specs.Reached.{ReachesNoUntagged};
 ghost use Rattle.page_tokens.specs.Encoded.{IsTold, IsUnwritten};
 ghost use Rattle.page_tokens.specs.Forms.{v1};
 ghost use Rattle.page_tokens.specs.Reaching.{ReachesNoAny};
-ghost use Rattle.page_tokens.specs.Tokens.{AreRefused, HoldsStart, IsRefused, IsStrange};
-ghost use Rattle.page_tokens.specs.Tokens.{TokenReads, token_of};
+ghost use Rattle.page_tokens.specs.Tokens.{AreBytesRefused, HoldsStart, IsStartRefused};
+ghost use Rattle.page_tokens.specs.Tokens.{IsTokenRefused, TokenReads, token_of};
 
 use crate::encoding::{LARGEST, decoded, encoded};
 use crate::form::{object_of, start_in};
@@ -22,8 +22,9 @@ use schema_values::{Json, ReadError, Text};
 use std::alloc::Global;
 use typed_values::{DecodeError, Desc, DescTable, Tree, decode_json, encode_json};
 
-/// The token of a tree of the selector's descriptor: the base64, of the URL-safe alphabet with padding
-/// (RFC 4648, section 5), of the compact JSON `{"v":"v1","page_start":S}`, where S is the JSON of the tree.
+/// The token of a tree of the selector's descriptor: the base64, of the URL-safe alphabet with
+/// padding (RFC 4648, section 5), of the compact JSON `{"v":"v1","page_start":S}`, where S is the
+/// JSON of the tree.
 ///
 /// `TooLarge`, with the token's length in bytes, exactly where it is above 512.
 pub fn write_token(
@@ -40,22 +41,25 @@ pub fn write_token(
         ≡ token_of v1 table.now selector.now tree.now) }
     ensures refused { IfErr result (IsUnwritten (token_of v1 table.now selector.now tree.now)) }
     ensures too_large { 512 < length (token_of v1 table.now selector.now tree.now)
-        → IsTold result (TokenError.TooLarge (length (token_of v1 table.now selector.now tree.now))) }
+        → IsTold result
+        (TokenError.TooLarge (length (token_of v1 table.now selector.now tree.now))) }
     // The token is read as the tree.
     ensures again { ReachesNoAny table.now selector.now → ReachesNoUntagged table.now selector.now
         → depth (json_of_tree table.now selector.now tree.now) ≤ 126
-        → IfOk result (λ text. TokenReads v1 table.now selector.now (encode_utf8_all text) tree.now) }
+        → IfOk result (λ text.
+        TokenReads v1 table.now selector.now (encode_utf8_all text) tree.now) }
 {
     let start = encode_json(alloc, table, selector, tree)?;
     encoded(alloc, &object_of(alloc, start)?)
 }
 
-/// The tree of the selector's descriptor that a token reads as. Other members of the object than `v` and
-/// `page_start` are not looked at.
+/// The tree of the selector's descriptor that a token reads as. Other members of the object than
+/// `v` and `page_start` are not looked at.
 ///
-/// `TooLarge`, with the token's length in bytes, exactly where it is above 512; the token is not read then.
-/// `NotBase64` exactly where it is no base64 of the URL-safe alphabet with padding. `Corrupted` exactly where
-/// the bytes that it encodes are no JSON object in which `v` is the text `v1` and `page_start` denotes a tree.
+/// `TooLarge`, with the token's length in bytes, exactly where it is above 512; the token is not
+/// read then. `NotBase64` exactly where it is no base64 of the URL-safe alphabet with padding.
+/// `Corrupted` exactly where the bytes that it encodes are no JSON object in which `v` is the text
+/// `v1` and `page_start` denotes a tree.
 pub fn read_token(
     alloc: Global,
     table: &DescTable,
@@ -68,12 +72,12 @@ pub fn read_token(
     ensures fits { IfOk result (Fits table.now selector.now) }
     ensures complete { (tree : TreeValue) → TokenReads v1 table.now selector.now token.now tree
         → (result ≡ Ok tree) ⊎ (result ≡ Err TokenError.OutOfMemory) }
-    ensures refused { IfErr result (IsRefused v1 table.now selector.now token.now) }
+    ensures refused { IfErr result (IsTokenRefused v1 table.now selector.now token.now) }
     ensures too_large { 512 < length token.now
         → result ≡ Err (TokenError.TooLarge (length token.now)) }
-    ensures not_base64 { IsRefused v1 table.now selector.now token.now TokenError.NotBase64
+    ensures not_base64 { IsTokenRefused v1 table.now selector.now token.now TokenError.NotBase64
         → IsTold result TokenError.NotBase64 }
-    ensures corrupted { IsRefused v1 table.now selector.now token.now TokenError.Corrupted
+    ensures corrupted { IsTokenRefused v1 table.now selector.now token.now TokenError.Corrupted
         → IsTold result TokenError.Corrupted }
 {
     if token.len() > LARGEST {
@@ -94,7 +98,7 @@ fn held_tree(
     requires desc { DescPasses table.now selector.now }
     ensures holds { IfOk result (HoldsStart v1 table.now selector.now bytes.now) }
     ensures fits { IfOk result (Fits table.now selector.now) }
-    ensures refused { IfErr result (AreRefused v1 table.now selector.now bytes.now) }
+    ensures refused { IfErr result (AreBytesRefused v1 table.now selector.now bytes.now) }
 {
     let object = match Json::read(alloc, bytes) {
         Ok(object) => object,
@@ -118,7 +122,7 @@ fn started_tree(
     requires desc { DescPasses table.now selector.now }
     ensures denotes { IfOk result (JsonDenotes table.now selector.now start.now) }
     ensures fits { IsSound start.now → IfOk result (Fits table.now selector.now) }
-    ensures refused { IfErr result (IsStrange table.now selector.now start.now) }
+    ensures refused { IfErr result (IsStartRefused table.now selector.now start.now) }
 {
     match decode_json(alloc, table, selector, start) {
         Ok(tree) => Ok(tree),
