@@ -23,6 +23,7 @@ pub(crate) const LARGEST: usize = 512;
 pub(crate) fn encoded(alloc: Global, json: &Json) -> Result<Text, TokenError>
     ensures text { IfOk result (λ text. text ≡ encoding_of json.now) }
     ensures bytes { IfOk result (λ text. encode_utf8_all text ≡ encoding_of json.now) }
+    ensures small { IfOk result (λ text. length (encode_utf8_all text) ≤ 512) }
     ensures refused { IfErr result (IsUnwritten (encoding_of json.now)) }
     ensures too_large { 512 < length (encoding_of json.now)
         → IsTold result (TokenError.TooLarge (length (encoding_of json.now))) }

@@ -39,6 +39,7 @@ pub fn write_token(
     ensures text { IfOk result (λ text. text ≡ token_of v1 table.now selector.now tree.now) }
     ensures bytes { IfOk result (λ text. encode_utf8_all text
         ≡ token_of v1 table.now selector.now tree.now) }
+    ensures small { IfOk result (λ text. length (encode_utf8_all text) ≤ 512) }
     ensures refused { IfErr result (IsUnwritten (token_of v1 table.now selector.now tree.now)) }
     ensures too_large { 512 < length (token_of v1 table.now selector.now tree.now)
         → IsTold result
