@@ -1,0 +1,5 @@
+pub mod Frames
+pub mod Sources
+pub mod Memory
+pub mod Bodies
+pub mod Dumping

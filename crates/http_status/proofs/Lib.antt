@@ -1,0 +1,2 @@
+mod Phrases
+mod WrittenBodies

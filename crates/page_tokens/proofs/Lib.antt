@@ -1,0 +1,11 @@
+pub mod Letters
+pub mod Starts
+pub mod Objects
+pub mod Sorting
+pub mod LevelsInOrder
+pub mod InOrder
+pub mod Held
+pub mod Again
+pub mod Orders
+pub mod Clashes
+pub mod NextPages
