@@ -1,0 +1,4 @@
+pub mod Orders
+pub mod Bounds
+pub mod Pairs
+pub mod Equal

@@ -1,0 +1,4 @@
+pub mod Order
+pub mod Ranges
+pub mod Shown
+pub mod Overlaps
