@@ -1,0 +1,3 @@
+mod Filters
+mod Values
+mod Placed
