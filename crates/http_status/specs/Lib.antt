@@ -1,0 +1,3 @@
+pub mod ErrorLines
+pub mod Errors
+pub mod Texts
