@@ -4,7 +4,7 @@ use Rattle.std.proofs.Common.{refl, sym, ap, ◌∙◌}
 use Rattle.std.proofs.lemmas.Bool.{and_from, and_parts}
 use Rattle.std.specs.declared.cmp.Ordering.{Ordering}
 use Rattle.std.specs.Cmp.{Equal-is}
-use Rattle.std.specs.Ordering.{is_eq, is_ge, is_some_and, partial_ge}
+use Rattle.std.specs.Ordering.{is_eq, is_ge, is_le, is_some_and, partial_ge, partial_le}
 use Rattle.semver.specs.declared.Version.{Version}
 use Rattle.semver.specs.Identifiers.{parts_of}
 use Rattle.semver.specs.contracts.VersionPartialEq.TheImpl as version_test
@@ -16,7 +16,7 @@ use Rattle.api_versions.specs.contracts.range.ApiEndpointVersionsPartialEq.TheIm
 use Rattle.api_versions.specs.declared.range.ApiEndpointVersions.{ApiEndpointVersions}
 use Rattle.api_versions.specs.declared.range.ApiEndpointVersions.TheVariants.{All, From, FromUntil, Until}
 use Rattle.api_versions.specs.Order.{IsAtLeast, version_cmp}
-use Rattle.api_versions.proofs.Orders.{at_least-is, ties_itself, version_anti}
+use Rattle.api_versions.proofs.Orders.{above-is_below, at_least-is, at_most-is, ties_itself, version_anti}
 
 abbrev version_eq : Version → Version → Bool
 version_eq = version_test.ghosts.eq
@@ -40,6 +40,14 @@ at_least_test v w =
     let test = at_least-is (version_cmp (parts_of v) (parts_of w)) in
     let by_order = ap (is_some_and is_ge) (version_order.matches_partial_cmp-law v w) in
     (λ e. test.0 (sym by_order ∙ e), λ at_least. by_order ∙ test.1 at_least)
+
+-- the test of versions by `<=`
+pub at_most_test : (v w : Version) → (partial_le version_partial v w ≡ true) ↔ IsAtLeast (parts_of w) (parts_of v)
+at_most_test v w =
+    let test = at_most-is (version_cmp (parts_of v) (parts_of w)) in
+    let by_order = ap (is_some_and is_le) (version_order.matches_partial_cmp-law v w) in
+    let turned = above-is_below (parts_of v) (parts_of w) in
+    (λ e. sym turned ∙ test.0 (sym by_order ∙ e), λ at_least. by_order ∙ test.1 (turned ∙ at_least))
 
 abbrev range_eq : ApiEndpointVersions → ApiEndpointVersions → Bool
 range_eq = range_test.ghosts.eq

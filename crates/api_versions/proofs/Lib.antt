@@ -2,3 +2,4 @@ pub mod Orders
 pub mod Bounds
 pub mod Pairs
 pub mod Equal
+pub mod HeaderAnswers

@@ -3,7 +3,7 @@ use Rattle.std.specs.Prelude.{◌≡◌, ◌↔◌, true, false}
 use Rattle.std.proofs.Common.{refl, sym, ap, ◌∙◌}
 use Rattle.std.specs.declared.cmp.Ordering.{Ordering}
 use Rattle.std.specs.declared.cmp.Ordering.TheVariants.{Less, Equal, Greater}
-use Rattle.std.specs.Ordering.{is_ge, is_gt, is_lt, ordering_reverse, ordering_then}
+use Rattle.std.specs.Ordering.{is_ge, is_gt, is_le, is_lt, ordering_reverse, ordering_then}
 use Rattle.std.specs.Cmp.{IsTotalOrder, nat_cmp_total, on_total, then_total, tied_itself, upto}
 use Rattle.std.specs.FinMap.{IsAntisymmetric, nat_cmp-IsAntisymmetric}
 use Rattle.semver.specs.Parse.{Parts}
@@ -49,7 +49,7 @@ turned Equal = refl
 turned Greater = refl
 
 -- above is below from the other side
-above-is_below : (x y : Parts) → is_gt (version_cmp x y) ≡ is_below y x
+pub above-is_below : (x y : Parts) → is_gt (version_cmp x y) ≡ is_below y x
 above-is_below x y = ap is_gt (version_total.antisymm x y) ∙ turned (version_cmp y x)
 
 -- each version is at least itself
@@ -83,3 +83,9 @@ pub at_least-is : (r : Ordering) → (is_ge r ≡ true) ↔ (is_lt r ≡ false)
 at_least-is Less = (λ e. sym e, λ e. sym e)
 at_least-is Equal = (λ e. refl, λ e. refl)
 at_least-is Greater = (λ e. refl, λ e. refl)
+
+-- and by `<=`
+pub at_most-is : (r : Ordering) → (is_le r ≡ true) ↔ (is_gt r ≡ false)
+at_most-is Less = (λ e. refl, λ e. refl)
+at_most-is Equal = (λ e. refl, λ e. refl)
+at_most-is Greater = (λ e. sym e, λ e. sym e)
