@@ -35,14 +35,16 @@ same_version v w =
     )
 
 -- the test of versions by `>=`
-pub at_least_test : (v w : Version) → (partial_ge version_partial v w ≡ true) ↔ IsAtLeast (parts_of v) (parts_of w)
+pub at_least_test : (v w : Version)
+    → (partial_ge version_partial v w ≡ true) ↔ IsAtLeast (parts_of v) (parts_of w)
 at_least_test v w =
     let test = at_least-is (version_cmp (parts_of v) (parts_of w)) in
     let by_order = ap (is_some_and is_ge) (version_order.matches_partial_cmp-law v w) in
     (λ e. test.0 (sym by_order ∙ e), λ at_least. by_order ∙ test.1 at_least)
 
 -- the test of versions by `<=`
-pub at_most_test : (v w : Version) → (partial_le version_partial v w ≡ true) ↔ IsAtLeast (parts_of w) (parts_of v)
+pub at_most_test : (v w : Version)
+    → (partial_le version_partial v w ≡ true) ↔ IsAtLeast (parts_of w) (parts_of v)
 at_most_test v w =
     let test = at_most-is (version_cmp (parts_of v) (parts_of w)) in
     let by_order = ap (is_some_and is_le) (version_order.matches_partial_cmp-law v w) in

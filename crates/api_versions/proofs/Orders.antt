@@ -23,9 +23,10 @@ then_second Greater s e = cc e
 
 pub version_total : IsTotalOrder version_cmp
 version_total =
-    then_total (on_total (λ (v : Parts). v.0) nat_cmp_total) (then_total (on_total (λ (v : Parts). v.1) nat_cmp_total)
-    (then_total (on_total (λ (v : Parts). v.2) nat_cmp_total) (then_total (on_total (λ (v : Parts). v.3) pre_total)
-    (on_total (λ (v : Parts). v.4) build_total))))
+    then_total (on_total (λ (v : Parts). v.0) nat_cmp_total)
+    (then_total (on_total (λ (v : Parts). v.1) nat_cmp_total)
+    (then_total (on_total (λ (v : Parts). v.2) nat_cmp_total)
+    (then_total (on_total (λ (v : Parts). v.3) pre_total) (on_total (λ (v : Parts). v.4) build_total))))
 
 -- versions that tie are the same
 pub version_anti : IsAntisymmetric version_cmp

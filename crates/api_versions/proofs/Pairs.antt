@@ -13,7 +13,10 @@ pub held_at : (earliest end version : Parts) → version_cmp version end ≡ Equ
     → (version ≡ earliest) ↔ Holds (from_until earliest end) version
 held_at earliest end version tie =
     let same : version ≡ end = version_anti version end tie in (
-      λ first. (subst (λ v. IsAtLeast v earliest) (sym first) (at_least_itself earliest), inr (same, sym same ∙ first)),
+      λ first. (
+        subst (λ v. IsAtLeast v earliest) (sym first) (at_least_itself earliest),
+        inr (same, sym same ∙ first),
+      ),
       λ held. elim held.1 [
         | inl below ↦ cc (sym below ∙ ap is_lt tie)
         | inr one ↦ one.0 ∙ one.1
@@ -21,7 +24,8 @@ held_at earliest end version tie =
     )
 
 -- what is above the second is not held
-pub above_not_held : (earliest end version : Parts) → version_cmp version end ≡ Greater → ¬ Holds (from_until earliest end) version
+pub above_not_held : (earliest end version : Parts) → version_cmp version end ≡ Greater
+    → ¬ Holds (from_until earliest end) version
 above_not_held earliest end version above held = elim held.1 [
   | inl below ↦ cc (sym below ∙ ap is_lt above)
   | inr one ↦ cc (sym above ∙ ap (version_cmp version) (sym one.0) ∙ ties_itself version)

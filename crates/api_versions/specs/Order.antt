@@ -1,5 +1,5 @@
--- The order of versions: the precedence of Semantic Versioning 2.0.0 (section 11), which leaves versions equal
--- that differ in build metadata alone, and then the order that `semver` has for build metadata.
+-- The order of versions: the precedence of Semantic Versioning 2.0.0 (section 11), which leaves versions
+-- equal that differ in build metadata alone, and then the order that `semver` has for build metadata.
 use Rattle.std.specs.Prelude.{◌≡◌, Bool, false, IsTrue}
 use Rattle.std.specs.Ordering.{is_lt, nat_cmp, on, then_cmp}
 use Rattle.std.specs.declared.cmp.Ordering.{Ordering}

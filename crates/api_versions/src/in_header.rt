@@ -1,5 +1,6 @@
 //! A version in a header of the request.
-ghost use Rattle.std.specs.Prelude.{◌≡◌, ◌⊎◌, ◌↔◌, Err, IfOk, IsOkAnd, IsTrue, None, Some, string_bytes};
+ghost use Rattle.std.specs.Prelude.{◌≡◌, ◌⊎◌, ◌↔◌, IfOk, IsOkAnd, IsTrue};
+ghost use Rattle.std.specs.Prelude.{Err, None, Some, string_bytes};
 ghost use Rattle.std.specs.Option.{option_copied};
 ghost use Rattle.std.specs.Str.{chars};
 ghost use Rattle.semver.specs.Identifiers.{parts_of};
@@ -8,8 +9,9 @@ ghost use Rattle.header_lists.specs.HeaderLists.{first_of};
 ghost use Rattle.http_status.specs.Errors.{bad_request};
 ghost use Rattle.http_status.specs.declared.error.HttpError.{HttpError as ErrorValue};
 ghost use Rattle.api_versions.specs.Order.{IsAtLeast};
-ghost use Rattle.api_versions.specs.HeaderVersions.{AnswersFault, Extracts, Gives, HasFault, Refuses};
-ghost use Rattle.api_versions.specs.HeaderVersions.{VersionFault, missing, bad_value_message, fault_error, not_served_message};
+ghost use Rattle.api_versions.specs.HeaderVersions.{AnswersFault, Extracts, Gives, HasFault};
+ghost use Rattle.api_versions.specs.HeaderVersions.{Refuses, VersionFault, bad_value_message};
+ghost use Rattle.api_versions.specs.HeaderVersions.{fault_error, missing, not_served_message};
 
 use crate::policy::DynamicVersionPolicy;
 use crate::versions::copy_version;
@@ -23,10 +25,10 @@ use std::marker::Model;
 
 /// Clients ask for a version in a header, by the value of its first line.
 ///
-/// A request is answered by an error of status 400 where the header is missing and no version counts then,
-/// where the value has a byte other than visible ASCII, a space or a tab, where it is no version, and where
-/// that version is above the greatest that is served. Contracts see the header's name by its bytes in lower
-/// case.
+/// A request is answered by an error of status 400 where the header is missing and no version
+/// counts then, where the value has a byte other than visible ASCII, a space or a tab, where it is
+/// no version, and where that version is above the greatest that is served. Contracts see the
+/// header's name by its bytes in lower case.
 #[derive(Drop)]
 pub struct ClientSpecifiesVersionInHeader {
     name: HeaderName,
@@ -49,10 +51,14 @@ impl Model for ClientSpecifiesVersionInHeader {
 }
 
 impl ClientSpecifiesVersionInHeader {
-    /// A policy that reads the header of this name and refuses each version above the greatest. The header has
-    /// to be there.
+    /// A policy that reads the header of this name and refuses each version above the greatest. The
+    /// header has to be there.
     pub fn new(name: HeaderName, max_version: Version) -> ClientSpecifiesVersionInHeader
-        ensures { result ≡ record { name = name; max_version = parts_of max_version; on_missing = None } }
+        ensures { result ≡ record {
+          name = name;
+          max_version = parts_of max_version;
+          on_missing = None;
+        } }
     {
         ClientSpecifiesVersionInHeader {
             name,
@@ -61,8 +67,8 @@ impl ClientSpecifiesVersionInHeader {
         }
     }
 
-    /// The same policy, but that this version counts where the header is missing, whether or not it is above
-    /// the greatest.
+    /// The same policy, but that this version counts where the header is missing, whether or not
+    /// it is above the greatest.
     pub fn on_missing(self, version: Version) -> Self
         ensures { result ≡ record self { on_missing = Some (parts_of version) } }
     {
@@ -101,12 +107,17 @@ impl DynamicVersionPolicy for ClientSpecifiesVersionInHeader {
         alloc: Global,
         headers: &HeaderList,
     ) -> Result<Version, HttpRefusal>
-        ensures version { IfOk result (λ version. Extracts self.now headers.now (parts_of version)) }
+        ensures version { IfOk result (λ version.
+            Extracts self.now headers.now (parts_of version)) }
         ensures refused { (error : ErrorValue) → result ≡ Err (HttpRefusal.Http error)
             → Refuses self.now headers.now error }
-        ensures given { (version : Parts) → Gives self.now (first_of self.now.name headers.now) version
-            → IsOkAnd result (λ given. parts_of given ≡ version) ⊎ (result ≡ Err HttpRefusal.OutOfMemory) }
-        ensures told { (fault : VersionFault) → HasFault self.now (first_of self.now.name headers.now) fault
+        // A version that is asked for is given, or memory runs out.
+        ensures given { (version : Parts) → Extracts self.now headers.now version
+            → IsOkAnd result (λ given. parts_of given ≡ version)
+            ⊎ (result ≡ Err HttpRefusal.OutOfMemory) }
+        // Each fault is told where it stands, or memory runs out.
+        ensures told { (fault : VersionFault)
+            → HasFault self.now (first_of self.now.name headers.now) fault
             → (result ≡ Err (HttpRefusal.Http (fault_error self.now.name fault)))
             ⊎ (result ≡ Err HttpRefusal.OutOfMemory) }
     {
@@ -127,7 +138,8 @@ impl ClientSpecifiesVersionInHeader {
 
     // The version of a value.
     fn version_in(&self, alloc: Global, value: &HeaderValue) -> Result<Version, HttpRefusal>
-        ensures version { IfOk result (λ version. Gives self.now (Some value.now) (parts_of version)) }
+        ensures version { IfOk result (λ version.
+            Gives self.now (Some value.now) (parts_of version)) }
         ensures refused { (error : ErrorValue) → result ≡ Err (HttpRefusal.Http error)
             → AnswersFault self.now (Some value.now) error }
     {

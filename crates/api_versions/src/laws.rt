@@ -1,5 +1,5 @@
-//! What is true of the order of versions and of ranges.
-ghost use Rattle.std.specs.Prelude.{◌≡◌, ◌↔◌};
+//! What is true of the order of versions, of ranges and of the policy of a header.
+ghost use Rattle.std.specs.Prelude.{◌≡◌, ◌↔◌, ◌⊎◌, List};
 ghost use Rattle.std.specs.Cmp.{IsTotalOrder};
 ghost use Rattle.std.specs.Ordering.{ordering_then};
 ghost use Rattle.std.specs.declared.cmp.Ordering.TheVariants.{Equal};
@@ -8,6 +8,9 @@ ghost use Rattle.semver.specs.Identifiers.{build_text, parts_of};
 ghost use Rattle.semver.specs.Order.{build_cmp};
 ghost use Rattle.semver.specs.Parse.{Parts};
 ghost use Rattle.semver.specs.declared.Version.{Version};
+ghost use Rattle.header_lists.specs.HeaderLists.{Line};
+ghost use Rattle.http_status.specs.declared.error.HttpError.{HttpError as ErrorValue};
+ghost use Rattle.api_versions.specs.HeaderVersions.{Extracts, HeaderPolicy, Refuses};
 ghost use Rattle.api_versions.specs.Order.{version_cmp};
 ghost use Rattle.api_versions.specs.Ranges.{Holds, from_until};
 
@@ -30,5 +33,20 @@ pub fn ties_are_the_same()
 
 /// A range from a version until the same one holds just that version.
 pub fn one_version_held()
-    ensures { (version other : Parts) → Holds (from_until version version) other ↔ (other ≡ version) }
+    ensures { (version other : Parts)
+        → Holds (from_until version version) other ↔ (other ≡ version) }
+{}
+
+/// Under the policy of a header, header lines ask for one version or are refused with one error,
+/// and never both.
+pub fn one_answer()
+    ensures answered { (policy : HeaderPolicy) (lines : List Line)
+        → ((version : Parts) × Extracts policy lines version)
+        ⊎ ((error : ErrorValue) × Refuses policy lines error) }
+    ensures apart { (policy : HeaderPolicy) (lines : List Line) (version : Parts)
+        (error : ErrorValue) → Extracts policy lines version → ¬ Refuses policy lines error }
+    ensures one_version { (policy : HeaderPolicy) (lines : List Line) (version other : Parts)
+        → Extracts policy lines version → Extracts policy lines other → version ≡ other }
+    ensures one_error { (policy : HeaderPolicy) (lines : List Line) (error other : ErrorValue)
+        → Refuses policy lines error → Refuses policy lines other → error ≡ other }
 {}

@@ -24,7 +24,8 @@ pub trait DynamicVersionPolicy: Drop {
         alloc: Global,
         headers: &HeaderList,
     ) -> Result<Version, HttpRefusal>
-        ensures version { IfOk result (λ version. extracts self.now headers.now (parts_of version)) }
+        ensures version { IfOk result (λ version.
+            extracts self.now headers.now (parts_of version)) }
         ensures refused { (error : ErrorValue) → result ≡ Err (HttpRefusal.Http error)
             → refuses self.now headers.now error };
 }
@@ -42,8 +43,8 @@ impl VersionPolicy {
     ghost use Rattle.api_versions.specs.Policies.{GivesVersion, RefusesLines};
     ghost use Rattle.api_versions.specs.declared.policy.VersionPolicy.TheVariants.{Unversioned};
 
-    /// The version that a request of these header lines asks for, if requests ask for one; or the error that it
-    /// is answered with.
+    /// The version that a request of these header lines asks for, if requests ask for one; or the
+    /// error that it is answered with.
     pub fn request_version(
         &self,
         alloc: Global,

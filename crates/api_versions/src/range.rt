@@ -1,5 +1,6 @@
 //! Ranges of versions.
-ghost use Rattle.std.specs.Prelude.{◌≡◌, ◌↔◌, false, IfErr, IfOk, IfSome, IsErr, IsTrue, codes, option_map};
+ghost use Rattle.std.specs.Prelude.{◌≡◌, ◌↔◌, false, codes, option_map};
+ghost use Rattle.std.specs.Prelude.{IfErr, IfOk, IfSome, IsErr, IsTrue};
 ghost use Rattle.semver.specs.Identifiers.{parts_of};
 ghost use Rattle.api_versions.specs.Order.{IsBelow};
 ghost use Rattle.api_versions.specs.Overlaps.{IsDisjoint, Overlaps};
@@ -12,14 +13,14 @@ use semver::Version;
 use std::alloc::{AllocError, Global};
 
 /// A range of versions.
-#[derive(Drop, PartialEq, Eq)]
+#[derive(Debug, Drop, PartialEq, Eq)]
 pub enum ApiEndpointVersions {
     /// Every version.
     All,
     /// This version and those above it.
     From(Version),
-    /// The first of two versions and those above it that are below the second; where the two are the same,
-    /// just that version.
+    /// The first of two versions and those above it that are below the second; where the two are
+    /// the same, just that version.
     FromUntil(OrderedVersionPair),
     /// The versions below this one.
     Until(Version),
@@ -47,8 +48,8 @@ impl ApiEndpointVersions {
         ApiEndpointVersions::Until(version)
     }
 
-    /// The versions from the first on that are below the second. Refused exactly where the second is below the
-    /// first.
+    /// The versions from the first on that are below the second; where the two are the same, just
+    /// that version. Refused exactly where the second is below the first.
     pub fn from_until(
         earliest: Version,
         until: Version,
@@ -66,7 +67,8 @@ impl ApiEndpointVersions {
 
     /// Whether the range holds a version. Where no version is asked for, every range is taken.
     pub fn matches(&self, version: Option<&Version>) -> bool
-        ensures { IsTrue result ↔ Takes (range_of self.now) (option_map (λ v. parts_of v.now) version.entry) }
+        ensures { IsTrue result ↔ Takes (range_of self.now)
+            (option_map (λ v. parts_of v.now) version.entry) }
     {
         match version {
             Some(version) => self.holds(version),
@@ -114,7 +116,7 @@ impl ApiEndpointVersions {
         match self {
             ApiEndpointVersions::All | ApiEndpointVersions::Until(_) => None,
             ApiEndpointVersions::From(earliest) => Some(earliest),
-            ApiEndpointVersions::FromUntil(pair) => Some(pair.earliest()),
+            ApiEndpointVersions::FromUntil(pair) => Some(&pair.earliest),
         }
     }
 

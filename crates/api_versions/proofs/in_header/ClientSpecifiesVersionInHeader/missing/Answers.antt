@@ -7,5 +7,6 @@ use Rattle.api_versions.proofs.in_header.ClientSpecifiesVersionInHeader.missing.
 
 pub returns : goal.returns
 returns c =
-    let text = c.in_ok-format.ensures.ok ∙ ap (λ (policy : HeaderPolicy). fault_message policy.name missing) c.self.view_is in
-    subst (λ text. IfOk c.bad_request.result (λ error. error ≡ bad_request None (chars text))) text c.bad_request.ensures
+    let by_name = ap (λ (policy : HeaderPolicy). fault_message policy.name missing) c.self.view_is in
+    subst (λ text. IfOk c.bad_request.result (λ error. error ≡ bad_request None (chars text)))
+    (c.in_ok-format.ensures.ok ∙ by_name) c.bad_request.ensures
