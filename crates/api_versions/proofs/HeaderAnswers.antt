@@ -13,7 +13,7 @@ use Rattle.http_status.specs.declared.error.HttpError.{HttpError}
 use Rattle.http_status.specs.declared.refusal.HttpRefusal.{HttpRefusal}
 use Rattle.http_status.specs.declared.refusal.HttpRefusal.TheVariants.{Http, OutOfMemory}
 use Rattle.api_versions.specs.Order.{is_below}
-use Rattle.api_versions.specs.HeaderVersions.{AnswersFault, Gives, HasFault, HeaderPolicy, VersionFault}
+use Rattle.api_versions.specs.HeaderVersions.{AnswersFault, HasVersion, HasFault, HeaderPolicy, VersionFault}
 use Rattle.api_versions.specs.HeaderVersions.{fault_error, missing, not_ascii, not_a_version, not_served}
 
 -- one version is read
@@ -23,7 +23,7 @@ one_read text version other read also = cc (sym read ∙ also)
 
 -- what has a version has no fault
 pub no_fault : (policy : HeaderPolicy) (first : Option FieldValue) (version : Parts) (fault : VersionFault)
-    → Gives policy first version → ¬ HasFault policy first fault
+    → HasVersion policy first version → ¬ HasFault policy first fault
 no_fault policy None version missing given at = cc (sym given ∙ at)
 no_fault policy None version not_ascii given at = at
 no_fault policy None version not_a_version given at = at
@@ -37,7 +37,7 @@ no_fault policy (Some value) version (not_served other) given at =
 
 -- one version is given
 pub one_version : (policy : HeaderPolicy) (first : Option FieldValue) (version other : Parts)
-    → Gives policy first version → Gives policy first other → version ≡ other
+    → HasVersion policy first version → HasVersion policy first other → version ≡ other
 one_version policy None version other given also =
     let same : Some version ≡ Some other = sym given ∙ also in cc same
 one_version policy (Some value) version other given also =
@@ -70,9 +70,9 @@ one_fault policy (Some value) (not_served v) (not_served w) at also =
 
 -- where answers come by their causes alone, a version is given where there is one, or memory runs out
 pub given_by : (policy : HeaderPolicy) (first : Option FieldValue) (result : Result Version HttpRefusal)
-    → IfOk result (λ version. Gives policy first (parts_of version))
+    → IfOk result (λ version. HasVersion policy first (parts_of version))
     → ((error : HttpError) → result ≡ Err (Http error) → AnswersFault policy first error)
-    → (version : Parts) → Gives policy first version
+    → (version : Parts) → HasVersion policy first version
     → IsOkAnd result (λ given. parts_of given ≡ version) ⊎ (result ≡ Err OutOfMemory)
 given_by policy first (Ok given) ok refused version gives =
     inl (one_version policy first (parts_of given) version ok gives)
@@ -82,7 +82,7 @@ given_by policy first (Err OutOfMemory) ok refused version gives = inr refl
 
 -- and each fault is told where it stands, or memory runs out
 pub told_by : (policy : HeaderPolicy) (first : Option FieldValue) (result : Result Version HttpRefusal)
-    → IfOk result (λ version. Gives policy first (parts_of version))
+    → IfOk result (λ version. HasVersion policy first (parts_of version))
     → ((error : HttpError) → result ≡ Err (Http error) → AnswersFault policy first error)
     → (fault : VersionFault) → HasFault policy first fault
     → (result ≡ Err (Http (fault_error policy.name fault))) ⊎ (result ≡ Err OutOfMemory)
@@ -97,7 +97,7 @@ told_by policy first (Err OutOfMemory) ok refused fault stands = inr refl
 -- a version was read: it is served, or above the greatest
 served_or_not : (policy : HeaderPolicy) (value : FieldValue) (version : Parts)
     → IsVisibleAscii value.bytes → version_parts value.bytes ≡ Ok version
-    → ((given : Parts) × Gives policy (Some value) given)
+    → ((given : Parts) × HasVersion policy (Some value) given)
     ⊎ ((fault : VersionFault) × HasFault policy (Some value) fault)
 served_or_not policy value version visible read = elim (cases_Bool (is_below policy.max_version version)) [
   | inl above ↦ inr (not_served version, record { visible = visible; read = read; above = above })
@@ -106,20 +106,20 @@ served_or_not policy value version visible read = elim (cases_Bool (is_below pol
 
 by_reading : (policy : HeaderPolicy) (value : FieldValue) (reading : Result Parts VersionError)
     → IsVisibleAscii value.bytes → version_parts value.bytes ≡ reading
-    → ((given : Parts) × Gives policy (Some value) given)
+    → ((given : Parts) × HasVersion policy (Some value) given)
     ⊎ ((fault : VersionFault) × HasFault policy (Some value) fault)
 by_reading policy value (Ok version) visible read = served_or_not policy value version visible read
 by_reading policy value (Err error) visible read =
     inr (not_a_version, (visible, λ version also. cc (sym also ∙ read)))
 
 without_value : (policy : HeaderPolicy) (version : Option Parts) → policy.on_missing ≡ version
-    → ((given : Parts) × Gives policy None given) ⊎ ((fault : VersionFault) × HasFault policy None fault)
+    → ((given : Parts) × HasVersion policy None given) ⊎ ((fault : VersionFault) × HasFault policy None fault)
 without_value policy (Some version) is = inl (version, is)
 without_value policy None is = inr (missing, is)
 
 -- a request has a version or a fault
 pub some_answer : (policy : HeaderPolicy) (first : Option FieldValue)
-    → ((given : Parts) × Gives policy first given) ⊎ ((fault : VersionFault) × HasFault policy first fault)
+    → ((given : Parts) × HasVersion policy first given) ⊎ ((fault : VersionFault) × HasFault policy first fault)
 some_answer policy None = without_value policy policy.on_missing refl
 some_answer policy (Some value) = elim (cases_Bool (is_visible_text value.bytes)) [
   | inl visible ↦ by_reading policy value (version_parts value.bytes)
@@ -132,7 +132,7 @@ some_answer policy (Some value) = elim (cases_Bool (is_visible_text value.bytes)
 
 -- the same of errors
 pub some_told : (policy : HeaderPolicy) (first : Option FieldValue)
-    → ((given : Parts) × Gives policy first given) ⊎ ((error : HttpError) × AnswersFault policy first error)
+    → ((given : Parts) × HasVersion policy first given) ⊎ ((error : HttpError) × AnswersFault policy first error)
 some_told policy first = elim (some_answer policy first) [
   | inl given ↦ inl given
   | inr faulty ↦ inr (

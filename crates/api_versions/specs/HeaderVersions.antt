@@ -18,15 +18,15 @@ pub record HeaderPolicy : Type 0 where
   pub on_missing : Option Parts
 
 -- the text of a value is a version that is served
-pub record AsksFor (policy : HeaderPolicy) (value : FieldValue) (version : Parts) : Type 0 where
+pub record AsksForServed (policy : HeaderPolicy) (value : FieldValue) (version : Parts) : Type 0 where
   pub visible : IsVisibleAscii value.bytes
   pub read : version_parts value.bytes ≡ Ok version
   pub served : IsAtLeast policy.max_version version
 
 -- the version of a request whose header has this first value
-abbrev pub Gives : HeaderPolicy → Option FieldValue → Parts → Type 0
-Gives policy None version = policy.on_missing ≡ Some version
-Gives policy (Some value) version = AsksFor policy value version
+abbrev pub HasVersion : HeaderPolicy → Option FieldValue → Parts → Type 0
+HasVersion policy None version = policy.on_missing ≡ Some version
+HasVersion policy (Some value) version = AsksForServed policy value version
 
 -- why a request has no version
 pub data VersionFault : Type 0 where
@@ -36,7 +36,7 @@ pub data VersionFault : Type 0 where
   not_served : Parts → VersionFault
 
 -- the text of a value is a version above the greatest that is served
-pub record AsksTooMuch (policy : HeaderPolicy) (value : FieldValue) (version : Parts) : Type 0 where
+pub record AsksForUnserved (policy : HeaderPolicy) (value : FieldValue) (version : Parts) : Type 0 where
   pub visible : IsVisibleAscii value.bytes
   pub read : version_parts value.bytes ≡ Ok version
   pub above : IsBelow policy.max_version version
@@ -48,7 +48,7 @@ HasFault policy None missing = policy.on_missing ≡ None
 HasFault policy (Some value) not_ascii = ¬ IsVisibleAscii value.bytes
 HasFault policy (Some value) not_a_version =
     IsVisibleAscii value.bytes × ((version : Parts) → version_parts value.bytes ≢ Ok version)
-HasFault policy (Some value) (not_served version) = AsksTooMuch policy value version
+HasFault policy (Some value) (not_served version) = AsksForUnserved policy value version
 HasFault policy value fault = ⊥
 
 -- what the client is told of the value of a header, in UTF-8
@@ -78,7 +78,7 @@ pub record AnswersFault (policy : HeaderPolicy) (first : Option FieldValue) (err
 
 -- the version that header lines ask for
 abbrev pub Extracts : HeaderPolicy → List Line → Parts → Type 0
-Extracts policy lines version = Gives policy (first_of policy.name lines) version
+Extracts policy lines version = HasVersion policy (first_of policy.name lines) version
 
 -- the error that header lines are refused with
 abbrev pub Refuses : HeaderPolicy → List Line → HttpError → Type 0

@@ -18,10 +18,10 @@ Holds (from_until earliest end) version =
     IsAtLeast version earliest × (IsBelow version end ⊎ ((version ≡ end) × (end ≡ earliest)))
 Holds (until end) version = IsBelow version end
 
--- a range takes a request of this version; one of no version is taken by every range
-abbrev pub Takes : VersionRange → Option Parts → Type 0
-Takes range None = ⊤
-Takes range (Some version) = Holds range version
+-- a range is one that a request of this version asks for; every range is where it asks for none
+abbrev pub Matches : VersionRange → Option Parts → Type 0
+Matches range None = ⊤
+Matches range (Some version) = Holds range version
 
 -- the least version of a range, unless it goes down without an end
 abbrev pub lower_bound : VersionRange → Option Parts

@@ -9,7 +9,7 @@ ghost use Rattle.header_lists.specs.HeaderLists.{first_of};
 ghost use Rattle.http_status.specs.Errors.{bad_request};
 ghost use Rattle.http_status.specs.declared.error.HttpError.{HttpError as ErrorValue};
 ghost use Rattle.api_versions.specs.Order.{IsAtLeast};
-ghost use Rattle.api_versions.specs.HeaderVersions.{AnswersFault, Extracts, Gives, HasFault};
+ghost use Rattle.api_versions.specs.HeaderVersions.{AnswersFault, Extracts, HasFault, HasVersion};
 ghost use Rattle.api_versions.specs.HeaderVersions.{Refuses, VersionFault, bad_value_message};
 ghost use Rattle.api_versions.specs.HeaderVersions.{fault_error, missing, not_served_message};
 
@@ -139,7 +139,7 @@ impl ClientSpecifiesVersionInHeader {
     // The version of a value.
     fn version_in(&self, alloc: Global, value: &HeaderValue) -> Result<Version, HttpRefusal>
         ensures version { IfOk result (λ version.
-            Gives self.now (Some value.now) (parts_of version)) }
+            HasVersion self.now (Some value.now) (parts_of version)) }
         ensures refused { (error : ErrorValue) → result ≡ Err (HttpRefusal.Http error)
             → AnswersFault self.now (Some value.now) error }
     {
@@ -161,7 +161,7 @@ impl ClientSpecifiesVersionInHeader {
 
     // The version of a request without the header.
     fn version_without(&self, alloc: Global) -> Result<Version, HttpRefusal>
-        ensures version { IfOk result (λ version. Gives self.now None (parts_of version)) }
+        ensures version { IfOk result (λ version. HasVersion self.now None (parts_of version)) }
         ensures refused { (error : ErrorValue) → result ≡ Err (HttpRefusal.Http error)
             → AnswersFault self.now None error }
     {

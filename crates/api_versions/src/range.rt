@@ -4,7 +4,7 @@ ghost use Rattle.std.specs.Prelude.{IfErr, IfOk, IfSome, IsErr, IsTrue};
 ghost use Rattle.semver.specs.Identifiers.{parts_of};
 ghost use Rattle.api_versions.specs.Order.{IsBelow};
 ghost use Rattle.api_versions.specs.Overlaps.{IsDisjoint, Overlaps};
-ghost use Rattle.api_versions.specs.Ranges.{Holds, Takes, from_until, lower_bound};
+ghost use Rattle.api_versions.specs.Ranges.{Holds, Matches, from_until, lower_bound};
 ghost use Rattle.api_versions.specs.Shown.{earliest_of, range_of, until_of};
 
 use crate::pair::OrderedVersionPair;
@@ -67,7 +67,7 @@ impl ApiEndpointVersions {
 
     /// Whether the range holds a version. Where no version is asked for, every range is taken.
     pub fn matches(&self, version: Option<&Version>) -> bool
-        ensures { IsTrue result ↔ Takes (range_of self.now)
+        ensures { IsTrue result ↔ Matches (range_of self.now)
             (option_map (λ v. parts_of v.now) version.entry) }
     {
         match version {
