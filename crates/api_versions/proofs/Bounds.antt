@@ -4,7 +4,7 @@ use Rattle.std.proofs.Common.{sym, ◌∙◌, subst, inl, inr}
 use Rattle.std.proofs.lemmas.Bool.{cases_Bool, true_from_ne_false, true≢false}
 use Rattle.semver.specs.Parse.{Parts}
 use Rattle.api_versions.specs.Order.{IsAtLeast, IsBelow, is_below}
-use Rattle.api_versions.specs.Overlaps.{HasNoLowerBound, IsDisjoint, Overlaps, SharesVersion}
+use Rattle.api_versions.specs.Overlaps.{HasNoLowerBound, Overlaps, SharesVersion}
 use Rattle.api_versions.specs.Ranges.{Holds, VersionRange, all, from, from_until, until, lower_bound}
 use Rattle.api_versions.proofs.Orders.{at_least-same, at_least_itself, at_least_on, below-at_least}
 
@@ -71,10 +71,6 @@ turned left right overlap = elim overlap [
   | inl shared ↦ inl (shares_back left right shared)
   | inr unbounded ↦ inr (unbounded.1, unbounded.0)
 ]
-
-pub apart : (left right : VersionRange) → ¬ Overlaps left right → IsDisjoint left right
-apart left right none version held also =
-    none (inl (record { version = version; in_left = held; in_right = also }))
 
 -- where one range alone has a lower bound, they overlap where the other holds it
 pub one_bound : (left right : VersionRange) (bound : Parts) → lower_bound left ≡ Some bound
