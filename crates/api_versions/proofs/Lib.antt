@@ -1,0 +1,5 @@
+pub mod Orders
+pub mod Bounds
+pub mod Pairs
+pub mod Equal
+pub mod HeaderAnswers
