@@ -3,9 +3,9 @@
 //!
 //! BYTES is a text, which stands for its UTF-8, or the list of the bytes. VALUE is a text, or the
 //! list of the components that are left of the path.
-use case_notation::{CaseError, entry_of, items_of, number_of, text_of};
+use case_notation::{CaseError, entry_of, items_of, number_of, text_of, variable_of};
 use openapi_values::{HeaderLine, WireRequest};
-use schema_values::{Json, List, Member, Text, VariableSet, VariableValue};
+use schema_values::{Json, List, Member, Text, VariableSet};
 use std::alloc::Global;
 use std::collections::BTreeMap;
 
@@ -85,20 +85,4 @@ fn variables_in(alloc: Global, members: &[Member]) -> Result<VariableSet, CaseEr
         variables.insert(name, variable_of(alloc, value)?)?;
     }
     Ok(variables)
-}
-
-fn variable_of(alloc: Global, noted: &Json) -> Result<VariableValue, CaseError> {
-    match noted {
-        Json::Text(text) => Ok(VariableValue::String(text.copy(alloc)?)),
-        noted => Ok(VariableValue::Components(texts_of(alloc, noted)?)),
-    }
-}
-
-/// The texts in a list.
-pub fn texts_of(alloc: Global, noted: &Json) -> Result<List<Text>, CaseError> {
-    let mut texts = List::new(alloc);
-    for text in items_of(noted)? {
-        texts.push(text_of(text)?.copy(alloc)?)?;
-    }
-    Ok(texts)
 }

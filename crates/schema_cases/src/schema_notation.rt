@@ -4,8 +4,7 @@
 //! stands twice, a list of objects stands for one object of all their members:
 //! `[{"b": true}, {"a": true}]`. Subschemas of no kind are noted as `{"subschemas": {}}`. A member
 //! of another name than a schema's parts is an extension.
-use crate::request_notation::texts_of;
-use case_notation::{CaseError, given, items_of, number_of, text_of, truth_of, word};
+use case_notation::{CaseError, given, items_of, number_of, text_of, texts_of, truth_of, word};
 use schema_values::{
     ArrayParts, Boxed, Definitions, InstanceType, InstanceTypes, Items, Json, LengthBounds, List,
     Member, NumberBounds, ObjectParts, Property, Schema, SchemaObject, Subschemas, Text,

@@ -1,8 +1,8 @@
 //! Calls that write schemas, and what schemas admit.
 ghost use Rattle.typed_values.specs.Checks.{TablePasses};
 
-use crate::case::{checked_table, noted_desc, value_of};
-use case_notation::{CaseError, form, given, text_of};
+use crate::case::value_of;
+use case_notation::{CaseError, checked_table, form, given, noted_desc, text_of};
 use openapi_values::{J2oasError, j2oas_schema, json_admits};
 use schema_values::{Json, List, Member, Schema, Text};
 use std::alloc::{AllocError, Global};

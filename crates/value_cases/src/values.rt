@@ -1,9 +1,11 @@
 //! Calls that decode and encode values.
 ghost use Rattle.typed_values.specs.Checks.{TablePasses, DescPasses};
 
-use crate::case::{Scope, checked_table, noted_desc, scope_of, value_of};
+use crate::case::value_of;
 use crate::refusals::told;
-use case_notation::{CaseError, form, given, tree_noted, tree_of, word};
+use case_notation::{
+    CaseError, Scope, checked_table, form, given, noted_desc, scope_of, tree_noted, tree_of, word,
+};
 use schema_values::Json;
 use std::alloc::Global;
 use typed_values::{
