@@ -91,7 +91,7 @@ impl FrameSource for SafeFrames {
     ghost state = { λ s. safe s };
 
     /// It takes no memory, and the same time for each frame.
-    fn next_frame(&mut self, alloc: Global) -> Result<Option<Frame>, FrameError>
+    fn next_frame(&mut self, _alloc: Global) -> Result<Option<Frame>, FrameError>
         ensures gives { IfOk result (λ given.
             Gives (safe self.old).left given (safe self.new).left) }
         ensures kept { OnErr result ((safe self.new).left ≡ (safe self.old).left) }
@@ -102,7 +102,6 @@ impl FrameSource for SafeFrames {
         ensures goes_on { GoesOn (safe self.old) (safe self.new) }
         ensures always { IsOk result }
     {
-        let _ = alloc;
         Ok(self.frames.next())
     }
 }
@@ -112,7 +111,7 @@ impl FrameSource for MemoryFrames {
 
     /// It takes no memory, and the same time for each frame, but for the search among the numbers
     /// of the calls that fail.
-    fn next_frame(&mut self, alloc: Global) -> Result<Option<Frame>, FrameError>
+    fn next_frame(&mut self, _alloc: Global) -> Result<Option<Frame>, FrameError>
         ensures gives { IfOk result (λ given.
             Gives (shown self.old).left given (shown self.new).left) }
         ensures kept { OnErr result ((shown self.new).left ≡ (shown self.old).left) }
@@ -127,7 +126,6 @@ impl FrameSource for MemoryFrames {
         ensures fault { OnErr result (IsErrOf result FrameError.Failed) }
         ensures after { self.new ≡ after_call self.old self.new.frames }
     {
-        let _ = alloc;
         if is_failing(self.failing.as_slice(), &mut self.calls) {
             self.faults = self.faults.saturating_add(1);
             return Err(FrameError::Failed);
