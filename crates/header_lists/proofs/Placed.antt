@@ -3,9 +3,9 @@ use Rattle.std.proofs.Common.{◌≡◌, ℕ, ◌+◌, ◌<◌, ◌≤◌, Bool,
 use Rattle.std.specs.List.{insert, position, position_from}
 use Rattle.std.proofs.lemmas.Bool.{cases_Bool, cond-true, cond-false}
 use Rattle.std.proofs.lemmas.Iterator.Adapters.{position_from-zero}
+use Rattle.std.proofs.lemmas.List.Filters.{length-filter_both}
 use Rattle.http_header.specs.FieldValue.{FieldValue}
 use Rattle.header_lists.specs.HeaderLists.{Line, inserted, is_line_of, without}
-use Rattle.header_lists.proofs.Filters.{length-filter_at_most}
 
 -- the line stands at this place among those that stay, of which there are fewer
 pub record IsPlaced (name : List ℕ) (value : FieldValue) (lines : List Line) (place : ℕ) : Type 0 where
@@ -23,7 +23,7 @@ module _ (name : List ℕ) (value : FieldValue) where
       record {
         placed = cond-true (is_line_of name line) ((name, value) ∷ without name lines) (line ∷ inserted name value lines) here ∙ ap (λ (ls : List Line). (name, value) ∷ ls) (sym gone);
         within = omega arith;
-        fewer = omega (arith, ap length gone, length-filter_at_most (λ line. not (is_line_of name line)) lines);
+        fewer = omega (arith, ap length gone, length-filter_both (is_line_of name) (λ line. not (is_line_of name line)) (λ _. refl) lines);
       }
 
   later_placed : (line : Line) (lines : List Line) (place : ℕ) → is_line_of name line ≡ false → IsPlaced name value lines place → IsPlaced name value (line ∷ lines) (suc place)

@@ -4,6 +4,7 @@ use Rattle.std.specs.Prelude.{slice_get, if◌then◌else◌}
 use Rattle.std.specs.declared.option.Option.{Option}
 use Rattle.std.specs.List.{list_any}
 use Rattle.std.proofs.lemmas.Bool.{cases_Bool, cond-true, cond-false, false_from_ne_true}
+use Rattle.std.proofs.lemmas.List.{map-append}
 use Rattle.std.proofs.lemmas.List.Elements.{filter-append}
 use Rattle.std.proofs.lemmas.Slice.Eq.{bytes_eq-Decides}
 use Rattle.http_header.specs.FieldValue.{FieldValue}
@@ -29,10 +30,6 @@ line_of_one name other line apart here =
 values-same : (name other : List ℕ) (lines : List Line) → is_same_name name other ≡ true → values_of other lines ≡ values_of name lines
 values-same name other lines same =
     ap (λ (lowered : List ℕ). map (λ line. line.1) (filter (λ line. bytes_eq (lowercase line.0) lowered) lines)) (sym (same_lowered name other same))
-
-map-append : {X Y : Type 0} (f : X → Y) (xs ys : List X) → map f (xs ++ ys) ≡ map f xs ++ map f ys
-map-append f [] ys = refl
-map-append {Y = Y} f (x ∷ xs) ys = ap (λ (zs : List Y). f x ∷ zs) (map-append f xs ys)
 
 pub values-append : (name : List ℕ) (lines more : List Line) → values_of name (lines ++ more) ≡ values_of name lines ++ values_of name more
 values-append name lines more =
