@@ -12,7 +12,8 @@ module _ {X : Type 0} (p q : X → Bool) where
             ap (filter p) (cond-true (q x) (x ∷ filter q xs) (filter q xs) holds)
             ∙ elim (cases_Bool (p x)) [
               | inl both ↦ absurd (cc (holds, apart x both))
-              | inr other ↦ cond-false (p x) (x ∷ filter p (filter q xs)) (filter p (filter q xs)) other ∙ filter-none apart xs
+              | inr other ↦
+                  cond-false (p x) (x ∷ filter p (filter q xs)) (filter p (filter q xs)) other ∙ filter-none apart xs
             ]
         | inr fails ↦ ap (filter p) (cond-false (q x) (x ∷ filter q xs) (filter q xs) fails) ∙ filter-none apart xs
       ]
