@@ -1,7 +1,7 @@
 //! Bodies of frames in memory.
-ghost use Rattle.std.specs.Prelude.{◌≡◌, [], IfOk, IsErrOf, OnErr, is_err, option_to_list};
-ghost use Rattle.http_bodies.specs.Bodies.{after_body_call, failing, fails_next, frames_of};
-ghost use Rattle.http_bodies.specs.Bodies.{never_failing, state_of};
+ghost use Rattle.std.specs.Prelude.{◌≡◌, [], Some, IfOk, IsErrOf, OnErr, is_err, option_to_list};
+ghost use Rattle.http_bodies.specs.Bodies.{after_body_call, failing, fails_next, faults_of};
+ghost use Rattle.http_bodies.specs.Bodies.{frames_of, never_failing, state_of};
 ghost use Rattle.http_bodies.specs.Frames.{content_frames};
 ghost use Rattle.http_bodies.specs.Sources.{GivesFrame, GoesOn, HasFailed};
 
@@ -82,19 +82,19 @@ impl Body {
     /// the search of `MemoryFrames` for the calls that fail.
     pub fn next_frame(&mut self, alloc: Global) -> Result<Option<Frame>, FrameError>
         ensures gives { IfOk result (λ given.
-            GivesFrame (state_of self.old).left given (state_of self.new).left) }
-        ensures kept { OnErr result ((state_of self.new).left ≡ (state_of self.old).left) }
+            GivesFrame (Some (frames_of self.old)) given (Some (frames_of self.new))) }
+        ensures kept { OnErr result (frames_of self.new ≡ frames_of self.old) }
 
         // A fault comes only where the count of faults rose, and a count that rose is told as that
         // fault.
         ensures failed { IsErrOf result FrameError.Failed
             → HasFailed (state_of self.old) (state_of self.new) }
         ensures counts { ¬ IsErrOf result FrameError.Failed
-            → (state_of self.new).faults ≡ (state_of self.old).faults }
+            → faults_of self.new ≡ faults_of self.old }
         ensures goes_on { GoesOn (state_of self.old) (state_of self.new) }
 
         // It fails at the calls that its frames were told and at no other, so that a body without
-        // such calls never fails. Nothing else changes but calls and faults.
+        // such calls never fails. Beside the frames only the counts of calls and faults change.
         ensures exactly { is_err result ≡ fails_next self.old }
         ensures fault { OnErr result (IsErrOf result FrameError.Failed) }
         ensures after { self.new ≡ after_body_call self.old (frames_of self.new) }

@@ -1,5 +1,5 @@
 //! Frames in memory: with a list of calls that fail, or with none.
-ghost use Rattle.std.specs.Prelude.{◌≡◌, IfOk, IsErrOf, IsOk, OnErr, is_err};
+ghost use Rattle.std.specs.Prelude.{◌≡◌, Some, IfOk, IsErrOf, IsOk, OnErr, is_err};
 ghost use Rattle.http_bodies.specs.Bodies.{failing, never_failing, state_of};
 ghost use Rattle.http_bodies.specs.Memory.{after_frame_call, fresh_frames, is_failing, one_more};
 ghost use Rattle.http_bodies.specs.Sources.{GivesFrame, GoesOn, HasFailed};
@@ -125,18 +125,7 @@ impl FrameSource for SafeFrames {
 
     /// It takes no memory, and the same time for each frame.
     fn next_frame(&mut self, _alloc: Global) -> Result<Option<Frame>, FrameError>
-        ensures gives { IfOk result (λ given.
-            GivesFrame (state_of (never_failing self.old)).left given
-            (state_of (never_failing self.new)).left) }
-        ensures kept { OnErr result ((state_of (never_failing self.new)).left
-            ≡ (state_of (never_failing self.old)).left) }
-        ensures failed { IsErrOf result FrameError.Failed
-            → HasFailed (state_of (never_failing self.old)) (state_of (never_failing self.new)) }
-        ensures counts { ¬ IsErrOf result FrameError.Failed
-            → (state_of (never_failing self.new)).faults
-            ≡ (state_of (never_failing self.old)).faults }
-        ensures goes_on { GoesOn (state_of (never_failing self.old))
-            (state_of (never_failing self.new)) }
+        ensures gives { IfOk result (λ given. GivesFrame (Some self.old) given (Some self.new)) }
         ensures always { IsOk result }
     {
         Ok(self.frames.pop_front())
@@ -150,14 +139,11 @@ impl FrameSource for MemoryFrames {
     /// of the calls that fail.
     fn next_frame(&mut self, _alloc: Global) -> Result<Option<Frame>, FrameError>
         ensures gives { IfOk result (λ given.
-            GivesFrame (state_of (failing self.old)).left given
-            (state_of (failing self.new)).left) }
-        ensures kept { OnErr result ((state_of (failing self.new)).left
-            ≡ (state_of (failing self.old)).left) }
+            GivesFrame (Some self.old.frames) given (Some self.new.frames)) }
+        ensures kept { OnErr result (self.new.frames ≡ self.old.frames) }
         ensures failed { IsErrOf result FrameError.Failed
             → HasFailed (state_of (failing self.old)) (state_of (failing self.new)) }
-        ensures counts { ¬ IsErrOf result FrameError.Failed
-            → (state_of (failing self.new)).faults ≡ (state_of (failing self.old)).faults }
+        ensures counts { ¬ IsErrOf result FrameError.Failed → self.new.faults ≡ self.old.faults }
         ensures goes_on { GoesOn (state_of (failing self.old)) (state_of (failing self.new)) }
 
         // It fails at these calls and at no other, and the count rises by each.
