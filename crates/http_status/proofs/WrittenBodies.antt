@@ -41,7 +41,7 @@ module _ (table : List Definition) (is_table : IsTableOf (error_definition ∷ [
 
   text_written : (text : List ℕ) → written_under table error_desc (trees.Text text) any_text ≡ Words text
   text_written text =
-      written_scalar table error_desc (trees.Text text) any_text text_rests (inr (inr (inr (None, (None, (None, refl))))))
+      written_scalar table error_desc (trees.Text text) any_text text_rests (inr (inr (inr (None, None, None, refl))))
       ∙ ap scalar_written (trees.outs-Text text)
 
   abbrev written : Tree → Desc → Json
