@@ -4,7 +4,7 @@ ghost use Rattle.http_status.specs.Errors.{bad_request, client_error, client_err
 ghost use Rattle.http_status.specs.Errors.{internal_error, not_found, unavailable};
 
 use header_lists::HeaderList;
-use schema_values::Text;
+use schema_values::{Text, copy_text};
 use status_codes::{ClientErrorStatusCode, ErrorStatusCode};
 use std::alloc::{AllocError, Global};
 use std::fmt;
@@ -161,21 +161,11 @@ impl HttpError {
     {
         Ok(HttpError {
             status_code: self.status_code,
-            error_code: copy_code(alloc, &self.error_code)?,
+            error_code: copy_text(alloc, &self.error_code)?,
             external_message: self.external_message.copy(alloc)?,
             internal_message: self.internal_message.copy(alloc)?,
             headers: copy_lines(alloc, &self.headers)?,
         })
-    }
-}
-
-/// A code equal to this one, where there is one.
-pub(crate) fn copy_code(alloc: Global, code: &Option<Text>) -> Result<Option<Text>, AllocError>
-    ensures { IfOk result (λ copy. copy ≡ code.now) }
-{
-    match code {
-        Some(code) => Ok(Some(code.copy(alloc)?)),
-        None => Ok(None),
     }
 }
 

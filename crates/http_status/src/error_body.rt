@@ -6,9 +6,8 @@ ghost use Rattle.schema_values.specs.Member.{member};
 ghost use Rattle.api_types.specs.Heads.{described_struct, required, skipped, struct_of};
 ghost use Rattle.http_status.specs.ErrorBodies.{code_members, error_body_json, error_definition};
 
-use crate::error::copy_code;
 use api_types::{ApiStruct, ApiType, Skipped, StructHead, definition_of};
-use schema_values::{Json, List, Member, Text};
+use schema_values::{Json, List, Member, Text, copy_text};
 use std::alloc::{AllocError, Global};
 use typed_values::{Definition, Tree};
 
@@ -47,7 +46,7 @@ impl HttpErrorResponseBody {
     {
         Ok(HttpErrorResponseBody {
             request_id: self.request_id.copy(alloc)?,
-            error_code: copy_code(alloc, &self.error_code)?,
+            error_code: copy_text(alloc, &self.error_code)?,
             message: self.message.copy(alloc)?,
         })
     }
