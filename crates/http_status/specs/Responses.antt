@@ -10,7 +10,8 @@ use Rattle.header_lists.specs.HeaderLists.{Line}
 use Rattle.http_bodies.specs.Frames.{SourceState}
 use Rattle.http_bodies.specs.Memory.{safe}
 use Rattle.http_bodies.specs.declared.frame.Frame.TheVariants.{Bytes}
-use Rattle.http_status.specs.ErrorBodies.{error_body, error_body_json, error_body_tree, error_definition, error_desc}
+use Rattle.http_status.specs.ErrorBodies.{error_body, error_body_json, error_body_tree}
+use Rattle.http_status.specs.ErrorBodies.{error_definition, error_desc}
 use Rattle.http_status.specs.ErrorLines.{header_line}
 use Rattle.http_status.specs.declared.error.HttpError.{HttpError}
 use Rattle.http_status.specs.declared.error_body.HttpErrorResponseBody.{HttpErrorResponseBody}

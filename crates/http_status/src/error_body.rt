@@ -23,8 +23,8 @@ pub struct HttpErrorResponseBody {
 }
 
 impl HttpErrorResponseBody {
-    /// The body as JSON: its fields in order, without the code where there is none. Fails only for want of
-    /// memory.
+    /// The body as JSON: its fields in order, without the code where there is none. Fails only for
+    /// want of memory.
     pub fn to_json(self, alloc: Global) -> Result<Json, AllocError>
         ensures { IfOk result (λ json. json ≡ error_body_json self) }
     {
@@ -61,7 +61,8 @@ impl ApiStruct for HttpErrorResponseBody {
         (struct_of (required (codes "request_id") ∷ skipped (codes "error_code")
         ∷ required (codes "message") ∷ [])) };
 
-    ghost fields_of = { λ body. (body.request_id, (record { value = body.error_code }, (body.message, tt))) };
+    ghost fields_of = { λ body.
+        (body.request_id, (record { value = body.error_code }, (body.message, tt))) };
 
     fn name() -> &'static str {
         "Error"
@@ -135,8 +136,8 @@ fn push_text(
     })
 }
 
-/// The definition of the body of errors: the request's id, a code where there is one, and a message. Fails
-/// only for want of memory.
+/// The definition of the body of errors: the request's id, a code where there is one, and a
+/// message. Fails only for want of memory.
 pub fn error_definition(alloc: Global) -> Result<Definition, AllocError>
     ensures { IfOk result (λ definition. definition ≡ error_definition) }
 {

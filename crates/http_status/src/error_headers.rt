@@ -52,8 +52,8 @@ impl From<AllocError> for HeaderError {
 }
 
 impl HttpError {
-    /// The error's own lines, as a list that is made empty where there was none. What is written through it
-    /// is what the error has.
+    /// The error's own lines, as a list that is made empty where there was none. What is written
+    /// through it is what the error has.
     pub fn headers_mut(&mut self, alloc: Global) -> &mut HeaderList
         ensures lines { result.now ≡ own_lines self.old }
         ensures* writes_back { sem 𝓛 (LendsLines self.entry result) }
@@ -61,9 +61,9 @@ impl HttpError {
         self.headers.get_or_insert_with(|| HeaderList::new(alloc))
     }
 
-    /// Puts a line behind the error's own, with its name in lower case. `BadName` exactly where the name is no
-    /// name of a header field, `BadValue` exactly where the name is one and the value is none of a header
-    /// field. After any refusal, and for want of memory, the error is as it was.
+    /// Puts a line behind the error's own, with its name in lower case. `BadName` exactly where the
+    /// name is no name of a header field, `BadValue` exactly where the name is one and the value is
+    /// none of a header field. After any refusal, and for want of memory, the error is as it was.
     pub fn append_header(
         &mut self,
         alloc: Global,
@@ -88,8 +88,8 @@ impl HttpError {
         Ok(())
     }
 
-    /// Puts a line behind the error's own, and gives the error back. It is refused as by `append_header`, which
-    /// leaves the error as it was.
+    /// Puts a line behind the error's own, and gives the error back. It is refused as by
+    /// `append_header`, which leaves the error as it was.
     pub fn add_header(
         &mut self,
         alloc: Global,

@@ -1,5 +1,5 @@
-//! Errors that are answered and their responses, and the ids of requests. Status codes, header lists and
-//! bodies are passed on.
+//! Errors that are answered and their responses, and the ids of requests. Status codes, header
+//! lists and bodies are passed on.
 #![tactic(auto)]
 
 mod constants;

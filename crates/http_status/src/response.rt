@@ -24,9 +24,9 @@ pub struct Response {
 }
 
 impl HttpError {
-    /// The response of the error to the request of an id: the error's own header lines, the type of the body,
-    /// the id, and as the body the id, the code and the message for the client, in pretty JSON (RFC 8259).
-    /// The message for the log stays out. Fails only for want of memory.
+    /// The response of the error to the request of an id: the error's own header lines, the type of
+    /// the body, the id, and as the body the id, the code and the message for the client, in pretty
+    /// JSON (RFC 8259). The message for the log stays out. Fails only for want of memory.
     pub fn into_response(
         self,
         alloc: Global,
