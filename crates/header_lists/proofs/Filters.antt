@@ -1,5 +1,5 @@
 -- Lists that are filtered twice.
-use Rattle.std.proofs.Common.{◌≡◌, ◌≤◌, Bool, true, false, cond, List, [], ◌∷◌, length, filter, refl, sym, ap, ◌∙◌, arith, inl, inr}
+use Rattle.std.proofs.Common.{◌≡◌, Bool, true, false, List, [], ◌∷◌, filter, refl, sym, ap, ◌∙◌, inl, inr}
 use Rattle.std.proofs.lemmas.Bool.{cases_Bool, cond-true, cond-false}
 
 module _ {X : Type 0} (p q : X → Bool) where
@@ -12,7 +12,8 @@ module _ {X : Type 0} (p q : X → Bool) where
             ap (filter p) (cond-true (q x) (x ∷ filter q xs) (filter q xs) holds)
             ∙ elim (cases_Bool (p x)) [
               | inl both ↦ absurd (cc (holds, apart x both))
-              | inr other ↦ cond-false (p x) (x ∷ filter p (filter q xs)) (filter p (filter q xs)) other ∙ filter-none apart xs
+              | inr other ↦
+                  cond-false (p x) (x ∷ filter p (filter q xs)) (filter p (filter q xs)) other ∙ filter-none apart xs
             ]
         | inr fails ↦ ap (filter p) (cond-false (q x) (x ∷ filter q xs) (filter q xs) fails) ∙ filter-none apart xs
       ]
@@ -37,11 +38,3 @@ module _ {X : Type 0} (p q : X → Bool) where
             ]
             ∙ sym (cond-false (p x) (x ∷ filter p xs) (filter p xs) fails)
       ]
-
-pub length-filter_at_most : {X : Type 0} (p : X → Bool) (xs : List X) → length (filter p xs) ≤ length xs
-length-filter_at_most p [] = omega arith
-length-filter_at_most p (x ∷ xs) = by_test (p x) (length-filter_at_most p xs)
-  where
-    by_test : (b : Bool) → length (filter p xs) ≤ length xs → length (cond b (x ∷ filter p xs) (filter p xs)) ≤ length (x ∷ xs)
-    by_test true rest = omega (arith, rest)
-    by_test false rest = omega (arith, rest)

@@ -43,6 +43,6 @@ inserted name value [] = (name, value) ∷ []
 inserted name value (line ∷ lines) =
     if is_line_of name line then (name, value) ∷ without name lines else line ∷ inserted name value lines
 
--- the lines whose names no other line has, and behind them the others
+-- the lines whose names none of the added lines has, and behind them the added ones
 abbrev pub extended : List Line → List Line → List Line
-extended lines others = filter (λ line. not (has_line line.0 others)) lines ++ others
+extended lines added = filter (λ line. not (has_line line.0 added)) lines ++ added

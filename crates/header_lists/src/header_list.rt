@@ -1,6 +1,6 @@
 //! Header lines in order.
-ghost use Rattle.std.specs.Prelude.{◌≡◌, [], ◌∷◌, ◌++◌, IfOk, OnOk, OnErr};
-ghost use Rattle.std.specs.List.{list_any, position};
+ghost use Rattle.std.specs.Prelude.{◌≡◌, [], ◌∷◌, ◌++◌, IfOk, IsOk, IsTrue, OnOk, OnErr};
+ghost use Rattle.std.specs.List.{position};
 ghost use Rattle.std.specs.Option.{option_copied};
 ghost use Rattle.std.specs.Vec.{vec_capacity};
 ghost use Rattle.header_lists.specs.HeaderLists.{extended, first_of, has_line, inserted};
@@ -52,10 +52,12 @@ impl HeaderList {
     }
 
     /// Puts a line in the place of the first one of its name, and drops the further ones; or adds
-    /// it behind the others, where there is none of its name. Fails only for want of memory.
+    /// it behind the others, where there is none of its name. Fails only for want of memory, which
+    /// it takes only where there is none of its name.
     pub fn insert(&mut self, name: HeaderName, value: HeaderValue) -> Result<(), AllocError>
         ensures ok { OnOk result (self.new ≡ inserted name value self.old) }
         ensures err { OnErr result (self.new ≡ self.old) }
+        ensures replaces { IsTrue (has_line name self.old) → IsOk result }
     {
         let Some(place) = place_of(self.lines.as_slice(), &name) else {
             return self.append(name, value);
@@ -117,7 +119,7 @@ impl HeaderList {
     pub fn copy(&self, alloc: Global) -> Result<HeaderList, AllocError>
         ensures { IfOk result (λ copy. copy ≡ self.now) }
     {
-        let mut lines = Vec::new(alloc);
+        let mut lines = Vec::with_capacity(alloc, self.lines.len())?;
         for line in &self.lines {
             lines.push((line.0.clone()?, line.1.clone()?))?;
         }

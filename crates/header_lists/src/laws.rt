@@ -43,13 +43,13 @@ pub fn append_adds_a_value()
 /// After `extend` a name of a line that was added has the values of those lines alone. Every other
 /// name has the values that it had.
 pub fn extend_replaces_values()
-    ensures values { (name : List ℕ) (lines others : List Line)
-        → values_of name (extended lines others)
-        ≡ (if has_line name others then values_of name others else values_of name lines) }
-    ensures first { (name : List ℕ) (lines others : List Line)
-        → first_of name (extended lines others)
-        ≡ (if has_line name others then first_of name others else first_of name lines) }
-    ensures last { (name : List ℕ) (lines others : List Line)
-        → last_of name (extended lines others)
-        ≡ (if has_line name others then last_of name others else last_of name lines) }
+    ensures values { (name : List ℕ) (lines added : List Line)
+        → values_of name (extended lines added)
+        ≡ (if has_line name added then values_of name added else values_of name lines) }
+    ensures first { (name : List ℕ) (lines added : List Line)
+        → first_of name (extended lines added)
+        ≡ (if has_line name added then first_of name added else first_of name lines) }
+    ensures last { (name : List ℕ) (lines added : List Line)
+        → last_of name (extended lines added)
+        ≡ (if has_line name added then last_of name added else last_of name lines) }
 {}

@@ -1,4 +1,4 @@
--- Frames of a body, and what a body is seen as (RFC 9110, sections 6.4 and 6.5).
+-- Frames of a body (RFC 9110, sections 6.4 and 6.5), and what a source of them is seen as (of this library).
 use Rattle.std.specs.Prelude.{ℕ, Bool, List, [], ◌∷◌, Option}
 use Rattle.std.specs.List.{flat_map}
 use Rattle.http_bodies.specs.declared.frame.Frame.{Frame}

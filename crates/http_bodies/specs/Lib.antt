@@ -3,3 +3,4 @@ pub mod Sources
 pub mod Memory
 pub mod Bodies
 pub mod Dumping
+pub mod Texts

@@ -1,8 +1,9 @@
 //! Bodies of frames in memory.
-ghost use Rattle.std.specs.Prelude.{◌≡◌, [], IfOk, IsErrOf, OnErr, option_to_list};
+ghost use Rattle.std.specs.Prelude.{◌≡◌, [], IfOk, IsErrOf, OnErr, is_err, option_to_list};
+ghost use Rattle.http_bodies.specs.Bodies.{after_body_call, failing, fails_next, frames_of};
+ghost use Rattle.http_bodies.specs.Bodies.{never_failing, state_of};
 ghost use Rattle.http_bodies.specs.Frames.{content_frames};
-ghost use Rattle.http_bodies.specs.Memory.{safe, shown};
-ghost use Rattle.http_bodies.specs.Sources.{Gives, GoesOn, HasFailed, IsSafe};
+ghost use Rattle.http_bodies.specs.Sources.{GivesFrame, GoesOn, HasFailed};
 
 use crate::frame::{Frame, FrameError, FrameSource};
 use crate::memory::{MemoryFrames, SafeFrames};
@@ -22,27 +23,26 @@ enum Held {
 
 /// A body: frames in memory, of which the first that is left is taken next (RFC 9110, section 6.4).
 ///
-/// Contracts see the frames that are left, how many calls failed, and whether a call can fail. It
-/// holds no box, so that a handler behind a box can take one and give one. A boxed source, or one
-/// of a user's own, is a `FrameSource` itself.
+/// Contracts see the frames that are left, and, where some of its calls fail, the numbers of those
+/// and how many calls and faults were counted. It holds no box, so that a handler behind a box can
+/// take one and give one. A boxed source, or one of a user's own, is a `FrameSource` itself.
 #[derive(Drop)]
 pub struct Body {
     held: Held,
 }
 
 impl Model for Body {
-    ghost use Rattle.http_bodies.specs.Frames.{SourceState};
-    ghost use Rattle.http_bodies.specs.Bodies.{state_of};
+    ghost use Rattle.http_bodies.specs.Bodies.{BodyState, held_body};
 
-    ghost Value = { SourceState };
+    ghost Value = { BodyState };
 
-    ghost view = { λ body. state_of body.held };
+    ghost view = { λ body. held_body body.held };
 }
 
 impl Body {
     /// A body without frames.
     pub fn empty() -> Body
-        ensures { result ≡ safe [] }
+        ensures { result ≡ never_failing [] }
     {
         Body {
             held: Held::Nothing,
@@ -51,7 +51,7 @@ impl Body {
 
     /// A body of one frame with this content, or of none where the content is empty.
     pub fn with_content(content: List<u8>) -> Body
-        ensures { result ≡ safe (content_frames content) }
+        ensures { result ≡ never_failing (content_frames content) }
     {
         Body {
             held: Held::Content(content),
@@ -60,16 +60,17 @@ impl Body {
 
     /// A body of these frames, whose calls never fail.
     pub fn with_frames(frames: SafeFrames) -> Body
-        ensures { result ≡ safe frames }
+        ensures { result ≡ never_failing frames }
     {
         Body {
             held: Held::Frames(frames),
         }
     }
 
-    /// A body of these frames, some of whose calls fail. It counts on from its source's faults.
+    /// A body of these frames, some of whose calls fail. It counts on from its source's calls and
+    /// faults.
     pub fn with_faults(frames: MemoryFrames) -> Body
-        ensures { result ≡ shown frames }
+        ensures { result ≡ failing frames }
     {
         Body {
             held: Held::Faulty(frames),
@@ -80,16 +81,23 @@ impl Body {
     /// an error nothing was taken. It takes no memory, and the same time for each frame, but for
     /// the search of `MemoryFrames` for the calls that fail.
     pub fn next_frame(&mut self, alloc: Global) -> Result<Option<Frame>, FrameError>
-        ensures gives { IfOk result (λ given. Gives self.old.left given self.new.left) }
-        ensures kept { OnErr result (self.new.left ≡ self.old.left) }
+        ensures gives { IfOk result (λ given.
+            GivesFrame (state_of self.old).left given (state_of self.new).left) }
+        ensures kept { OnErr result ((state_of self.new).left ≡ (state_of self.old).left) }
 
         // A fault comes only where the count of faults rose, and a count that rose is told as that
         // fault.
-        ensures failed { IsErrOf result FrameError.Failed → HasFailed self.old self.new }
-        ensures counts { ¬ IsErrOf result FrameError.Failed → self.new.faults ≡ self.old.faults }
-        ensures goes_on { GoesOn self.old self.new }
-        ensures constant { IsSafe self.old → self.new.faults ≡ self.old.faults }
-        ensures no_memory_needed { ¬ IsErrOf result FrameError.OutOfMemory }
+        ensures failed { IsErrOf result FrameError.Failed
+            → HasFailed (state_of self.old) (state_of self.new) }
+        ensures counts { ¬ IsErrOf result FrameError.Failed
+            → (state_of self.new).faults ≡ (state_of self.old).faults }
+        ensures goes_on { GoesOn (state_of self.old) (state_of self.new) }
+
+        // It fails at the calls that its frames were told and at no other, so that a body without
+        // such calls never fails. Nothing else changes but calls and faults.
+        ensures exactly { is_err result ≡ fails_next self.old }
+        ensures fault { OnErr result (IsErrOf result FrameError.Failed) }
+        ensures after { self.new ≡ after_body_call self.old (frames_of self.new) }
     {
         match &mut self.held {
             Held::Nothing => Ok(None),
@@ -113,7 +121,7 @@ fn content_frame(alloc: Global, content: &mut List<u8>) -> Option<Frame>
 }
 
 impl FrameSource for Body {
-    ghost state = { λ body. body };
+    ghost state = { state_of };
 
     fn next_frame(&mut self, alloc: Global) -> Result<Option<Frame>, FrameError> {
         Body::next_frame(self, alloc)

@@ -1,11 +1,13 @@
 //! Frames of a body, and what gives them in turn.
 ghost use Rattle.std.specs.Prelude.{◌≡◌, IfOk, IsErrOf, OnErr};
 ghost use Rattle.http_bodies.specs.Frames.{data_of};
-ghost use Rattle.http_bodies.specs.Sources.{Gives, GoesOn, HasFailed};
+ghost use Rattle.http_bodies.specs.Sources.{GivesFrame, GoesOn, HasFailed};
 
 use header_lists::HeaderList;
 use schema_values::List;
 use std::alloc::{AllocError, Global};
+use std::fmt;
+use thiserror::Error;
 
 /// A piece of a body: content, or header lines behind all content (RFC 9110, sections 6.4 and 6.5).
 #[derive(Drop)]
@@ -39,12 +41,27 @@ impl Frame {
 }
 
 /// Why no frame was given.
-#[derive(Clone, Copy, Debug, Drop, PartialEq, Eq)]
+#[derive(Clone, Copy, Debug, Drop, PartialEq, Eq, Error)]
 pub enum FrameError {
     /// The source failed.
     Failed,
     /// There was not enough memory.
     OutOfMemory,
+}
+
+/// Writes why no frame was given.
+impl fmt::Display for FrameError {
+    ghost use Rattle.std.specs.Prelude.{Some};
+    ghost use Rattle.http_bodies.specs.Texts.{frame_error_text};
+
+    ghost output = { λ error. Some (frame_error_text error) };
+
+    fn fmt<W: fmt::Write>(&self, f: &mut fmt::Formatter<W>) -> fmt::Result {
+        f.write_str(match self {
+            FrameError::Failed => "reading the body failed",
+            FrameError::OutOfMemory => "out of memory",
+        })
+    }
 }
 
 /// Gives frames in turn. A box of a `FrameSource` is one too.
@@ -59,7 +76,7 @@ pub trait FrameSource: Drop {
     /// an error nothing was taken.
     fn next_frame(&mut self, alloc: Global) -> Result<Option<Frame>, FrameError>
         ensures gives { IfOk result (λ given.
-            Gives (state self.old).left given (state self.new).left) }
+            GivesFrame (state self.old).left given (state self.new).left) }
         ensures kept { OnErr result ((state self.new).left ≡ (state self.old).left) }
 
         // A fault comes only where the count of faults rose, and a count that rose is told as that

@@ -7,8 +7,7 @@ use Rattle.descriptors.specs.declared.table.Definition.{Definition}
 use Rattle.typed_values.specs.Encoding.{json_of_tree}
 use Rattle.api_types.specs.Types.{IsTableOf}
 use Rattle.header_lists.specs.HeaderLists.{Line}
-use Rattle.http_bodies.specs.Frames.{SourceState}
-use Rattle.http_bodies.specs.Memory.{safe}
+use Rattle.http_bodies.specs.Bodies.{BodyState, never_failing}
 use Rattle.http_bodies.specs.declared.frame.Frame.TheVariants.{Bytes}
 use Rattle.http_status.specs.ErrorBodies.{error_body, error_body_json, error_body_tree}
 use Rattle.http_status.specs.ErrorBodies.{error_definition, error_desc}
@@ -30,8 +29,8 @@ abbrev pub lines_behind : Option (List Line) → List ℕ → List Line
 lines_behind own id = unwrap_or own [] ++ json_line ∷ id_line id ∷ []
 
 -- a body of one frame, which is JSON on lines of its own
-abbrev pub pretty_body : Json → SourceState
-pretty_body json = safe (Bytes (encode_utf8_all (pretty_of json)) ∷ [])
+abbrev pub pretty_body : Json → BodyState
+pretty_body json = never_failing (Bytes (encode_utf8_all (pretty_of json)) ∷ [])
 
 -- the error's status; its own lines and those behind them; what the client is told
 abbrev pub error_response : HttpError → List ℕ → Response
@@ -42,7 +41,7 @@ error_response error id = record {
 }
 
 -- the frames are the JSON of the body's tree, in each table that has its definition
-abbrev pub ShowsTree : HttpErrorResponseBody → SourceState → Type 0
+abbrev pub ShowsTree : HttpErrorResponseBody → BodyState → Type 0
 ShowsTree body frames =
     (table : List Definition) → IsTableOf (error_definition ∷ []) error_desc table
     → frames ≡ pretty_body (json_of_tree table error_desc (error_body_tree body))

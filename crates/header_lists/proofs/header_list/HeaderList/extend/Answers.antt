@@ -6,7 +6,8 @@ use Rattle.header_lists.proofs.header_list.HeaderList.extend.Goals as goal
 pub returns-clause-ok : goal.returns-clause-ok
 returns-clause-ok c =
     let more = c.other.inside.lines.items in
-    let kept = filter_same _ (λ line. not (has_line line.0 more)) _ (λ x b q r. search rules) _ _ c.retain.ensures.filtered in
+    let kept =
+    filter_same _ (λ line. not (has_line line.0 more)) _ (λ x b q r. search rules) _ _ c.retain.ensures.filtered in
     c.in_ok-append.ensures.items
     ∙ ap (λ (ls : List Line). ls ++ more) kept
     ∙ ap (λ (ls : List Line). extended ls more) (c.in_ok-reserve.ensures.items ∙ c.self.view_is)
