@@ -1,2 +1,3 @@
+mod OneFrame
 mod Phrases
 mod WrittenBodies

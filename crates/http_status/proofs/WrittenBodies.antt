@@ -1,22 +1,21 @@
 -- The JSON of an error's body is that of its tree.
-use Rattle.std.proofs.Common.{◌≡◌, ℕ, false, List, [], ◌∷◌, ◌++◌, Option, Some, None, option_map, refl, sym, ap, ap₂, ◌∙◌, inr}
-use Rattle.std.specs.Prelude.{Contains, codes}
+use Rattle.std.proofs.Common.{◌≡◌, ℕ, false, List, [], ◌∷◌, ◌++◌, Option, Some, None, option_map, refl, ap, ap₂, ◌∙◌, inr}
+use Rattle.std.specs.Prelude.{codes}
 use Rattle.schema_values.specs.Member.{member}
 use Rattle.schema_values.specs.declared.json_value.Json.{Json, Object, Text as Words}
 use Rattle.schema_values.specs.declared.json_value.Member.{Member}
-use Rattle.schema_values.proofs.CallerLemmas.{contains_first, contains_later}
+use Rattle.schema_values.proofs.CallerLemmas.{contains_first}
 use Rattle.descriptors.specs.Definitions.{definition}
 use Rattle.descriptors.specs.declared.desc.Desc.{Desc, Option as OptionOf}
 use Rattle.descriptors.specs.declared.desc.Desc.TheVariants.{outs-Struct}
-use Rattle.descriptors.specs.declared.desc.Field.{Field}
 use Rattle.descriptors.specs.declared.desc.Presence.TheVariants.{Required, Skipped}
 use Rattle.descriptors.specs.declared.table.Definition.{Definition}
 use Rattle.descriptors.specs.declared.tree.Tree.{Tree, out-Tree}
 use Rattle.descriptors.specs.declared.tree.Tree.TheVariants as trees
 use Rattle.descriptors.proofs.CallerLemmas.{definition_is}
 use Rattle.typed_values.specs.Denotes.{room}
-use Rattle.typed_values.specs.Encoding.{is_none_level, json_of_tree, members_written, option_written, parts_written, scalar_written, unless, written_if_there, written_under}
-use Rattle.typed_values.specs.Parts.{IsPart, StandsIn, in_field, of_table, of_whole, the_whole}
+use Rattle.typed_values.specs.Encoding.{is_none_level, json_of_tree, option_written, parts_written, scalar_written, unless, written_under}
+use Rattle.typed_values.specs.Parts.{IsPart, in_field, of_table, of_whole, the_whole}
 use Rattle.typed_values.specs.Resting.{Rests}
 use Rattle.typed_values.proofs.CallerLemmas.{entry_inside, guarded_rests}
 use Rattle.typed_values.proofs.EncodeRows.{written_ref, written_scalar}
@@ -41,7 +40,7 @@ module _ (table : List Definition) (is_table : IsTableOf (error_definition ∷ [
 
   text_written : (text : List ℕ) → written_under table error_desc (trees.Text text) any_text ≡ Words text
   text_written text =
-      written_scalar table error_desc (trees.Text text) any_text text_rests (inr (inr (inr (None, (None, (None, refl))))))
+      written_scalar table error_desc (trees.Text text) any_text text_rests (inr (inr (inr (None, None, None, refl))))
       ∙ ap scalar_written (trees.outs-Text text)
 
   abbrev written : Tree → Desc → Json

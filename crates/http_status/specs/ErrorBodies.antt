@@ -1,5 +1,5 @@
--- The body of an error's response, its JSON (RFC 8259), its tree, and what it is in a document (OpenAPI 3.0.3,
--- Schema Object).
+-- The body of an error's response, its JSON (RFC 8259), its tree, and what it is in a document
+-- (OpenAPI 3.0.3, Schema Object).
 use Rattle.std.specs.Prelude.{ℕ, false, List, [], ◌∷◌, ◌++◌, Option, Some, None, codes}
 use Rattle.schema_values.specs.declared.json_value.Json.{Json, Text as Words, Object}
 use Rattle.schema_values.specs.declared.json_value.Member.{Member}
@@ -16,7 +16,8 @@ use Rattle.http_status.specs.declared.error_body.HttpErrorResponseBody.{HttpErro
 
 -- the body tells the id of the request, the code where there is one, and the message for the client
 abbrev pub error_body : HttpError → List ℕ → HttpErrorResponseBody
-error_body error id = record { request_id = id; error_code = error.error_code; message = error.external_message }
+error_body error id =
+    record { request_id = id; error_code = error.error_code; message = error.external_message }
 
 -- the member of a code where there is one
 abbrev pub code_members : Option (List ℕ) → List Member

@@ -13,7 +13,8 @@ use Rattle.http_status.specs.declared.request_id.RequestIdError.TheVariants as i
 -- as `HttpError(400 Bad Request): message`
 abbrev pub error_text : HttpError → List ℕ
 error_text error =
-    codes "HttpError(" ++ status_text error.status_code ++ codes "): " ++ encode_utf8_all error.external_message
+    codes "HttpError(" ++ status_text error.status_code ++ codes "): "
+    ++ encode_utf8_all error.external_message
 
 -- an error that is answered as it is
 abbrev pub refusal_text : HttpRefusal → List ℕ

@@ -4,14 +4,14 @@ ghost use Rattle.http_status.specs.Errors.{bad_request, client_error, client_err
 ghost use Rattle.http_status.specs.Errors.{internal_error, not_found, unavailable};
 
 use header_lists::HeaderList;
-use schema_values::Text;
+use schema_values::{Text, copy_text};
 use status_codes::{ClientErrorStatusCode, ErrorStatusCode};
 use std::alloc::{AllocError, Global};
 use std::fmt;
 use thiserror::Error;
 
-/// An error that is answered: its status, its code for programs, a message for the client and one for the log,
-/// and header lines of its own.
+/// An error that is answered: its status, its code for programs, a message for the client and one
+/// for the log, and header lines of its own.
 #[derive(Drop, Error)]
 pub struct HttpError {
     /// The status, from 400 to 599.
@@ -56,7 +56,8 @@ impl fmt::Debug for HttpError {
 }
 
 impl HttpError {
-    /// An error by the client, with one message for both. Fails only for want of memory, as the calls below.
+    /// An error by the client, with one message for both. Fails only for want of memory, as the
+    /// calls below.
     pub fn for_client_error(
         alloc: Global,
         error_code: Option<Text>,
@@ -74,7 +75,8 @@ impl HttpError {
         })
     }
 
-    /// Status 500 and the code `Internal`, with a message for the log alone (RFC 9110, section 15.6.1).
+    /// Status 500 and the code `Internal`, with a message for the log alone (RFC 9110, section
+    /// 15.6.1).
     pub fn for_internal_error(
         alloc: Global,
         internal_message: Text,
@@ -123,8 +125,8 @@ impl HttpError {
         )
     }
 
-    /// An error by the client, with the reason phrase of its status as both messages, or `Client Error` where
-    /// it has none.
+    /// An error by the client, with the reason phrase of its status as both messages, or `Client
+    /// Error` where it has none.
     pub fn for_client_error_with_status(
         alloc: Global,
         error_code: Option<Text>,
@@ -161,21 +163,11 @@ impl HttpError {
     {
         Ok(HttpError {
             status_code: self.status_code,
-            error_code: copy_code(alloc, &self.error_code)?,
+            error_code: copy_text(alloc, &self.error_code)?,
             external_message: self.external_message.copy(alloc)?,
             internal_message: self.internal_message.copy(alloc)?,
             headers: copy_lines(alloc, &self.headers)?,
         })
-    }
-}
-
-/// A code equal to this one, where there is one.
-pub(crate) fn copy_code(alloc: Global, code: &Option<Text>) -> Result<Option<Text>, AllocError>
-    ensures { IfOk result (λ copy. copy ≡ code.now) }
-{
-    match code {
-        Some(code) => Ok(Some(code.copy(alloc)?)),
-        None => Ok(None),
     }
 }
 

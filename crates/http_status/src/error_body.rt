@@ -6,9 +6,8 @@ ghost use Rattle.schema_values.specs.Member.{member};
 ghost use Rattle.api_types.specs.Heads.{described_struct, required, skipped, struct_of};
 ghost use Rattle.http_status.specs.ErrorBodies.{code_members, error_body_json, error_definition};
 
-use crate::error::copy_code;
 use api_types::{ApiStruct, ApiType, Skipped, StructHead, definition_of};
-use schema_values::{Json, List, Member, Text};
+use schema_values::{Json, List, Member, Text, copy_text};
 use std::alloc::{AllocError, Global};
 use typed_values::{Definition, Tree};
 
@@ -24,8 +23,8 @@ pub struct HttpErrorResponseBody {
 }
 
 impl HttpErrorResponseBody {
-    /// The body as JSON: its fields in order, without the code where there is none. Fails only for want of
-    /// memory.
+    /// The body as JSON: its fields in order, without the code where there is none. Fails only for
+    /// want of memory.
     pub fn to_json(self, alloc: Global) -> Result<Json, AllocError>
         ensures { IfOk result (λ json. json ≡ error_body_json self) }
     {
@@ -47,7 +46,7 @@ impl HttpErrorResponseBody {
     {
         Ok(HttpErrorResponseBody {
             request_id: self.request_id.copy(alloc)?,
-            error_code: copy_code(alloc, &self.error_code)?,
+            error_code: copy_text(alloc, &self.error_code)?,
             message: self.message.copy(alloc)?,
         })
     }
@@ -62,7 +61,8 @@ impl ApiStruct for HttpErrorResponseBody {
         (struct_of (required (codes "request_id") ∷ skipped (codes "error_code")
         ∷ required (codes "message") ∷ [])) };
 
-    ghost fields_of = { λ body. (body.request_id, (record { value = body.error_code }, (body.message, tt))) };
+    ghost fields_of = { λ body.
+        (body.request_id, (record { value = body.error_code }, (body.message, tt))) };
 
     fn name() -> &'static str {
         "Error"
@@ -136,8 +136,8 @@ fn push_text(
     })
 }
 
-/// The definition of the body of errors: the request's id, a code where there is one, and a message. Fails
-/// only for want of memory.
+/// The definition of the body of errors: the request's id, a code where there is one, and a
+/// message. Fails only for want of memory.
 pub fn error_definition(alloc: Global) -> Result<Definition, AllocError>
     ensures { IfOk result (λ definition. definition ≡ error_definition) }
 {

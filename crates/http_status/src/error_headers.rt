@@ -10,13 +10,13 @@ use crate::HttpError;
 use header_lists::HeaderList;
 use http_header::{HeaderName, HeaderNameError, HeaderValue, HeaderValueError};
 use std::alloc::{AllocError, Global};
-use std::{fmt, slice};
+use std::fmt;
 use thiserror::Error;
 
 /// Why a header line was not added.
 #[derive(Clone, Copy, Debug, PartialEq, Eq, Error)]
 pub enum HeaderError {
-    /// The name is no name of a header field (RFC 9110, section 5.1).
+    /// The name is no name of a header field (RFC 9110, section 5.1), or longer than 65,535 bytes.
     BadName,
     /// A byte of the value is neither a tab nor at least 0x20 and not 0x7F (RFC 9110, section 5.5).
     BadValue,
@@ -52,8 +52,8 @@ impl From<AllocError> for HeaderError {
 }
 
 impl HttpError {
-    /// The error's own lines, as a list that is made empty where there was none. What is written through it
-    /// is what the error has.
+    /// The error's own lines, as a list that is made empty where there was none. What is written
+    /// through it is what the error has.
     pub fn headers_mut(&mut self, alloc: Global) -> &mut HeaderList
         ensures lines { result.now ≡ own_lines self.old }
         ensures* writes_back { sem 𝓛 (LendsLines self.entry result) }
@@ -61,9 +61,9 @@ impl HttpError {
         self.headers.get_or_insert_with(|| HeaderList::new(alloc))
     }
 
-    /// Puts a line behind the error's own, with its name in lower case. `BadName` exactly where the name is no
-    /// name of a header field, `BadValue` exactly where the name is one and the value is none of a header
-    /// field. After any refusal, and for want of memory, the error is as it was.
+    /// Puts a line behind the error's own, with its name in lower case. `BadName` exactly where the
+    /// name is no name of a header field, `BadValue` exactly where the name is one and the value is
+    /// none of a header field. After any refusal, and for want of memory, the error is as it was.
     pub fn append_header(
         &mut self,
         alloc: Global,
@@ -71,6 +71,7 @@ impl HttpError {
         value: &[u8],
     ) -> Result<(), HeaderError>
         ensures ok { OnOk result (self.new ≡ with_line self.old name.now value.now) }
+        ensures valid { OnOk result (IsFieldName name.now × IsFieldValue value.now) }
         ensures err { OnErr result (self.new ≡ self.old) }
         ensures bad_name { IsErrOf result HeaderError.BadName ↔ ¬ (IsFieldName name.now) }
         ensures bad_value { IsErrOf result HeaderError.BadValue
@@ -88,8 +89,8 @@ impl HttpError {
         Ok(())
     }
 
-    /// Puts a line behind the error's own, and gives the error back. It is refused as by `append_header`, which
-    /// leaves the error as it was.
+    /// Puts a line behind the error's own, and gives the error back. It is refused as by
+    /// `append_header`, which leaves the error as it was.
     pub fn add_header(
         &mut self,
         alloc: Global,
@@ -97,6 +98,7 @@ impl HttpError {
         value: &[u8],
     ) -> Result<&mut HttpError, HeaderError>
         ensures ok { IfOk result (λ error. error.now ≡ with_line self.old name.now value.now) }
+        ensures valid { OnOk result (IsFieldName name.now × IsFieldValue value.now) }
         ensures same { IfOk result (λ error. error.ghost_name ≡ self.entry.ghost_name) }
         ensures bad_name { IsErrOf result HeaderError.BadName ↔ ¬ (IsFieldName name.now) }
         ensures bad_value { IsErrOf result HeaderError.BadValue
@@ -115,6 +117,7 @@ impl HttpError {
         value: &[u8],
     ) -> Result<HttpError, HeaderError>
         ensures ok { IfOk result (λ error. error ≡ with_line self name.now value.now) }
+        ensures valid { OnOk result (IsFieldName name.now × IsFieldValue value.now) }
         ensures bad_name { IsErrOf result HeaderError.BadName ↔ ¬ (IsFieldName name.now) }
         ensures bad_value { IsErrOf result HeaderError.BadValue
             ↔ (IsFieldName name.now × ¬ (IsFieldValue value.now)) }
@@ -128,6 +131,7 @@ impl HttpError {
 // The line of a name and a value. Both are looked at whatever memory there is, the name first.
 fn line(alloc: Global, name: &str, value: &[u8]) -> Result<(HeaderName, HeaderValue), HeaderError>
     ensures ok { IfOk result (λ line. line ≡ header_line name.now value.now) }
+    ensures valid { OnOk result (IsFieldName name.now × IsFieldValue value.now) }
     ensures bad_name { IsErrOf result HeaderError.BadName ↔ ¬ (IsFieldName name.now) }
     ensures bad_value { IsErrOf result HeaderError.BadValue
         ↔ (IsFieldName name.now × ¬ (IsFieldValue value.now)) }

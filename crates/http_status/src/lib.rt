@@ -1,11 +1,12 @@
-//! Errors that are answered and their responses, and the ids of requests. Status codes, header lists and
-//! bodies are passed on.
+//! Errors that are answered and their responses, and the ids of requests. Status codes, header
+//! lists and bodies are passed on.
 #![tactic(auto)]
 
 mod constants;
 mod error;
 mod error_body;
 mod error_headers;
+mod laws;
 mod refusal;
 mod request_id;
 mod response;
@@ -21,6 +22,7 @@ pub use header_lists::HeaderList;
 pub use http_bodies::{
     Body, DumpError, Frame, FrameError, FrameSource, MemoryFrames, SafeFrames, http_dump_body,
 };
+pub use laws::error_bodies_are_typed;
 pub use refusal::HttpRefusal;
 pub use request_id::{RequestId, RequestIdError};
 pub use response::Response;

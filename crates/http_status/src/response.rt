@@ -1,7 +1,7 @@
 //! Responses, and those of errors.
 ghost use Rattle.std.specs.Prelude.{◌≡◌, IfOk};
-ghost use Rattle.http_status.specs.ErrorBodies.{error_body};
-ghost use Rattle.http_status.specs.Responses.{ShowsTree, error_response};
+ghost use Rattle.http_status.specs.ErrorBodies.{error_body, error_body_json};
+ghost use Rattle.http_status.specs.Responses.{ShowsTree, error_response, lines_behind, pretty_body};
 
 use crate::constants::{CONTENT_TYPE_JSON, HEADER_REQUEST_ID};
 use crate::{HttpError, HttpErrorResponseBody, RequestId};
@@ -24,9 +24,9 @@ pub struct Response {
 }
 
 impl HttpError {
-    /// The response of the error to the request of an id: the error's own header lines, the type of the body,
-    /// the id, and as the body the id, the code and the message for the client, in pretty JSON (RFC 8259).
-    /// The message for the log stays out. Fails only for want of memory.
+    /// The response of the error to the request of an id: the error's own header lines, the type of
+    /// the body, the id, and as the body the id, the code and the message for the client, in pretty
+    /// JSON (RFC 8259). The message for the log stays out. Fails only for want of memory.
     pub fn into_response(
         self,
         alloc: Global,
@@ -43,21 +43,40 @@ impl HttpError {
             internal_message: _,
             headers,
         } = self;
-        let mut headers = headers.unwrap_or(HeaderList::new(alloc));
-        headers.append(CONTENT_TYPE, HeaderValue::from_static(CONTENT_TYPE_JSON))?;
-        let id = request_id.to_value()?;
-        headers.append(HeaderName::from_static(HEADER_REQUEST_ID), id)?;
+        let headers = lines(alloc, headers, request_id)?;
         let request_id = Text::from_str(alloc, request_id.text())?;
         let body = HttpErrorResponseBody {
             request_id,
             error_code,
             message,
         };
-        let text = body.to_json(alloc)?.pretty(alloc)?;
         Ok(Response {
             status: status_code.as_status(),
             headers,
-            body: Body::with_content(text.into_bytes()),
+            body: pretty(alloc, body)?,
         })
     }
+}
+
+// The error's own lines, the type of the body, and the request's id.
+fn lines(
+    alloc: Global,
+    own: Option<HeaderList>,
+    request_id: &RequestId,
+) -> Result<HeaderList, AllocError>
+    ensures { IfOk result (λ lines. lines ≡ lines_behind own request_id.now) }
+{
+    let id = request_id.to_value()?;
+    let mut lines = own.unwrap_or(HeaderList::new(alloc));
+    lines.append(CONTENT_TYPE, HeaderValue::from_static(CONTENT_TYPE_JSON))?;
+    lines.append(HeaderName::from_static(HEADER_REQUEST_ID), id)?;
+    Ok(lines)
+}
+
+// The body in pretty JSON, as one frame.
+fn pretty(alloc: Global, body: HttpErrorResponseBody) -> Result<Body, AllocError>
+    ensures { IfOk result (λ frames. frames ≡ pretty_body (error_body_json body)) }
+{
+    let text = body.to_json(alloc)?.pretty(alloc)?;
+    Ok(Body::with_content(text.into_bytes()))
 }
