@@ -80,7 +80,8 @@ one_bound left right bound is held none = (
   λ h. inl (record { version = bound; in_left = held; in_right = h }),
   λ overlap. elim overlap [
     | inl shared ↦
-        down_from right bound shared.version none (above_bound left bound shared.version is shared.in_left) shared.in_right
+        let above = above_bound left bound shared.version is shared.in_left in
+        down_from right bound shared.version none above shared.in_right
     | inr unbounded ↦ cc (sym is ∙ unbounded.0)
   ],
 )
@@ -101,7 +102,8 @@ two_bounds left right bound other is held other_is other_held = (
         let from_right = above_bound right other shared.version other_is shared.in_right in
         elim (cases_Bool (is_below other bound)) [
           | inl below ↦
-              inr (between right other bound shared.version other_held (below-at_least other bound below) from_left shared.in_right)
+              let at_least = below-at_least other bound below in
+              inr (between right other bound shared.version other_held at_least from_left shared.in_right)
           | inr at_least ↦
               inl (between left bound other shared.version held at_least from_right shared.in_left)
         ]

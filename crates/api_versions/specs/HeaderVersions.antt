@@ -1,5 +1,7 @@
 -- The version that a request asks for in a header. A header may stand on several lines, of which the first
--- counts (RFC 9110, section 5.3, has them in order).
+-- counts (RFC 9110, section 5.3, has them in order). Its value is a text of visible bytes (RFC 9110, section
+-- 5.5), and that text a version (Semantic Versioning 2.0.0, sections 2, 9 and 10). What counts where the header is
+-- missing, the greatest version and the texts of the faults are rules of this library.
 use Rattle.std.specs.Prelude.{◌≡◌, ◌≢◌, ◌++◌, ℕ, List, Option, Some, None, Ok, codes}
 use Rattle.std.specs.Str.{chars}
 use Rattle.http_header.specs.FieldValue.{FieldValue, IsVisibleAscii}
@@ -53,7 +55,7 @@ HasFault policy value fault = ⊥
 
 -- what the client is told of the value of a header, in UTF-8
 abbrev pub bad_value_message : List ℕ → List ℕ → List ℕ
-bad_value_message name reason = codes "bad value for header \"" ++ (name ++ (codes "\": " ++ reason))
+bad_value_message name reason = codes "bad value for header \"" ++ name ++ (codes "\": " ++ reason)
 
 -- what the client is told of a version above the greatest, in UTF-8
 abbrev pub not_served_message : Parts → List ℕ
@@ -61,7 +63,7 @@ not_served_message version = codes "server does not support this API version: " 
 
 -- what the client is told of a fault, in UTF-8
 abbrev pub fault_message : List ℕ → VersionFault → List ℕ
-fault_message name missing = codes "missing expected header \"" ++ (name ++ codes "\"")
+fault_message name missing = codes "missing expected header \"" ++ name ++ codes "\""
 fault_message name not_ascii = bad_value_message name (codes "not ASCII")
 fault_message name not_a_version = bad_value_message name (codes "not a version")
 fault_message name (not_served version) = not_served_message version

@@ -1,4 +1,4 @@
--- Which ranges overlap.
+-- Which ranges of versions overlap: a rule of this library.
 use Rattle.std.specs.Prelude.{◌≡◌, ◌⊎◌, None}
 use Rattle.semver.specs.Parse.{Parts}
 use Rattle.api_versions.specs.Ranges.{Holds, VersionRange, lower_bound}
@@ -13,11 +13,11 @@ pub record SharesVersion (left right : VersionRange) : Type 0 where
 abbrev pub HasNoLowerBound : VersionRange → Type 0
 HasNoLowerBound range = lower_bound range ≡ None
 
--- Two ranges overlap: some version lies in both, or neither has a lower bound. Of the latter two that end at
--- or below the least version of all overlap too, though no version lies there.
+-- Two ranges overlap: some version lies in both, or neither has a lower bound. Two ranges without a lower bound
+-- overlap even where they end at or below the least version, though no version lies there.
 abbrev pub Overlaps : VersionRange → VersionRange → Type 0
 Overlaps left right = SharesVersion left right ⊎ (HasNoLowerBound left × HasNoLowerBound right)
 
 -- no version lies in both ranges
-abbrev pub IsDisjoint : VersionRange → VersionRange → Type 0
-IsDisjoint left right = (version : Parts) → Holds left version → ¬ Holds right version
+abbrev pub ShareNoVersion : VersionRange → VersionRange → Type 0
+ShareNoVersion left right = (version : Parts) → Holds left version → ¬ Holds right version

@@ -1,4 +1,4 @@
--- What a policy says of header lines, by the meanings of boxed policies.
+-- What a policy of this library says of header lines, by the meanings of boxed policies.
 use Rattle.std.specs.Prelude.{◌≡◌, List, Option, Some, None}
 use Rattle.semver.specs.Parse.{Parts}
 use Rattle.header_lists.specs.HeaderLists.{Line}

@@ -1,4 +1,5 @@
--- Ranges of versions, by their bounds.
+-- Ranges of versions by their bounds: forms of this library, over the order of versions (Semantic Versioning
+-- 2.0.0, section 11).
 use Rattle.std.specs.Prelude.{◌≡◌, ◌⊎◌, ⊤, Option, Some, None}
 use Rattle.semver.specs.Parse.{Parts}
 use Rattle.api_versions.specs.Order.{IsAtLeast, IsBelow}

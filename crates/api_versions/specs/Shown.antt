@@ -1,4 +1,4 @@
--- What clauses see of ranges of versions and of pairs.
+-- What clauses see of the ranges of versions and of the pairs of this library.
 use Rattle.semver.specs.Identifiers.{parts_of}
 use Rattle.semver.specs.Parse.{Parts}
 use Rattle.api_versions.specs.Ranges.{VersionRange, all, from, from_until, until}

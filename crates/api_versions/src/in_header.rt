@@ -4,7 +4,7 @@ ghost use Rattle.std.specs.Prelude.{Err, None, Some, string_bytes};
 ghost use Rattle.std.specs.Option.{option_copied};
 ghost use Rattle.std.specs.Str.{chars};
 ghost use Rattle.semver.specs.Identifiers.{parts_of};
-ghost use Rattle.semver.specs.Parse.{Parts};
+ghost use Rattle.semver.specs.Parse.{Parts, memory_error};
 ghost use Rattle.header_lists.specs.HeaderLists.{first_of};
 ghost use Rattle.http_status.specs.Errors.{bad_request};
 ghost use Rattle.http_status.specs.declared.error.HttpError.{HttpError as ErrorValue};
@@ -72,11 +72,9 @@ impl ClientSpecifiesVersionInHeader {
     pub fn on_missing(self, version: Version) -> Self
         ensures { result ≡ record self { on_missing = Some (parts_of version) } }
     {
-        ClientSpecifiesVersionInHeader {
-            name: self.name,
-            max_version: self.max_version,
-            on_missing: Some(version),
-        }
+        let mut policy = self;
+        policy.on_missing = Some(version);
+        policy
     }
 
     /// A policy equal to this one. Fails only for want of memory.
@@ -154,7 +152,7 @@ impl ClientSpecifiesVersionInHeader {
                     Err(not_served(alloc, &version)?.into())
                 }
             }
-            Err(error) if error == semver::Error::from(AllocError) => Err(HttpRefusal::OutOfMemory),
+            Err(error) if is_out_of_memory(&error) => Err(HttpRefusal::OutOfMemory),
             Err(_) => Err(self.bad_value(alloc, "not a version")?.into()),
         }
     }
@@ -198,6 +196,13 @@ impl ClientSpecifiesVersionInHeader {
             format!(in alloc; "bad value for header \"{name}\": {reason}")?,
         )
     }
+}
+
+// Whether the text of a version was not read for want of memory.
+fn is_out_of_memory(error: &semver::Error) -> bool
+    ensures { IsTrue result ↔ (error.now ≡ memory_error) }
+{
+    *error == semver::Error::from(AllocError)
 }
 
 fn not_served(alloc: Global, version: &Version) -> Result<HttpError, AllocError>

@@ -12,8 +12,8 @@ use std::cmp::Ordering;
 /// Two versions, of which the second is not below the first.
 #[derive(Debug, Drop, PartialEq, Eq)]
 pub struct OrderedVersionPair {
-    pub(crate) earliest: Version,
-    pub(crate) until: Version,
+    earliest: Version,
+    until: Version,
     ghost ordered: { is_below (parts_of until) (parts_of earliest) ≡ false },
 }
 
@@ -42,6 +42,13 @@ impl OrderedVersionPair {
             earliest: copy_version(&self.earliest)?,
             until: copy_version(&self.until)?,
         })
+    }
+
+    // The first version.
+    pub(crate) fn earliest(&self) -> &Version
+        ensures { parts_of result.now ≡ earliest_of self.now }
+    {
+        &self.earliest
     }
 
     // Whether a version lies from the first version on and below the second, or is both.

@@ -3,9 +3,9 @@ ghost use Rattle.std.specs.Prelude.{◌≡◌, ◌↔◌, false, codes, option_m
 ghost use Rattle.std.specs.Prelude.{IfErr, IfOk, IfSome, IsErr, IsTrue};
 ghost use Rattle.semver.specs.Identifiers.{parts_of};
 ghost use Rattle.api_versions.specs.Order.{IsBelow};
-ghost use Rattle.api_versions.specs.Overlaps.{IsDisjoint, Overlaps};
+ghost use Rattle.api_versions.specs.Overlaps.{Overlaps, ShareNoVersion};
 ghost use Rattle.api_versions.specs.Ranges.{Holds, Matches, from_until, lower_bound};
-ghost use Rattle.api_versions.specs.Shown.{earliest_of, range_of, until_of};
+ghost use Rattle.api_versions.specs.Shown.{range_of};
 
 use crate::pair::OrderedVersionPair;
 use crate::versions::copy_version;
@@ -80,7 +80,8 @@ impl ApiEndpointVersions {
     pub fn overlaps_with(&self, other: &ApiEndpointVersions) -> bool
         ensures overlap { IsTrue result ↔ Overlaps (range_of self.now) (range_of other.now) }
         ensures symmetric { IsTrue result ↔ Overlaps (range_of other.now) (range_of self.now) }
-        ensures apart { result ≡ false → IsDisjoint (range_of self.now) (range_of other.now) }
+        ensures apart { result ≡ false
+            → ShareNoVersion (range_of self.now) (range_of other.now) }
     {
         self.meets(other)
     }
@@ -116,7 +117,7 @@ impl ApiEndpointVersions {
         match self {
             ApiEndpointVersions::All | ApiEndpointVersions::Until(_) => None,
             ApiEndpointVersions::From(earliest) => Some(earliest),
-            ApiEndpointVersions::FromUntil(pair) => Some(&pair.earliest),
+            ApiEndpointVersions::FromUntil(pair) => Some(pair.earliest()),
         }
     }
 

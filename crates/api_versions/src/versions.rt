@@ -1,8 +1,6 @@
 //! Single versions.
 ghost use Rattle.std.specs.Prelude.{◌≡◌, IfOk};
 ghost use Rattle.semver.specs.Identifiers.{parts_of};
-ghost use Rattle.semver.specs.Order.{build_cmp};
-ghost use Rattle.std.specs.Cmp.{IsTotalOrder};
 
 use semver::Version;
 use std::alloc::AllocError;

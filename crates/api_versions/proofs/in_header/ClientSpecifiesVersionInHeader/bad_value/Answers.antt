@@ -7,6 +7,7 @@ use Rattle.api_versions.proofs.in_header.ClientSpecifiesVersionInHeader.bad_valu
 
 pub returns : goal.returns
 returns c =
-    let by_name = ap (λ (policy : HeaderPolicy). bad_value_message policy.name c.args.reason.now) c.self.view_is in
+    let reason = c.args.reason.now in
+    let by_name = ap (λ (policy : HeaderPolicy). bad_value_message policy.name reason) c.self.view_is in
     subst (λ text. IfOk c.bad_request.result (λ error. error ≡ bad_request None (chars text)))
     (c.in_ok-format.ensures.ok ∙ by_name) c.bad_request.ensures

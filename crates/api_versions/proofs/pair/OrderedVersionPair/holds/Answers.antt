@@ -15,12 +15,14 @@ returns-in-Less c =
 pub returns-in-Equal : goal.returns-in-Equal
 returns-in-Equal c =
     let pair = c.args.self.now in
-    let at = held_at (earliest_of pair) (until_of pair) (parts_of c.args.version.now) (sym c.in-Equal.ensures) in
+    let version = parts_of c.args.version.now in
+    let at = held_at (earliest_of pair) (until_of pair) version (sym c.in-Equal.ensures) in
     let same = same_version c.args.version.now c.args.self.now.earliest in
     rw c.eq.ensures (λ test. at.0 (same.0 test), λ held. same.1 (at.1 held))
 
 pub returns-in-Greater : goal.returns-in-Greater
 returns-in-Greater c =
     let pair = c.args.self.now in
-    let above = above_not_held (earliest_of pair) (until_of pair) (parts_of c.args.version.now) (sym c.in-Greater.ensures) in
+    let version = parts_of c.args.version.now in
+    let above = above_not_held (earliest_of pair) (until_of pair) version (sym c.in-Greater.ensures) in
     (λ e. cc e, λ held. absurd (above held))
