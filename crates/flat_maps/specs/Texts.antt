@@ -1,6 +1,7 @@
 -- Which tree a text denotes under a descriptor, and which fault is told where it denotes none: the texts of path, query
 -- and header parameters and of forms, in the style of a single value (OpenAPI 3.0.3, Parameter Object, Style Values).
-use Rattle.std.specs.Prelude.{◌≡◌, ◌==◌, ℕ, zero, suc, ℤ, Bool, true, false, ◌&&◌, List, length, Option, Some, None, if◌then◌else◌, bytes_eq, codes}
+use Rattle.std.specs.Prelude.{◌≡◌, ◌==◌, ℕ, zero, suc, ℤ, Bool, true, false, ◌&&◌, List, length, Option, Some, None}
+use Rattle.std.specs.Prelude.{if◌then◌else◌, bytes_eq, codes}
 use Rattle.std.specs.declared.result.Result.TheVariants.{Ok}
 use Rattle.request_words.specs.Numbers.{has_minus, number_of}
 use Rattle.descriptors.specs.declared.desc.Desc.{Desc, out-Desc}
