@@ -14,7 +14,8 @@ use Rattle.descriptors.specs.declared.tree.Tree.{Tree, Bool as Truth, Int as Num
 use Rattle.descriptors.specs.Definitions.{definition, listed_name}
 use Rattle.typed_values.specs.declared.fault.FaultKind.TheVariants.{WrongKind, BadText, BadLength, NotListed}
 use Rattle.typed_values.specs.Bounds.{is_number_of, is_length_within}
-use Rattle.typed_values.specs.Denotes.{Told, refused, if_holds, just, named_from, where_found, bare, at_definition, room}
+use Rattle.typed_values.specs.Denotes.{Told, refused, if_holds, just, named_from, where_found, bare}
+use Rattle.typed_values.specs.Denotes.{at_definition, room}
 use Rattle.typed_values.specs.Levels.{DescLevel}
 
 -- the two words of truth values
@@ -52,7 +53,8 @@ number_in kind text = if has_no_sign kind && has_minus text then None else numbe
 -- a number of a kind, within bounds, or a fault where the text is none
 abbrev pub number_or_fault : IntKind → Option ℤ → Option ℤ → List ℕ → Option ℤ → Told
 number_or_fault kind min max text None = refused (BadText text (kind_name kind))
-number_or_fault kind min max text (Some n) = if_holds (is_number_of kind min max n) (BadText text (kind_name kind)) (Ok (Number n))
+number_or_fault kind min max text (Some n) =
+    if_holds (is_number_of kind min max n) (BadText text (kind_name kind)) (Ok (Number n))
 
 -- the number of a text
 abbrev pub number_of_text : IntKind → Option ℤ → Option ℤ → List ℕ → Told
