@@ -13,6 +13,7 @@ pub mod PairFits
 pub mod TextLoops
 pub mod EntryLookups
 pub mod ReadBack
+pub mod HeldTexts
 pub mod OwnTables
 pub mod Chosen
 pub mod OkFields

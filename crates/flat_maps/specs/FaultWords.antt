@@ -1,5 +1,6 @@
--- In which words the first fault is told, where a map of texts denotes no value. They name no place. The words of a value
--- of another kind are this project's own, and are told by the descriptor that it stands under.
+-- In which words the first fault is told, where a map of texts denotes no value: the variables of a path, and headers
+-- (OpenAPI 3.0.3, Parameter Object). They name no place. The words of a value of another kind are of this library, and
+-- are told by the descriptor that it stands under.
 use Rattle.std.specs.Prelude.{ℕ, List, [], ◌∷◌, Option, Some, None, codes, if◌then◌else◌, bytes_eq}
 use Rattle.std.specs.declared.result.Result.TheVariants.{Ok, Err}
 use Rattle.schema_values.specs.declared.variables.VariableValue.{VariableValue}

@@ -1,5 +1,5 @@
--- Which struct the texts under flat names denote, and which fault is told first where they denote none: those of a path,
--- of a query, of headers or of a form (OpenAPI 3.0.3, Parameter Object; Request Body Object for forms).
+-- Which struct the texts under flat names denote, and which fault is told first where they denote none: those of a
+-- path, of a query, of headers or of a form (OpenAPI 3.0.3, Parameter Object; Request Body Object for forms).
 use Rattle.std.specs.Prelude.{◌≡◌, ℕ, zero, suc, false, List, Option, Some, None, option_map, option_and_then}
 use Rattle.std.specs.declared.result.Result.TheVariants.{Ok}
 use Rattle.schema_values.specs.declared.variables.VariableValue.{VariableValue}

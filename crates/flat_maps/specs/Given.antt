@@ -18,6 +18,7 @@ text_list (Components texts) = Some texts
 abbrev pub Names : Type 0
 Names = List ℕ → Option VariableValue
 
--- the same, where each name is compared with its ASCII letters in lower case, as the name of a header is (RFC 9110, section 5.1)
+-- the same, where each name is compared with its ASCII letters in lower case, as the name of a header is (RFC 9110,
+-- section 5.1)
 abbrev pub lowered : Names → Names
 lowered names name = names (lower name)

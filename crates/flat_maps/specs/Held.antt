@@ -1,4 +1,4 @@
--- What a descriptor holds behind references and one option.
+-- What a descriptor holds behind references (OpenAPI 3.0.3, Reference Object) and one option, which is of this library.
 use Rattle.std.specs.Prelude.{List, Option, Some, option_and_then}
 use Rattle.descriptors.specs.declared.desc.Desc.{Desc, out-Desc}
 use Rattle.descriptors.specs.declared.desc.Desc.TheOpen.{Desc-F}

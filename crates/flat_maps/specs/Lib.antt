@@ -9,6 +9,7 @@ pub mod Held
 pub mod MapErrors
 pub mod Refusals
 pub mod TextMaps
+pub mod FieldTexts
 pub mod FaultWords
 pub mod TextStructs
 pub mod TypedMaps

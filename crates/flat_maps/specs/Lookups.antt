@@ -1,4 +1,4 @@
--- What a look-up lends, seen as the value that stands under the name.
+-- What a look-up of this library lends, seen as the value that stands under the name.
 use Rattle.std.specs.Str.{chars}
 use Rattle.schema_values.specs.declared.variables.VariableValue.{VariableValue}
 use Rattle.schema_values.specs.declared.variables.VariableValue.TheVariants.{String, Components}

@@ -1,4 +1,4 @@
--- What an error of a map of texts says.
+-- What an error of a map of texts says. The errors are those of this library.
 use Rattle.std.specs.Prelude.{◌≡◌, ⊤, ℕ, List, codes}
 use Rattle.std.specs.Str.{encode_utf8_all}
 use Rattle.std.specs.declared.result.Result.{Result}

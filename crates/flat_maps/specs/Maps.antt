@@ -1,4 +1,4 @@
--- What stands under a name in a map of texts.
+-- What stands under a name in a map of texts, as the variables of a path are given (OpenAPI 3.0.3, Parameter Object).
 use Rattle.std.specs.Prelude.{ℕ, List, option_map}
 use Rattle.std.specs.BTreeMap.{BTreeMap, get_by}
 use Rattle.std.specs.Cmp.Lexicographic.{slice_cmp}

@@ -48,9 +48,11 @@ by_repeats Last name told = told
 
 -- the fields of a struct, from pairs
 abbrev pub pairs_fields : List Definition → Repeats → List NamedText → List Field → Told
-pairs_fields table repeats pairs fs = by_repeats repeats (first_doubled pairs fs) (fields_told (looked_up table (last_values pairs)) fs)
+pairs_fields table repeats pairs fs =
+    by_repeats repeats (first_doubled pairs fs) (fields_told (looked_up table (last_values pairs)) fs)
 
--- what pairs denote: of each name the last one counts, and by the rule on repeats none of a field's may stand more than once
+-- what pairs denote: of each name the last one counts, and by the rule on repeats none of a field's may stand more than
+-- once
 abbrev pub pairs_told : List Definition → Repeats → List NamedText → Desc → Told
 pairs_told table repeats pairs d = under_struct (pairs_fields table repeats pairs) (flat_fields (resolved table d))
 
@@ -60,4 +62,5 @@ PairsDenote table desc repeats pairs tree = pairs_told table repeats pairs desc 
 
 -- each field's name stands at most once
 abbrev pub StandOnce : List Definition → Desc → List NamedText → Type 0
-StandOnce table desc pairs = (fs : List Field) → flat_fields (resolved table desc) ≡ Some fs → first_doubled pairs fs ≡ None
+StandOnce table desc pairs =
+    (fs : List Field) → flat_fields (resolved table desc) ≡ Some fs → first_doubled pairs fs ≡ None

@@ -1,4 +1,5 @@
--- The structs whose maps of texts are read back.
+-- The structs whose maps of texts are read back: named headers, each of one text, of which some may be absent (OpenAPI
+-- 3.0.3, Header Object, `required`). That they take unknown names is a rule of this library.
 use Rattle.std.specs.Prelude.{◌≡◌, ⊤, ℕ, List, Option, Some, Contains}
 use Rattle.descriptors.specs.declared.desc.Desc.{Desc, out-Desc}
 use Rattle.descriptors.specs.declared.desc.Desc.TheOpen.{Desc-F}

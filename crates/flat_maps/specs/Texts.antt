@@ -1,6 +1,7 @@
 -- Which tree a text denotes under a descriptor, and which fault is told where it denotes none: the texts of path, query
 -- and header parameters and of forms, in the style of a single value (OpenAPI 3.0.3, Parameter Object, Style Values).
-use Rattle.std.specs.Prelude.{◌≡◌, ◌==◌, ℕ, zero, suc, ℤ, Bool, true, false, ◌&&◌, List, length, Option, Some, None, if◌then◌else◌, bytes_eq, codes}
+use Rattle.std.specs.Prelude.{◌≡◌, ◌==◌, ℕ, zero, suc, ℤ, Bool, true, false, ◌&&◌, List, length, Option, Some, None}
+use Rattle.std.specs.Prelude.{if◌then◌else◌, bytes_eq, codes}
 use Rattle.std.specs.declared.result.Result.TheVariants.{Ok}
 use Rattle.request_words.specs.Numbers.{has_minus, number_of}
 use Rattle.descriptors.specs.declared.desc.Desc.{Desc, out-Desc}
@@ -13,7 +14,8 @@ use Rattle.descriptors.specs.declared.tree.Tree.{Tree, Bool as Truth, Int as Num
 use Rattle.descriptors.specs.Definitions.{definition, listed_name}
 use Rattle.typed_values.specs.declared.fault.FaultKind.TheVariants.{WrongKind, BadText, BadLength, NotListed}
 use Rattle.typed_values.specs.Bounds.{is_number_of, is_length_within}
-use Rattle.typed_values.specs.Denotes.{Told, refused, if_holds, just, named_from, where_found, bare, at_definition, room}
+use Rattle.typed_values.specs.Denotes.{Told, refused, if_holds, just, named_from, where_found, bare}
+use Rattle.typed_values.specs.Denotes.{at_definition, room}
 use Rattle.typed_values.specs.Levels.{DescLevel}
 
 -- the two words of truth values
@@ -51,7 +53,8 @@ number_in kind text = if has_no_sign kind && has_minus text then None else numbe
 -- a number of a kind, within bounds, or a fault where the text is none
 abbrev pub number_or_fault : IntKind → Option ℤ → Option ℤ → List ℕ → Option ℤ → Told
 number_or_fault kind min max text None = refused (BadText text (kind_name kind))
-number_or_fault kind min max text (Some n) = if_holds (is_number_of kind min max n) (BadText text (kind_name kind)) (Ok (Number n))
+number_or_fault kind min max text (Some n) =
+    if_holds (is_number_of kind min max n) (BadText text (kind_name kind)) (Ok (Number n))
 
 -- the number of a text
 abbrev pub number_of_text : IntKind → Option ℤ → Option ℤ → List ℕ → Told

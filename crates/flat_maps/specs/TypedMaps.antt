@@ -1,4 +1,5 @@
--- The table beside which the values of a type are read from maps of texts, and written as such.
+-- The table beside which the values of a type are read from maps of texts, and written as such: the schemas that the
+-- references of the type lead to (OpenAPI 3.0.3, Components Object, `schemas`), as a table of this library.
 use Rattle.std.specs.Prelude.{List, []}
 use Rattle.descriptors.specs.declared.desc.Desc.{Desc}
 use Rattle.descriptors.specs.declared.table.Definition.{Definition}

@@ -56,7 +56,7 @@ fn wrong_kind<L: LookUp>(
     match places.split_last() {
         None => whole_words(alloc, table, desc),
         Some((Place::Name(name), inner)) => wrong_name(alloc, table, desc, names, name, inner),
-        Some((Place::Item(_), _)) => MapError::refused(alloc, "unsupported type"),
+        Some((Place::Item(_), _)) => unsupported(alloc),
     }
 }
 
@@ -67,7 +67,7 @@ fn whole_words(alloc: Global, table: &DescTable, desc: &Desc) -> MapError
     ensures { Refuses result (words.whole_words (resolved table.now desc.now)) }
 {
     match resolve(table, desc) {
-        Some(Desc::Struct { .. }) => MapError::refused(alloc, "unsupported type"),
+        Some(Desc::Struct { .. }) => unsupported(alloc),
         _ => MapError::refused(
             alloc,
             "must be applied to a flattened struct rather than a raw type",
@@ -92,9 +92,9 @@ fn wrong_name<L: LookUp>(
     match fields_of(table, desc) {
         Some(fields) => match field_named(fields, name) {
             Some(field) => wrong_field(alloc, table, field, names, inner),
-            None => MapError::refused(alloc, "unsupported type"),
+            None => unsupported(alloc),
         },
-        None => MapError::refused(alloc, "unsupported type"),
+        None => unsupported(alloc),
     }
 }
 
@@ -129,7 +129,7 @@ fn wrong_field<L: LookUp>(
     }
     match names.look_up(alloc, &field.name) {
         Ok(Some(given)) => given_words(alloc, table, &field.desc, given),
-        Ok(None) => MapError::refused(alloc, "unsupported type"),
+        Ok(None) => unsupported(alloc),
         Err(_) => MapError::OutOfMemory,
     }
 }
@@ -156,9 +156,9 @@ fn item_words(alloc: Global, table: &DescTable, desc: &Desc) -> MapError
     match resolve(table, desc) {
         Some(resolved) => match resolved {
             Desc::List { item, .. } => text_words(alloc, held(table, item.get())),
-            _ => MapError::refused(alloc, "unsupported type"),
+            _ => unsupported(alloc),
         },
-        None => MapError::refused(alloc, "unsupported type"),
+        None => unsupported(alloc),
     }
 }
 
@@ -174,7 +174,7 @@ fn text_words(alloc: Global, held: Option<&Desc>) -> MapError
             alloc,
             "a string may not be used in place of a sequence of values",
         ),
-        _ => MapError::refused(alloc, "unsupported type"),
+        _ => unsupported(alloc),
     }
 }
 
@@ -196,6 +196,13 @@ fn list_words(alloc: Global, held: Option<&Desc>) -> MapError
             alloc,
             "a list of values may not be used in place of a single value",
         ),
-        _ => MapError::refused(alloc, "unsupported type"),
+        _ => unsupported(alloc),
     }
+}
+
+// What takes no text and no list of texts.
+fn unsupported(alloc: Global) -> MapError
+    ensures { Refuses result words.unsupported }
+{
+    MapError::refused(alloc, "unsupported type")
 }

@@ -68,15 +68,15 @@ fn field_text<'a>(
         (texts.field_text table.now field.now tree.now) }
 {
     match &field.presence {
-        Presence::Skipped => option_text(alloc, table, &field.desc, tree),
+        Presence::Skipped => optional_text(alloc, table, &field.desc, tree),
         Presence::Required | Presence::Nullable | Presence::Default(_) => {
-            optional_text(alloc, table, &field.desc, tree)
+            optional_behind(alloc, table, &field.desc, tree)
         }
     }
 }
 
 // A text, or what an option holds.
-fn optional_text<'a>(
+fn optional_behind<'a>(
     alloc: Global,
     table: &DescTable,
     desc: &Desc,
@@ -89,7 +89,7 @@ fn optional_text<'a>(
 {
     match resolve(table, desc) {
         Some(resolved) => match resolved {
-            Desc::Option(inner) => option_text(alloc, table, inner.get(), tree),
+            Desc::Option(inner) => optional_text(alloc, table, inner.get(), tree),
             _ => text_alone(alloc, table, resolved, tree),
         },
         None => Err(MapError::invalid_type(alloc, "unit")),
@@ -97,7 +97,7 @@ fn optional_text<'a>(
 }
 
 // What an option of a descriptor holds.
-fn option_text<'a>(
+fn optional_text<'a>(
     alloc: Global,
     table: &DescTable,
     inner: &Desc,

@@ -1,5 +1,5 @@
-//! Which trees texts denote under scalar descriptors, and which structs pairs and maps of texts denote; the
-//! maps of texts that structs of texts are written as; and the same of Rust types.
+//! Which trees texts denote under scalar descriptors, and which structs pairs and maps of texts
+//! denote; the maps of texts that structs of texts are written as; and the same of Rust types.
 #![tactic(auto)]
 
 mod fault_words;

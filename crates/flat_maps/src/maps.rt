@@ -86,10 +86,10 @@ impl<Z: MapValue> LookUp for BTreeMap<Text, Z> {
     }
 }
 
-/// Decodes a map of texts, as the variables of a path (OpenAPI 3.0.3, Parameter Object), under a struct that
-/// takes unknown names, or a reference to one: the tree that it denotes, or the fault that is told first.
-/// Names that are no field's have no effect. It compares names some f log m times for f fields and m names,
-/// beside decoding what the fields are given.
+/// Decodes a map of texts, as the variables of a path (OpenAPI 3.0.3, Parameter Object), under a
+/// struct that takes unknown names, or a reference to one: the tree that it denotes, or the fault
+/// that is told first. Names that are no field's have no effect. It compares names some f log m
+/// times for f fields and m names, beside decoding what the fields are given.
 pub fn decode_map<Z: MapValue>(
     alloc: Global,
     table: &DescTable,

@@ -7,8 +7,8 @@ ghost use Rattle.typed_values.specs.Answer.{Tells, IfFault, IsFaultOf};
 ghost use Rattle.typed_values.specs.Checks.{TablePasses, DescPasses};
 ghost use Rattle.typed_values.specs.Fits.{Fits};
 ghost use Rattle.flat_maps.specs.Flat.{FlatDenotes};
-ghost use Rattle.flat_maps.specs.Pairs.{PairsDenote, StandOnce, first_doubled, is_doubled, last_values};
-ghost use Rattle.flat_maps.specs.Pairs.{pairs_fields, pairs_told};
+ghost use Rattle.flat_maps.specs.Pairs.{PairsDenote, StandOnce, pairs_fields, pairs_told};
+ghost use Rattle.flat_maps.specs.Pairs.{first_doubled, is_doubled, last_values};
 
 use crate::fields::decode_fields;
 use crate::given::{Given, LookUp};
@@ -33,10 +33,10 @@ impl LookUp for SortedPairs<'_> {
     }
 }
 
-/// Decodes the pairs of a query (OpenAPI 3.0.3, Parameter Object) or of a form (Request Body Object) under a
-/// struct that takes unknown names, or a reference to one: the tree that they denote, or the fault that is
-/// told first. Names that are no field's have no effect. It compares names some (p + f) log p times for p
-/// pairs and f fields, beside decoding what the fields are given.
+/// Decodes the pairs of a query (OpenAPI 3.0.3, Parameter Object) or of a form (Request Body Object)
+/// under a struct that takes unknown names, or a reference to one: the tree that they denote, or the
+/// fault that is told first. Names that are no field's have no effect. It compares names some
+/// (p + f) log p times for p pairs and f fields, beside decoding what the fields are given.
 pub fn decode_pairs(
     alloc: Global,
     table: &DescTable,

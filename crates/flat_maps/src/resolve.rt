@@ -40,11 +40,13 @@ pub(crate) fn held<'a>(table: &'a DescTable, desc: &'a Desc) -> Option<&'a Desc>
     }
 }
 
-/// The fields of the struct that a descriptor is or that references lead to, where it takes unknown names.
+/// The fields of the struct that a descriptor is or that references lead to, where it takes unknown
+/// names.
 pub(crate) fn fields_of<'a>(table: &'a DescTable, desc: &'a Desc) -> Option<&'a [Field]>
     requires table { TablePasses table.now }
     requires desc { DescPasses table.now desc.now }
-    ensures fields { option_map (λ fields. fields.now) result ≡ flat_fields (resolved table.now desc.now) }
+    ensures fields { option_map (λ fields. fields.now) result
+        ≡ flat_fields (resolved table.now desc.now) }
     ensures passes { IfSome result (λ fields.
         (f : Field) → Contains fields.now f → DescPasses table.now f.desc) }
 {

@@ -7,6 +7,7 @@ ghost use Rattle.descriptors.specs.declared.desc.Desc.{out-Desc};
 ghost use Rattle.descriptors.specs.declared.tree.Tree.{out-Tree};
 ghost use Rattle.typed_values.specs.Checks.{TablePasses, DescPasses};
 ghost use Rattle.typed_values.specs.Fits.{Fits};
+ghost use Rattle.flat_maps.specs.FieldTexts.{HoldsTexts};
 ghost use Rattle.flat_maps.specs.Flat.{FlatDenotes};
 ghost use Rattle.flat_maps.specs.MapErrors.{AnswersAs, IfRefused};
 ghost use Rattle.flat_maps.specs.Maps.{map_values};
@@ -34,10 +35,13 @@ pub fn to_map_tree(
 ) -> Result<BTreeMap<Text, Text>, MapError>
     requires table { TablePasses table.now }
     requires desc { DescPasses table.now desc.now }
-    ensures written { IfOk result (λ map. map_written table.now desc.now tree.now ≡ Ok map.entries) }
-    ensures refused { IfErr result (λ error. IfRefused error
+    ensures written { IfOk result
+        (λ map. map_written table.now desc.now tree.now ≡ Ok map.entries) }
+    ensures texts { IfOk result
+        (λ map. HoldsTexts table.now desc.now tree.now (map_values String map)) }
+    ensures told { IfErr result (λ error. IfRefused error
         (λ text. map_written table.now desc.now tree.now ≡ Err text)) }
-    ensures complete { IfErr result (λ error. IfRefused error (λ text.
+    ensures refused { IfErr result (λ error. IfRefused error (λ text.
         (entries : List TextEntry) → map_written table.now desc.now tree.now ≡ Ok entries → ⊥)) }
     ensures read_back { IsTextStruct table.now desc.now → Fits table.now desc.now tree.now
         → IfOk result (λ map. FlatDenotes table.now desc.now (map_values String map) tree.now) }
@@ -83,7 +87,8 @@ fn map_of(
 
 // The map of some entries of distinct names.
 fn collected(alloc: Global, entries: &[(&Text, &Text)]) -> Result<BTreeMap<Text, Text>, AllocError>
-    requires { AreDistinct (map entry_name (map (λ entry. (entry.0.now, entry.1.now)) entries.now)) }
+    requires { AreDistinct (map entry_name
+        (map (λ entry. (entry.0.now, entry.1.now)) entries.now)) }
     ensures { IfOk result (λ made. made.entries
         ≡ sorted_by entry_name (map (λ entry. (entry.0.now, entry.1.now)) entries.now)) }
 {

@@ -14,9 +14,9 @@ use descriptors::{Desc, DescTable, Tree};
 use std::alloc::Global;
 use typed_values::{DecodeError, FaultKind, Stop};
 
-/// Decodes a text, as a parameter or a form has it (OpenAPI 3.0.3, Parameter Object), under a scalar
-/// descriptor, an option of one or a reference to one: the tree that it denotes, or the fault that is told.
-/// Under any other descriptor a text is of another kind.
+/// Decodes a text, as a parameter or a form has it (OpenAPI 3.0.3, Parameter Object), under a
+/// scalar descriptor, an option of one or a reference to one: the tree that it denotes, or the fault
+/// that is told. Under any other descriptor a text is of another kind.
 pub fn decode_text(
     alloc: Global,
     table: &DescTable,

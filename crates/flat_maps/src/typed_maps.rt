@@ -5,6 +5,7 @@ ghost use Rattle.descriptors.specs.declared.tree.Tree.{Tree};
 ghost use Rattle.typed_values.specs.Checks.{TablePasses, DescPasses};
 ghost use Rattle.typed_values.specs.Fits.{Fits};
 ghost use Rattle.flat_maps.specs.FaultWords.{flat_refusal};
+ghost use Rattle.flat_maps.specs.FieldTexts.{HoldsTexts};
 ghost use Rattle.flat_maps.specs.Flat.{FlatDenotes};
 ghost use Rattle.flat_maps.specs.Given.{lowered};
 ghost use Rattle.flat_maps.specs.MapErrors.{IfRefused};
@@ -36,10 +37,10 @@ pub fn from_map<T: ApiType, Z: MapValue>(
     requires { HasOwnTable T.definitions_of T.desc_of }
     ensures value { IfOk result (λ value. FlatDenotes (own_table T.definitions_of) T.desc_of
         (map_values Z.given map.now) (T.tree_of value)) }
-    ensures refused { IfErr result (λ error. IfRefused error (λ text.
+    ensures told { IfErr result (λ error. IfRefused error (λ text.
         flat_refusal (own_table T.definitions_of) (map_values Z.given map.now) T.desc_of
         ≡ Some text)) }
-    ensures complete { IfErr result (λ error. IfRefused error (λ text. (tree : Tree)
+    ensures refused { IfErr result (λ error. IfRefused error (λ text. (tree : Tree)
         → FlatDenotes (own_table T.definitions_of) T.desc_of (map_values Z.given map.now) tree
         → ⊥)) }
 {
@@ -55,10 +56,10 @@ pub fn from_map_insensitive<T: ApiType, Z: MapValue>(
     requires { HasOwnTable T.definitions_of T.desc_of }
     ensures value { IfOk result (λ value. FlatDenotes (own_table T.definitions_of) T.desc_of
         (lowered (map_values Z.given map.now)) (T.tree_of value)) }
-    ensures refused { IfErr result (λ error. IfRefused error (λ text.
+    ensures told { IfErr result (λ error. IfRefused error (λ text.
         flat_refusal (own_table T.definitions_of) (lowered (map_values Z.given map.now)) T.desc_of
         ≡ Some text)) }
-    ensures complete { IfErr result (λ error. IfRefused error (λ text. (tree : Tree)
+    ensures refused { IfErr result (λ error. IfRefused error (λ text. (tree : Tree)
         → FlatDenotes (own_table T.definitions_of) T.desc_of (lowered (map_values Z.given map.now))
         tree
         → ⊥)) }
@@ -71,7 +72,7 @@ fn value_of<T: ApiType, L: LookUp>(alloc: Global, names: &L) -> Result<T, MapErr
     requires { HasOwnTable T.definitions_of T.desc_of }
     ensures value { IfOk result (λ value. FlatDenotes (own_table T.definitions_of) T.desc_of
         (L.names names.now) (T.tree_of value)) }
-    ensures refused { IfErr result (λ error. IfRefused error (λ text.
+    ensures told { IfErr result (λ error. IfRefused error (λ text.
         flat_refusal (own_table T.definitions_of) (L.names names.now) T.desc_of ≡ Some text)) }
 {
     let table = own_table::<T>(alloc)?;
@@ -91,7 +92,7 @@ fn decode_names<L: LookUp>(
     requires desc { DescPasses table.now desc.now }
     ensures denotes { IfOk result (FlatDenotes table.now desc.now (L.names names.now)) }
     ensures fits { IfOk result (Fits table.now desc.now) }
-    ensures refused { IfErr result (λ error. IfRefused error
+    ensures told { IfErr result (λ error. IfRefused error
         (λ text. flat_refusal table.now (L.names names.now) desc.now ≡ Some text)) }
 {
     match tree_of_names(alloc, table, desc, names) {
@@ -122,9 +123,11 @@ pub fn to_map<T: ApiType>(alloc: Global, input: &T) -> Result<BTreeMap<Text, Tex
     requires { HasOwnTable T.definitions_of T.desc_of }
     ensures written { IfOk result (λ map.
         map_written (own_table T.definitions_of) T.desc_of (T.tree_of input.now) ≡ Ok map.entries) }
-    ensures refused { IfErr result (λ error. IfRefused error (λ text.
+    ensures texts { IfOk result (λ map. HoldsTexts (own_table T.definitions_of) T.desc_of
+        (T.tree_of input.now) (map_values String map)) }
+    ensures told { IfErr result (λ error. IfRefused error (λ text.
         map_written (own_table T.definitions_of) T.desc_of (T.tree_of input.now) ≡ Err text)) }
-    ensures complete { IfErr result (λ error. IfRefused error (λ text. (entries : List TextEntry)
+    ensures refused { IfErr result (λ error. IfRefused error (λ text. (entries : List TextEntry)
         → map_written (own_table T.definitions_of) T.desc_of (T.tree_of input.now) ≡ Ok entries
         → ⊥)) }
     ensures read_back { IsTextStruct (own_table T.definitions_of) T.desc_of → IfOk result (λ map.

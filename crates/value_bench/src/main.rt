@@ -1,12 +1,14 @@
 //! Decodes a JSON body under a descriptor and encodes its tree again, or fills a store with so many
-//! keys as the body says and pages through it, to be measured.
+//! keys as the body says and pages through it, or decodes a query of so many pairs, to be measured.
 #![tactic(auto)]
 
 ghost use Rattle.schema_values.specs.Sound.{IsSound};
 
+mod pairs;
 mod stores;
 mod types;
 
+use crate::pairs::fields_met;
 use crate::stores::pairs_met;
 use crate::types::{definitions, descriptor};
 use schema_values::{Json, ReadError, Text};
@@ -29,14 +31,17 @@ enum Answer {
     NoDescriptor,
 }
 
-/// The number of pairs that are met in a store of so many keys.
-fn stored(alloc: Global, body: &[u8]) -> Result<Answer, AllocError> {
-    let keys = match Json::read(alloc, body) {
-        Ok(Json::Int(keys)) => u32::try_from(keys).unwrap_or(0),
-        Ok(_) | Err(ReadError::Unreadable) => 0,
-        Err(ReadError::OutOfMemory) => return Err(AllocError),
-    };
-    let met = pairs_met(alloc, keys)?;
+/// The number that a body is, or 0.
+fn count_of(alloc: Global, body: &[u8]) -> Result<u32, AllocError> {
+    match Json::read(alloc, body) {
+        Ok(Json::Int(count)) => Ok(u32::try_from(count).unwrap_or(0)),
+        Ok(_) | Err(ReadError::Unreadable) => Ok(0),
+        Err(ReadError::OutOfMemory) => Err(AllocError),
+    }
+}
+
+/// How many were met, as an answer.
+fn counted(alloc: Global, met: usize) -> Result<Answer, AllocError> {
     Ok(Answer::Written(Json::Int(met as i128).compact(alloc)?))
 }
 
@@ -58,7 +63,10 @@ fn decoded(alloc: Global, table: &DescTable, desc: &Desc, json: &Json) -> Result
 
 fn answered(alloc: Global, word: &str, body: &[u8]) -> Result<Answer, AllocError> {
     if word == "store" {
-        return stored(alloc, body);
+        return counted(alloc, pairs_met(alloc, count_of(alloc, body)?)?);
+    }
+    if word == "pairs" {
+        return counted(alloc, fields_met(alloc, count_of(alloc, body)?)?);
     }
     let table = definitions(alloc)?;
     let Some(desc) = descriptor(alloc, word)? else {
@@ -93,7 +101,7 @@ fn tell(rt: &HostRuntime, answer: &Answer) -> io::Result<u8> {
             Ok(1)
         }
         Answer::NoDescriptor => {
-            eprintln!(rt; "value_bench list|folder|store")?;
+            eprintln!(rt; "value_bench list|folder|store|pairs")?;
             Ok(2)
         }
     }

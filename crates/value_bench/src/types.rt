@@ -3,7 +3,8 @@ use schema_values::{Boxed, List, Text};
 use std::alloc::{AllocError, Global};
 use typed_values::{Desc, DescTable, Field, IntKind, Presence};
 
-fn text() -> Desc {
+/// A text of any length.
+pub fn text() -> Desc {
     Desc::Text {
         min: None,
         max: None,
