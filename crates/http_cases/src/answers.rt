@@ -2,7 +2,7 @@
 use crate::bodies::{body_told, dump_told};
 use crate::error_bodies::error_body_told;
 use crate::errors::{constants_told, error_told, request_id_told};
-use crate::header_lists::headers_told;
+use crate::line_lists::headers_told;
 use crate::maps::{map_read, map_read_without_case, map_written, tree_map_written};
 use crate::page_types::page_type_told;
 use crate::pages::{long_page_told, page_told};

@@ -1,5 +1,6 @@
-//! Calls on bodies. A body is `"empty"`, `{"content": TEXT}`, or `{"frames": [F..]}`, with `"failing"`, the numbers of
-//! the calls that fail, where some do. A frame is a text, or `{"trailers": LINES}`.
+//! Calls on bodies. A body is `"empty"`, `{"content": TEXT}`, or `{"frames": [F..]}`, with
+//! `"failing"`, the numbers of the calls that fail, where some do. A frame is a text, or
+//! `{"trailers": LINES}`.
 use crate::lines::{bytes_noted, lines_noted, lines_of};
 use case_notation::{CaseError, form, given, items_of, number_of, text_of, word};
 use http_status::{Body, DumpError, Frame, FrameError, MemoryFrames, SafeFrames, http_dump_body};

@@ -1,11 +1,12 @@
-//! Cases of what requests and replies are made of: each line of the input is one, and is answered with one line.
+//! Cases of what requests and replies are made of: each line of the input is one, and is answered
+//! with one line.
 #![tactic(auto)]
 
 mod answers;
 mod bodies;
 mod error_bodies;
 mod errors;
-mod header_lists;
+mod line_lists;
 mod lines;
 mod maps;
 mod named_types;

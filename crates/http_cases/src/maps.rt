@@ -16,7 +16,8 @@ use std::collections::BTreeMap;
 use type_wire::json_value;
 use typed_values::{Tree, fits};
 
-/// The tree of the value that the map of a case is read as, of the type of the case, or what it is refused as.
+/// The tree of the value that the map of a case is read as, of the type of the case, or what it is
+/// refused as.
 pub fn map_read(alloc: Global, case: &Json) -> Result<Json, CaseError> {
     let map = map_of(alloc, given(case, "map")?)?;
     match text_of(given(case, "type")?)?.as_str() {
@@ -32,7 +33,8 @@ pub fn map_read(alloc: Global, case: &Json) -> Result<Json, CaseError> {
     }
 }
 
-/// The same of a map whose names are in lower case, and compared with those of fields in lower case.
+/// The same of a map whose names are in lower case, and compared with those of fields in lower
+/// case.
 pub fn map_read_without_case(alloc: Global, case: &Json) -> Result<Json, CaseError> {
     let map = map_of(alloc, given(case, "map")?)?;
     match text_of(given(case, "type")?)?.as_str() {
@@ -68,7 +70,8 @@ fn refused(alloc: Global, error: MapError) -> Result<Json, CaseError> {
     }
 }
 
-/// The map of the value that the JSON of a case denotes, of the type of the case, or what it is refused as.
+/// The map of the value that the JSON of a case denotes, of the type of the case, or what it is
+/// refused as.
 pub fn map_written(alloc: Global, case: &Json) -> Result<Json, CaseError> {
     let json = given(case, "json")?;
     match text_of(given(case, "type")?)?.as_str() {

@@ -1,5 +1,5 @@
-//! Calls on ranges of versions, and on the version that a request asks for. A range is a list of its first version and
-//! of that which it ends before, where null is none.
+//! Calls on ranges of versions, and on the version that a request asks for. A range is a list of its
+//! first version and of that which it ends before, where null is none.
 use crate::lines::{lines_of, name_of};
 use api_versions::{
     ApiEndpointVersions, ClientSpecifiesVersionInHeader, DynamicVersionPolicy, VersionPolicy,
@@ -64,8 +64,8 @@ fn version_of(alloc: Global, text: &Text) -> Result<Version, CaseError> {
         .ok_or(CaseError::Expected("a version"))
 }
 
-/// The version that a request with the lines of a case asks for, by the header of the case, or what it is refused as.
-/// Where the case has no header, versions are not looked at.
+/// The version that a request with the lines of a case asks for, by the header of the case, or what
+/// it is refused as. Where the case has no header, versions are not looked at.
 pub fn request_version_told(alloc: Global, case: &Json) -> Result<Json, CaseError> {
     let lines = lines_of(alloc, given(case, "lines")?)?;
     if case.get("header").is_none() {

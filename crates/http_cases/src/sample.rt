@@ -39,9 +39,30 @@ impl ApiStruct for Sample {
 
     ghost struct_name = { codes "Sample" };
 
-    ghost head_of = { struct_of (required (codes "astring") ∷ required (codes "au32") ∷ required (codes "ai16") ∷ required (codes "abool") ∷ nullable (codes "aoption") ∷ required (codes "anew") ∷ required (codes "bstring") ∷ nullable (codes "boption") ∷ []) };
+    ghost head_of = { struct_of (
+        required (codes "astring")
+        ∷ required (codes "au32")
+        ∷ required (codes "ai16")
+        ∷ required (codes "abool")
+        ∷ nullable (codes "aoption")
+        ∷ required (codes "anew")
+        ∷ required (codes "bstring")
+        ∷ nullable (codes "boption")
+        ∷ []) };
 
-    ghost fields_of = { λ value. (value.astring, (value.au32, (value.ai16, (value.abool, (value.aoption, (value.anew, (value.bstring, (value.boption, tt)))))))) };
+    ghost fields_of = { λ value. (
+      value.astring,
+      (
+        value.au32,
+        (
+          value.ai16,
+          (
+            value.abool,
+            (value.aoption, (value.anew, (value.bstring, (value.boption, tt)))),
+          ),
+        ),
+      ),
+    ) };
 
     fn name() -> &'static str {
         "Sample"
