@@ -21,13 +21,13 @@ pub fn body_told(alloc: Global, case: &Json) -> Result<Json, CaseError> {
 pub fn dump_told(alloc: Global, case: &Json) -> Result<Json, CaseError> {
     let mut body = body_of(alloc, given(case, "body")?)?;
     match u32::try_from(number_of(given(case, "budget")?)?) {
-        Ok(budget) => dumped(alloc, &mut body, budget.into()),
+        Ok(budget) => dumped(alloc, &mut body, budget),
         Err(_) => Err(CaseError::Expected("a budget of 32 bits")),
     }
 }
 
-fn dumped(alloc: Global, body: &mut Body, budget: u64) -> Result<Json, CaseError> {
-    match http_dump_body(alloc, body, budget) {
+fn dumped(alloc: Global, body: &mut Body, budget: u32) -> Result<Json, CaseError> {
+    match http_dump_body(alloc, body, u64::from(budget)) {
         Ok(count) => Ok(Json::Int(count.into())),
         Err(DumpError::Failed) => Ok(word(alloc, "failed")?),
         Err(DumpError::FrameBudget) => Ok(word(alloc, "frame budget")?),

@@ -44,17 +44,36 @@ fn made(alloc: Global, noted: &[Json]) -> Result<HttpError, CaseError> {
             code,
             Json::Int(status),
             Json::Text(message),
-        ] if kind.equals_str("client") => {
-            let code = maybe_text(alloc, Some(code))?;
-            let status = client_status(*status)?;
-            Ok(HttpError::for_client_error(alloc, code, status, message.copy(alloc)?)?)
-        }
+        ] if kind.equals_str("client") => { client_error(alloc, code, *status, message) }
         [Json::Text(kind), code, Json::Int(status)] if kind.equals_str("client_with_status") => {
-            let code = maybe_text(alloc, Some(code))?;
-            let status = client_status(*status)?;
-            Ok(HttpError::for_client_error_with_status(alloc, code, status)?)
+            client_error_with_status(alloc, code, *status)
         }
         _ => Err(CaseError::Expected("how an error is made")),
+    }
+}
+
+fn client_error(
+    alloc: Global,
+    code: &Json,
+    status: i128,
+    message: &Text,
+) -> Result<HttpError, CaseError> {
+    let code = maybe_text(alloc, Some(code))?;
+    match client_status(status) {
+        Some(status) => Ok(HttpError::for_client_error(alloc, code, status, message.copy(alloc)?)?),
+        None => Err(CaseError::Expected("a status from 400 to 499")),
+    }
+}
+
+fn client_error_with_status(
+    alloc: Global,
+    code: &Json,
+    status: i128,
+) -> Result<HttpError, CaseError> {
+    let code = maybe_text(alloc, Some(code))?;
+    match client_status(status) {
+        Some(status) => Ok(HttpError::for_client_error_with_status(alloc, code, status)?),
+        None => Err(CaseError::Expected("a status from 400 to 499")),
     }
 }
 
@@ -73,11 +92,9 @@ fn made_with(
     }
 }
 
-fn client_status(number: i128) -> Result<ClientErrorStatusCode, CaseError> {
-    u16::try_from(number)
-        .ok()
-        .and_then(|number| ClientErrorStatusCode::from_u16(number).ok())
-        .ok_or(CaseError::Expected("a status from 400 to 499"))
+fn client_status(number: i128) -> Option<ClientErrorStatusCode> {
+    let number = u16::try_from(number).ok()?;
+    ClientErrorStatusCode::from_u16(number).ok()
 }
 
 // The error with one step more, or what the step is refused as.

@@ -21,14 +21,14 @@ use typed_values::{Tree, fits};
 pub fn map_read(alloc: Global, case: &Json) -> Result<Json, CaseError> {
     let map = map_of(alloc, given(case, "map")?)?;
     match text_of(given(case, "type")?)?.as_str() {
-        "Sample" => read_told(alloc, from_map::<Sample, VariableValue>(alloc, &map)),
-        "Names" => read_told(alloc, from_map::<Names, VariableValue>(alloc, &map)),
-        "Marked" => read_told(alloc, from_map::<Marked, VariableValue>(alloc, &map)),
-        "Holder" => read_told(alloc, from_map::<Holder, VariableValue>(alloc, &map)),
-        "Point" => read_told(alloc, from_map::<Point, VariableValue>(alloc, &map)),
-        "Pin" => read_told(alloc, from_map::<Pin, VariableValue>(alloc, &map)),
-        "Folder" => read_told(alloc, from_map::<Folder, VariableValue>(alloc, &map)),
-        "String" => read_told(alloc, from_map::<Text, VariableValue>(alloc, &map)),
+        "Sample" => read_as::<Sample>(alloc, &map),
+        "Names" => read_as::<Names>(alloc, &map),
+        "Marked" => read_as::<Marked>(alloc, &map),
+        "Holder" => read_as::<Holder>(alloc, &map),
+        "Point" => read_as::<Point>(alloc, &map),
+        "Pin" => read_as::<Pin>(alloc, &map),
+        "Folder" => read_as::<Folder>(alloc, &map),
+        "String" => read_as::<Text>(alloc, &map),
         _ => Err(CaseError::Expected("the name of a type")),
     }
 }
@@ -38,21 +38,30 @@ pub fn map_read(alloc: Global, case: &Json) -> Result<Json, CaseError> {
 pub fn map_read_without_case(alloc: Global, case: &Json) -> Result<Json, CaseError> {
     let map = map_of(alloc, given(case, "map")?)?;
     match text_of(given(case, "type")?)?.as_str() {
-        "Sample" => read_told(
-            alloc,
-            from_map_insensitive::<Sample, VariableValue>(alloc, &map),
-        ),
-        "Marked" => read_told(
-            alloc,
-            from_map_insensitive::<Marked, VariableValue>(alloc, &map),
-        ),
-        "Array_of_String" => {
-            read_told(
-                alloc,
-                from_map_insensitive::<List<Text>, VariableValue>(alloc, &map),
-            )
-        }
+        "Sample" => read_lowered::<Sample>(alloc, &map),
+        "Marked" => read_lowered::<Marked>(alloc, &map),
+        "Array_of_String" => { read_lowered::<List<Text>>(alloc, &map) }
         _ => Err(CaseError::Expected("the name of a type")),
+    }
+}
+
+fn read_as<T: ApiType>(
+    alloc: Global,
+    map: &BTreeMap<Text, VariableValue>,
+) -> Result<Json, CaseError> {
+    match table_of::<T>(alloc) {
+        Ok(_) => read_told(alloc, from_map::<T, VariableValue>(alloc, map)),
+        Err(_) => Err(CaseError::Expected("a type that passes its checks")),
+    }
+}
+
+fn read_lowered<T: ApiType>(
+    alloc: Global,
+    map: &BTreeMap<Text, VariableValue>,
+) -> Result<Json, CaseError> {
+    match table_of::<T>(alloc) {
+        Ok(_) => read_told(alloc, from_map_insensitive::<T, VariableValue>(alloc, map)),
+        Err(_) => Err(CaseError::Expected("a type that passes its checks")),
     }
 }
 

@@ -15,6 +15,9 @@ pub fn page_told(alloc: Global, case: &Json) -> Result<Json, CaseError> {
     for item in items_of(given(case, "items")?)? {
         items.push(natural(item)?)?;
     }
+    let Ok(_) = table_of::<Previous>(alloc) else {
+        return Err(CaseError::Expected("a type that passes its checks"));
+    };
     let page = ResultsPage::new(alloc, items, &scan, |_: Global, last: &u64, scan: &u64| {
         previous(*last, *scan)
     });
@@ -87,6 +90,9 @@ pub fn long_page_told(alloc: Global, case: &Json) -> Result<Json, CaseError> {
     let letters = letters_of(alloc, number_of(given(case, "length")?)?)?;
     let mut items = List::new(alloc);
     items.push(true)?;
+    let Ok(_) = table_of::<Start>(alloc) else {
+        return Err(CaseError::Expected("a type that passes its checks"));
+    };
     let page = ResultsPage::new(
         alloc,
         items,
