@@ -1,0 +1,97 @@
+//! Calls on bodies. A body is `"empty"`, `{"content": TEXT}`, or `{"frames": [F..]}`, with
+//! `"failing"`, the numbers of the calls that fail, where some do. A frame is a text, or
+//! `{"trailers": LINES}`.
+use crate::lines::{bytes_noted, lines_noted, lines_of};
+use case_notation::{CaseError, form, given, items_of, number_of, text_of, word};
+use http_status::{Body, DumpError, Frame, FrameError, MemoryFrames, SafeFrames, http_dump_body};
+use schema_values::{Json, List, Text};
+use std::alloc::Global;
+
+/// What each of so many calls of the body of a case gives.
+pub fn body_told(alloc: Global, case: &Json) -> Result<Json, CaseError> {
+    let mut body = body_of(alloc, given(case, "body")?)?;
+    let mut answers = List::new(alloc);
+    for _ in 0..number_of(given(case, "calls")?)? {
+        answers.push(frame_told(alloc, body.next_frame(alloc))?)?;
+    }
+    Ok(Json::List(answers))
+}
+
+/// What dropping the body of a case within the budget of the case tells.
+pub fn dump_told(alloc: Global, case: &Json) -> Result<Json, CaseError> {
+    let mut body = body_of(alloc, given(case, "body")?)?;
+    match u32::try_from(number_of(given(case, "budget")?)?) {
+        Ok(budget) => dumped(alloc, &mut body, budget),
+        Err(_) => Err(CaseError::Expected("a budget of 32 bits")),
+    }
+}
+
+fn dumped(alloc: Global, body: &mut Body, budget: u32) -> Result<Json, CaseError> {
+    match http_dump_body(alloc, body, u64::from(budget)) {
+        Ok(count) => Ok(Json::Int(count.into())),
+        Err(DumpError::Failed) => Ok(word(alloc, "failed")?),
+        Err(DumpError::FrameBudget) => Ok(word(alloc, "frame budget")?),
+        Err(DumpError::OutOfMemory) => Err(CaseError::OutOfMemory),
+    }
+}
+
+fn frame_told(alloc: Global, answer: Result<Option<Frame>, FrameError>) -> Result<Json, CaseError> {
+    match answer {
+        Ok(Some(Frame::Bytes(bytes))) => {
+            Ok(form(alloc, "bytes", bytes_noted(alloc, bytes.as_slice())?)?)
+        }
+        Ok(Some(Frame::Trailers(lines))) => {
+            Ok(form(alloc, "trailers", lines_noted(alloc, &lines)?)?)
+        }
+        Ok(None) => Ok(word(alloc, "end")?),
+        Err(FrameError::Failed) => Ok(word(alloc, "failed")?),
+        Err(FrameError::OutOfMemory) => Err(CaseError::OutOfMemory),
+    }
+}
+
+fn body_of(alloc: Global, noted: &Json) -> Result<Body, CaseError> {
+    if let Some(content) = noted.get("content") {
+        return Ok(Body::with_content(bytes_of(alloc, text_of(content)?)?));
+    }
+    let Some(frames) = noted.get("frames") else {
+        return Ok(Body::empty());
+    };
+    let frames = frames_of(alloc, items_of(frames)?)?;
+    match noted.get("failing") {
+        Some(calls) => Ok(Body::with_faults(MemoryFrames::new(
+            frames,
+            calls_of(alloc, items_of(calls)?)?,
+        ))),
+        None => Ok(Body::with_frames(SafeFrames::new(frames))),
+    }
+}
+
+fn bytes_of(alloc: Global, text: &Text) -> Result<List<u8>, CaseError> {
+    Ok(List::from_bytes(alloc, text.as_bytes())?)
+}
+
+fn frames_of(alloc: Global, noted: &[Json]) -> Result<List<Frame>, CaseError> {
+    let mut frames = List::new(alloc);
+    for frame in noted {
+        frames.push(frame_of(alloc, frame)?)?;
+    }
+    Ok(frames)
+}
+
+fn frame_of(alloc: Global, noted: &Json) -> Result<Frame, CaseError> {
+    match noted {
+        Json::Text(text) => Ok(Frame::Bytes(bytes_of(alloc, text)?)),
+        _ => Ok(Frame::Trailers(lines_of(alloc, given(noted, "trailers")?)?)),
+    }
+}
+
+fn calls_of(alloc: Global, noted: &[Json]) -> Result<List<u64>, CaseError> {
+    let mut calls = List::new(alloc);
+    for call in noted {
+        match u64::try_from(number_of(call)?) {
+            Ok(call) => calls.push(call)?,
+            Err(_) => return Err(CaseError::Expected("the number of a call")),
+        }
+    }
+    Ok(calls)
+}

@@ -1,0 +1,73 @@
+//! Calls on lists of header lines. A step is a list: its name, and what it takes.
+use crate::lines::{lines_noted, lines_of, name_of, value_noted, value_of};
+use case_notation::{CaseError, given, items_of, word};
+use http_header::HeaderValue;
+use http_status::HeaderList;
+use schema_values::{Json, List, Text};
+use std::alloc::Global;
+
+/// What each of the steps of a case answers, from the lines of the case on.
+pub fn headers_told(alloc: Global, case: &Json) -> Result<Json, CaseError> {
+    let mut lines = lines_of(alloc, given(case, "lines")?)?;
+    let mut answers = List::new(alloc);
+    for step in items_of(given(case, "steps")?)? {
+        answers.push(step_told(alloc, &mut lines, items_of(step)?)?)?;
+    }
+    Ok(Json::List(answers))
+}
+
+fn step_told(alloc: Global, lines: &mut HeaderList, step: &[Json]) -> Result<Json, CaseError> {
+    match step {
+        [Json::Text(step)] if step.equals_str("copy") => {
+            *lines = lines.copy(alloc)?;
+            lines_noted(alloc, lines)
+        }
+        [Json::Text(step), Json::List(others)] if step.equals_str("extend") => {
+            lines.extend(lines_of(alloc, &Json::List(others.copy(alloc)?))?)?;
+            lines_noted(alloc, lines)
+        }
+        [Json::Text(step), Json::Text(name)] => {
+            value_told(alloc, looked_up(lines, step.as_str(), name)?)
+        }
+        [Json::Text(step), Json::Text(name), Json::Text(value)] => {
+            change(alloc, lines, step.as_str(), name, value)?;
+            lines_noted(alloc, lines)
+        }
+        _ => Err(CaseError::Expected("a step")),
+    }
+}
+
+fn looked_up<'a>(
+    lines: &'a HeaderList,
+    step: &str,
+    name: &Text,
+) -> Result<Option<&'a HeaderValue>, CaseError> {
+    match step {
+        "first" => Ok(lines.first(name.as_str())),
+        "last" => Ok(lines.last(name.as_str())),
+        _ => Err(CaseError::Expected("a step at a name")),
+    }
+}
+
+fn value_told(alloc: Global, value: Option<&HeaderValue>) -> Result<Json, CaseError> {
+    match value {
+        Some(value) => value_noted(alloc, value),
+        None => Ok(word(alloc, "absent")?),
+    }
+}
+
+fn change(
+    alloc: Global,
+    lines: &mut HeaderList,
+    step: &str,
+    name: &Text,
+    value: &Text,
+) -> Result<(), CaseError> {
+    let (name, value) = (name_of(alloc, name)?, value_of(alloc, value)?);
+    match step {
+        "append" => lines.append(name, value)?,
+        "insert" => lines.insert(name, value)?,
+        _ => return Err(CaseError::Expected("a step with a line")),
+    }
+    Ok(())
+}

@@ -1,0 +1,59 @@
+//! Header lines as cases note them: a list of pairs of a name and the text of a value.
+use case_notation::{CaseError, items_of, pair, word};
+use http_header::{HeaderName, HeaderValue};
+use http_status::HeaderList;
+use schema_values::{Json, List, Text};
+use std::alloc::Global;
+use std::str;
+
+/// The lines that are noted, in order.
+pub fn lines_of(alloc: Global, noted: &Json) -> Result<HeaderList, CaseError> {
+    let mut lines = HeaderList::new(alloc);
+    for line in items_of(noted)? {
+        let [Json::Text(name), Json::Text(value)] = items_of(line)? else {
+            return Err(CaseError::Expected("a name and a value"));
+        };
+        lines.append(name_of(alloc, name)?, value_of(alloc, value)?)?;
+    }
+    Ok(lines)
+}
+
+/// The name of a line.
+pub fn name_of(alloc: Global, text: &Text) -> Result<HeaderName, CaseError> {
+    HeaderName::from_bytes(alloc, text.as_bytes())
+        .ok()
+        .ok_or(CaseError::Expected("the name of a header"))
+}
+
+/// The value of a line.
+pub fn value_of(alloc: Global, text: &Text) -> Result<HeaderValue, CaseError> {
+    HeaderValue::from_bytes(alloc, text.as_bytes())
+        .ok()
+        .ok_or(CaseError::Expected("the value of a header"))
+}
+
+/// How lines are noted.
+pub fn lines_noted(alloc: Global, lines: &HeaderList) -> Result<Json, CaseError> {
+    let mut noted = List::new(alloc);
+    for (name, value) in lines.lines() {
+        noted.push(pair(
+            alloc,
+            word(alloc, name.as_str())?,
+            value_noted(alloc, value)?,
+        )?)?;
+    }
+    Ok(Json::List(noted))
+}
+
+/// How the value of a line is noted.
+pub fn value_noted(alloc: Global, value: &HeaderValue) -> Result<Json, CaseError> {
+    bytes_noted(alloc, value.as_bytes())
+}
+
+/// The text of bytes.
+pub fn bytes_noted(alloc: Global, bytes: &[u8]) -> Result<Json, CaseError> {
+    match str::from_utf8(bytes) {
+        Ok(text) => Ok(word(alloc, text)?),
+        Err(_) => Err(CaseError::Expected("bytes of a text")),
+    }
+}

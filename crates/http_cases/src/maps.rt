@@ -1,0 +1,142 @@
+//! Calls that read values of types from maps of texts, and write them as such.
+ghost use Rattle.api_types.specs.Types.{IsTableOf};
+ghost use Rattle.typed_values.specs.Checks.{TablePasses, DescPasses};
+
+use crate::named_types::{Holder, Marked, Names, Texts};
+use crate::sample::Sample;
+use api_types::{ApiType, table_of};
+use case_notation::{
+    CaseError, Scope, form, given, map_of, pair, scope_of, text_of, tree_noted, tree_of,
+};
+use flat_maps::{MapError, from_map, from_map_insensitive, to_map, to_map_tree};
+use own_types::{Folder, Pin, Point};
+use schema_values::{Json, List, Text, VariableValue};
+use std::alloc::Global;
+use std::collections::BTreeMap;
+use type_wire::json_value;
+use typed_values::{Tree, fits};
+
+/// The tree of the value that the map of a case is read as, of the type of the case, or what it is
+/// refused as.
+pub fn map_read(alloc: Global, case: &Json) -> Result<Json, CaseError> {
+    let map = map_of(alloc, given(case, "map")?)?;
+    match text_of(given(case, "type")?)?.as_str() {
+        "Sample" => read_as::<Sample>(alloc, &map),
+        "Names" => read_as::<Names>(alloc, &map),
+        "Marked" => read_as::<Marked>(alloc, &map),
+        "Holder" => read_as::<Holder>(alloc, &map),
+        "Point" => read_as::<Point>(alloc, &map),
+        "Pin" => read_as::<Pin>(alloc, &map),
+        "Folder" => read_as::<Folder>(alloc, &map),
+        "String" => read_as::<Text>(alloc, &map),
+        _ => Err(CaseError::Expected("the name of a type")),
+    }
+}
+
+/// The same of a map whose names are in lower case, and compared with those of fields in lower
+/// case.
+pub fn map_read_without_case(alloc: Global, case: &Json) -> Result<Json, CaseError> {
+    let map = map_of(alloc, given(case, "map")?)?;
+    match text_of(given(case, "type")?)?.as_str() {
+        "Sample" => read_lowered::<Sample>(alloc, &map),
+        "Marked" => read_lowered::<Marked>(alloc, &map),
+        "Array_of_String" => { read_lowered::<List<Text>>(alloc, &map) }
+        _ => Err(CaseError::Expected("the name of a type")),
+    }
+}
+
+fn read_as<T: ApiType>(
+    alloc: Global,
+    map: &BTreeMap<Text, VariableValue>,
+) -> Result<Json, CaseError> {
+    match table_of::<T>(alloc) {
+        Ok(_) => read_told(alloc, from_map::<T, VariableValue>(alloc, map)),
+        Err(_) => Err(CaseError::Expected("a type that passes its checks")),
+    }
+}
+
+fn read_lowered<T: ApiType>(
+    alloc: Global,
+    map: &BTreeMap<Text, VariableValue>,
+) -> Result<Json, CaseError> {
+    match table_of::<T>(alloc) {
+        Ok(_) => read_told(alloc, from_map_insensitive::<T, VariableValue>(alloc, map)),
+        Err(_) => Err(CaseError::Expected("a type that passes its checks")),
+    }
+}
+
+fn read_told<T: ApiType>(alloc: Global, answer: Result<T, MapError>) -> Result<Json, CaseError> {
+    match answer {
+        Ok(value) => Ok(form(alloc, "tree", tree_noted(alloc, &value.to_tree(alloc)?)?)?),
+        Err(error) => refused(alloc, error),
+    }
+}
+
+fn refused(alloc: Global, error: MapError) -> Result<Json, CaseError> {
+    match error {
+        MapError::Refused(text) => Ok(form(alloc, "refused", Json::Text(text))?),
+        MapError::OutOfMemory => Err(CaseError::OutOfMemory),
+    }
+}
+
+/// The map of the value that the JSON of a case denotes, of the type of the case, or what it is
+/// refused as.
+pub fn map_written(alloc: Global, case: &Json) -> Result<Json, CaseError> {
+    let json = given(case, "json")?;
+    match text_of(given(case, "type")?)?.as_str() {
+        "Texts" => written::<Texts>(alloc, json),
+        "Names" => written::<Names>(alloc, json),
+        "Sample" => written::<Sample>(alloc, json),
+        "Array_of_String" => written::<List<Text>>(alloc, json),
+        "String" => written::<Text>(alloc, json),
+        _ => Err(CaseError::Expected("the name of a type")),
+    }
+}
+
+fn written<T: ApiType>(alloc: Global, json: &Json) -> Result<Json, CaseError> {
+    let Ok(table) = table_of::<T>(alloc) else {
+        return Err(CaseError::Expected("a type that passes its checks"));
+    };
+    if !json.sound() {
+        return Err(CaseError::Expected("a sound value"));
+    }
+    match json_value::<T>(alloc, &table, json) {
+        Ok(value) => map_told(alloc, to_map(alloc, &value)),
+        Err(_) => Err(CaseError::Expected("a value of the type")),
+    }
+}
+
+/// The map of the tree of a case, under its descriptor, or what it is refused as.
+pub fn tree_map_written(alloc: Global, case: &Json) -> Result<Json, CaseError> {
+    let tree = tree_of(alloc, given(case, "tree")?)?;
+    tree_written(alloc, &scope_of(alloc, case)?, &tree)
+}
+
+fn tree_written(alloc: Global, scope: &Scope, tree: &Tree) -> Result<Json, CaseError>
+    requires table { TablePasses scope.now.table }
+    requires desc { DescPasses scope.now.table scope.now.desc }
+{
+    if !fits(&scope.table, &scope.desc, tree) {
+        return Err(CaseError::Expected("a tree that fits"));
+    }
+    map_told(alloc, to_map_tree(alloc, &scope.table, &scope.desc, tree))
+}
+
+fn map_told(
+    alloc: Global,
+    answer: Result<BTreeMap<Text, Text>, MapError>,
+) -> Result<Json, CaseError> {
+    match answer {
+        Ok(map) => Ok(form(alloc, "map", entries_noted(alloc, &map)?)?),
+        Err(error) => refused(alloc, error),
+    }
+}
+
+fn entries_noted(alloc: Global, map: &BTreeMap<Text, Text>) -> Result<Json, CaseError> {
+    let mut noted = List::new(alloc);
+    for (name, text) in map.iter() {
+        let name = Json::Text(name.copy(alloc)?);
+        noted.push(pair(alloc, name, Json::Text(text.copy(alloc)?))?)?;
+    }
+    Ok(Json::List(noted))
+}
