@@ -1,0 +1,6 @@
+mod FirstAbove
+mod Gathering
+mod Outcomes
+mod Passing
+mod Reading
+mod Taking

@@ -2,7 +2,7 @@
 ghost use Rattle.std.specs.Prelude.{◌≡◌, ◌+◌, ◌<◌, ◌≤◌, ◌↔◌, ◌⊎◌, [], ◌∷◌, true, false, drop};
 ghost use Rattle.std.specs.Prelude.{if◌then◌else◌, nat_lt, length, IfOk, IfSome};
 ghost use Rattle.std.specs.Prelude.{IsErrOf, IsErr, OnErr, OnOk, is_err};
-ghost use Rattle.http_bodies.specs.Bodies.{frames_of, never_failing, state_of};
+ghost use Rattle.http_bodies.specs.Bodies.{faults_of, frames_of, never_failing, state_of};
 ghost use Rattle.http_bodies.specs.Frames.{content_frames};
 ghost use Rattle.http_bodies.specs.Sources.{GoesOn, HasFailed};
 ghost use Rattle.http_bodies.specs.declared.frame.Frame.TheVariants.{Bytes};
@@ -100,7 +100,7 @@ impl StreamingBody {
         ensures fault { IsErrOf result stream_fault
             → HasFailed (state_of self.old.body) (state_of self.new.body) }
         ensures counts { ¬ IsErrOf result stream_fault → ¬ IsErrOf result StreamRefusal.OutOfMemory
-            → (state_of self.new.body).faults ≡ (state_of self.old.body).faults }
+            → faults_of self.new.body ≡ faults_of self.old.body }
         ensures goes_on { GoesOn (state_of self.old.body) (state_of self.new.body) }
 
         // An error closes the reader, and a closed one stays as it is.
@@ -134,7 +134,7 @@ impl StreamingBody {
         ensures fault { IsErrOf result BodyFlaw.Fault
             → HasFailed (state_of self.old.body) (state_of self.new.body) }
         ensures counts { ¬ IsErrOf result BodyFlaw.Fault
-            → (state_of self.new.body).faults ≡ (state_of self.old.body).faults }
+            → faults_of self.new.body ≡ faults_of self.old.body }
         ensures goes_on { GoesOn (state_of self.old.body) (state_of self.new.body) }
         ensures open { self.new.closed ≡ self.old.closed }
         ensures limits { SameLimits self.old self.new }
@@ -162,6 +162,7 @@ impl StreamingBody {
             (Bytes content ∷ []) }
         ensures given { IfOk result (λ next. next ≡ Some content) }
         ensures counted { OnOk result (self.new ≡ with_content self.old content) }
+        ensures within { OnOk result (self.new.frames ≤ self.new.budget) }
         ensures kept { OnErr result (self.new ≡ self.old) }
     {
         let Some(sum) = sum_within(self.cap, self.sum, content.len()) else {
@@ -185,7 +186,7 @@ impl StreamingBody {
         ensures fault { result ≡ stream_fault → (flaw ≡ BodyFlaw.Fault)
             ⊎ HasFailed (state_of self.old.body) (state_of self.new.body) }
         ensures counts { ¬ (result ≡ stream_fault) → ¬ (result ≡ StreamRefusal.OutOfMemory)
-            → (state_of self.new.body).faults ≡ (state_of self.old.body).faults }
+            → faults_of self.new.body ≡ faults_of self.old.body }
         ensures goes_on { GoesOn (state_of self.old.body) (state_of self.new.body) }
         ensures closed { self.new ≡ closed_stream self.old self.new.body }
     {

@@ -1,0 +1,167 @@
+-- Trailers that are passed over, and what comes behind them.
+use Rattle.std.proofs.Common.{◌≡◌, ℕ, ◌+◌, ◌-◌, ◌<◌, ◌≤◌, zero, suc, List, [], ◌∷◌, ◌++◌, length, drop, take}
+use Rattle.std.proofs.Common.{arith, sym, ◌∙◌, ap, refl, subst, Bool, true, false, append_assoc}
+use Rattle.std.specs.Prelude.{Option, Some, None, Result, Ok, Err, nat_lt, if◌then◌else◌}
+use Rattle.std.proofs.lemmas.Bool.Decides.{nat_tests}
+use Rattle.std.proofs.lemmas.List.{length-append}
+use Rattle.header_lists.specs.HeaderLists.{Line}
+use Rattle.http_bodies.proofs.CallerLemmas.{all_data-more}
+use Rattle.http_bodies.specs.declared.frame.Frame.{Frame}
+use Rattle.http_bodies.specs.declared.frame.Frame.TheVariants.{Bytes, Trailers}
+use Rattle.http_bodies.specs.Bodies.{BodyState, can_fail_of, faults_of, frames_of, state_of}
+use Rattle.http_bodies.specs.Frames.{all_data, data_of}
+use Rattle.body_reading.specs.declared.flaw.BodyFlaw.{BodyFlaw}
+use Rattle.body_reading.specs.declared.flaw.BodyFlaw.TheVariants as flaw
+use Rattle.body_reading.specs.Streams.{Advances, InOrder, SameLimits, StreamState, contents, next_in, next_of, room_of, with_content}
+
+-- as many frames as may yet come, and one more, tell what comes next
+pub first_enough : (cap sum room : ℕ) (frames : List Frame)
+    → next_in cap sum room (take (suc room) frames) ≡ next_in cap sum room frames
+first_enough cap sum room [] = refl
+first_enough cap sum room ((Bytes content) ∷ fs) = refl
+first_enough cap sum zero ((Trailers lines) ∷ fs) = refl
+first_enough cap sum (suc room) ((Trailers lines) ∷ fs) =
+    let some : nat_lt 0 (suc room) ≡ true = grind (arith, nat_tests) in
+    let less : suc room - 1 ≡ room = omega arith in
+    rw (some, less) (first_enough cap sum room fs)
+
+-- what comes next, and what is left of the room, are those of the start; trailers came meanwhile, and no call failed
+pub record Passes (old now : StreamState) : Type 0 where
+  pub next : next_of now ≡ next_of old
+  pub contents_are : contents (frames_of now.body) ≡ contents (frames_of old.body)
+  pub advances : Advances old now
+  pub rest : drop (room_of now + 1) (frames_of now.body) ≡ drop (room_of old + 1) (frames_of old.body)
+  pub limits : SameLimits old now
+  pub sum : now.sum ≡ old.sum
+  pub closed : now.closed ≡ old.closed
+  pub faults : faults_of now.body ≡ faults_of old.body
+  pub same : can_fail_of now.body ≡ can_fail_of old.body
+
+pub passes_none : (old : StreamState) → Passes old old
+passes_none old = record {
+  next = refl;
+  contents_are = refl;
+  advances = record { came = []; taken = refl; frames = omega arith; sum = omega arith };
+  rest = refl;
+  limits = record { cap = refl; budget = refl };
+  sum = refl;
+  closed = refl;
+  faults = refl;
+  same = refl;
+}
+
+-- frames came of the body, and nothing else changed but their number
+pub record TakesFirst (now after : StreamState) (frame : Frame) : Type 0 where
+  pub gives : frames_of now.body ≡ frame ∷ frames_of after.body
+  pub limits : SameLimits now after
+  pub sum : after.sum ≡ now.sum
+  pub closed : after.closed ≡ now.closed
+  pub faults : faults_of after.body ≡ faults_of now.body
+  pub same : can_fail_of after.body ≡ can_fail_of now.body
+
+next_passed : (now after : StreamState) (lines : List Line) → TakesFirst now after (Trailers lines)
+    → now.frames < now.budget → after.frames ≡ now.frames + 1 → next_of after ≡ next_of now
+next_passed now after lines t room one =
+    let some : nat_lt 0 (room_of now) ≡ true = grind (arith, nat_tests) in
+    let budget = t.limits.budget in
+    let less : room_of now - 1 ≡ room_of after = omega arith in
+    rw (t.gives, some, less, t.limits.cap, t.sum) refl
+
+rest_passed : (now after : StreamState) (lines : List Line) → TakesFirst now after (Trailers lines)
+    → now.frames < now.budget → after.frames ≡ now.frames + 1
+    → drop (room_of after + 1) (frames_of after.body) ≡ drop (room_of now + 1) (frames_of now.body)
+rest_passed now after lines t room one =
+    let budget = t.limits.budget in
+    let more : room_of now + 1 ≡ suc (room_of after + 1) = omega arith in
+    rw (more, t.gives) refl
+
+-- one trailer more was passed over
+pub passes_more : (old now after : StreamState) (lines : List Line) → Passes old now
+    → TakesFirst now after (Trailers lines) → now.frames < now.budget → after.frames ≡ now.frames + 1 → Passes old after
+passes_more old now after lines p t room one =
+    let counted = p.advances.frames in
+    let summed = p.advances.sum in
+    let sum = t.sum in
+    let size = ap length (all_data-more p.advances.came (Trailers lines)) in
+    record {
+      next = next_passed now after lines t room one ∙ p.next;
+      contents_are = sym (ap contents t.gives) ∙ p.contents_are;
+      advances = record {
+        came = p.advances.came ++ Trailers lines ∷ [];
+        taken = p.advances.taken ∙ ap (λ (xs : List Frame). p.advances.came ++ xs) t.gives
+            ∙ sym (append_assoc p.advances.came (Trailers lines ∷ []) (frames_of after.body));
+        frames = omega (arith, length-append p.advances.came (Trailers lines ∷ []));
+        sum = omega (arith, size, length-append (all_data p.advances.came) []);
+      };
+      rest = rest_passed now after lines t room one ∙ p.rest;
+      limits = record { cap = t.limits.cap ∙ p.limits.cap; budget = t.limits.budget ∙ p.limits.budget };
+      sum = t.sum ∙ p.sum;
+      closed = t.closed ∙ p.closed;
+      faults = t.faults ∙ p.faults;
+      same = t.same ∙ p.same;
+    }
+
+-- a trailer came for which there was no room
+pub passed_over : (old now after : StreamState) (lines : List Line) → Passes old now
+    → TakesFirst now after (Trailers lines) → now.budget ≤ now.frames → next_of old ≡ Err flaw.FrameBudget
+passed_over old now after lines p t full =
+    let none : nat_lt 0 (room_of now) ≡ false = grind (arith, nat_tests) in
+    let over : next_of now ≡ Err flaw.FrameBudget = rw (t.gives, none) refl in
+    sym p.next ∙ over
+
+-- behind a frame that came, the rest is the same
+pub rest_behind : (old now : StreamState) (frame : Frame) (left : List Frame) → Passes old now
+    → frames_of now.body ≡ frame ∷ left → drop (room_of now) left ≡ drop (room_of old + 1) (frames_of old.body)
+rest_behind old now frame left p gives =
+    let more : room_of now + 1 ≡ suc (room_of now) = omega arith in
+    let behind : drop (room_of now + 1) (frames_of now.body) ≡ drop (room_of now) left = rw (more, gives) refl in
+    sym behind ∙ p.rest
+
+-- no frame was left
+pub passed_end : (old now : StreamState) → Passes old now → frames_of now.body ≡ [] → next_of old ≡ Ok None
+passed_end old now p none =
+    let ends : next_of now ≡ Ok None = rw none refl in
+    sym p.next ∙ ends
+
+pub ends_in_order : (old now : StreamState) (after : List Frame) → Passes old now → frames_of now.body ≡ [] → after ≡ frames_of now.body
+    → InOrder (frames_of old.body) after None
+ends_in_order old now after p none same = (sym p.contents_are ∙ ap contents none, same ∙ none)
+
+-- what comes next is told by a frame with content alone
+pub next_is_content : (old now : StreamState) (content : List ℕ) (left : List Frame) → Passes old now
+    → frames_of now.body ≡ Bytes content ∷ left
+    → next_in now.cap now.sum (room_of now) (Bytes content ∷ []) ≡ next_of old
+next_is_content old now content left p gives =
+    let next : next_of now ≡ next_in now.cap now.sum (room_of now) (Bytes content ∷ []) = rw gives refl in
+    sym next ∙ p.next
+
+pub content_in_order : (old now : StreamState) (content : List ℕ) (left : List Frame) → Passes old now
+    → frames_of now.body ≡ Bytes content ∷ left → InOrder (frames_of old.body) left (Some content)
+content_in_order old now content left p gives = sym p.contents_are ∙ ap contents gives
+
+-- a frame with content more came, and is counted
+pub advances_more : (old now mid : StreamState) (content : List ℕ) → Passes old now
+    → TakesFirst now mid (Bytes content) → mid.frames ≡ now.frames → Advances old (with_content mid content)
+advances_more old now mid content p t uncounted =
+    let counted = p.advances.frames in
+    let summed = p.advances.sum in
+    let sum = t.sum in
+    let size = ap length (all_data-more p.advances.came (Bytes content)) in
+    record {
+      came = p.advances.came ++ Bytes content ∷ [];
+      taken = p.advances.taken ∙ ap (λ (xs : List Frame). p.advances.came ++ xs) t.gives
+          ∙ sym (append_assoc p.advances.came (Bytes content ∷ []) (frames_of mid.body));
+      frames = omega (arith, length-append p.advances.came (Bytes content ∷ []));
+      sum = omega (arith, size, length-append (all_data p.advances.came) content);
+    }
+
+content_no_fault : (cap : ℕ) (content : List ℕ) (large some : Bool)
+    → (if large then Err (flaw.TooLarge cap) else if some then Ok (Some content) else Err flaw.FrameBudget) ≡ Err flaw.Fault → ⊥
+content_no_fault cap content true some e = cc e
+content_no_fault cap content false true e = cc e
+content_no_fault cap content false false e = cc e
+
+-- a frame with content that came tells no fault
+pub next_no_fault : (cap sum room : ℕ) (content : List ℕ) → next_in cap sum room (Bytes content ∷ []) ≡ Err flaw.Fault → ⊥
+next_no_fault cap sum room content e =
+    content_no_fault cap content (nat_lt cap (sum + length content)) (nat_lt 0 room) e

@@ -1,0 +1,52 @@
+use Rattle.std.proofs.Common.{◌≤◌, Err, Ok, arith, refl, rules}
+use Rattle.body_reading.proofs.Outcomes.{reads_whole}
+use Rattle.body_reading.proofs.Reading.{reading_ends, reading_large, reading_more, reading_over, reading_stops}
+use Rattle.body_reading.proofs.whole.read_whole.Goals as goal
+
+pub returns-in_default-clause-outcome : goal.returns-in_default-clause-outcome
+returns-in_default-clause-outcome g c =
+    let gives = rw c.in_default.is at c.in_ok-frame.ensures.gives in
+    reads_whole _ _ _ _ _
+    (rw c.from_vec.ensures
+    (reading_ends (g.S.FrameSource.state c.args.source.now) (g.S.FrameSource.state c.loop-count.source)
+    (g.S.FrameSource.state c.next_frame.new.self) c.args.limit c.args.budget c.loop-count.content.items c.loop-count.count
+    c.loop-count.invariant gives (omega arith)))
+
+pub returns-then-sum-limit-clause-came : goal.returns-then-sum-limit-clause-came
+returns-then-sum-limit-clause-came g c =
+    let gives = rw c.in-Some.is at c.in_ok-frame.ensures.gives in
+    reading_large (g.S.FrameSource.state c.args.source.now) (g.S.FrameSource.state c.loop-count.source)
+    (g.S.FrameSource.state c.next_frame.new.self) (g.S.FrameSource.state c.too_large.new.source).left
+    c.args.limit c.args.budget c.loop-count.content.items c.loop-count.count c.in-Some.frame c.sum_of-sum.result c.too_large.result
+    (record {
+      reading = c.loop-count.invariant;
+      gives = gives;
+      allowed = omega arith;
+      sum_is = rw (c.sum_of-sum.ensures, c.deref.ensures.value, c.data.ensures) refl;
+      above = c.if-sum-limit.true;
+      fits = omega arith;
+    })
+    c.too_large.ensures.told c.too_large.ensures.most c.too_large.ensures.rest
+
+pub returns-then-sum-limit-clause-outcome : goal.returns-then-sum-limit-clause-outcome
+returns-then-sum-limit-clause-outcome g c = reads_whole _ _ _ _ _ (returns-then-sum-limit-clause-came g c)
+
+pub returns-in_err-append-clause-came : goal.returns-in_err-append-clause-came
+returns-in_err-append-clause-came g c = ?
+
+pub loop-count-preserved : goal.loop-count-preserved
+loop-count-preserved g c =
+    let gives = rw c.in-Some.is at c.in_ok-frame.ensures.gives in
+    let counts = c.in_ok-frame.ensures.counts (λ failed. search rules) in
+    let not_above : c.sum_of-sum.result ≤ c.args.limit = omega arith in
+    let fits = rw (c.sum_of-sum.ensures, c.deref.ensures.value, c.data.ensures) at not_above in
+    rw c.in_ok-append.ensures
+    (reading_more (g.S.FrameSource.state c.args.source.now) (g.S.FrameSource.state c.loop-count.source)
+    (g.S.FrameSource.state c.next_frame.new.self) c.args.limit c.loop-count.content.items c.loop-count.count c.in-Some.frame
+    c.loop-count.invariant gives counts c.next_frame.ensures.goes_on fits)
+
+pub returns-clause-outcome : goal.returns-clause-outcome
+returns-clause-outcome g c =
+    reads_whole _ _ _ _ _
+    (reading_over (g.S.FrameSource.state c.args.source.now) (g.S.FrameSource.state c.loop-count.source) c.args.limit c.args.budget
+    c.loop-count.content.items c.loop-count.count c.loop-count.invariant (omega arith))
