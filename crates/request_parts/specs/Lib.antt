@@ -1,0 +1,3 @@
+pub mod Requests
+pub mod ContentTypes
+pub mod Wire
