@@ -1,6 +1,5 @@
 pub mod ScalarTypes
 pub mod Agrees
 pub mod FieldParameters
-pub mod HeaderTexts
 pub mod FlatStructs
 pub mod PageParameters
