@@ -1,0 +1,72 @@
+-- What comes of a request whose body comes in frames: the first slot of path, query or headers that denotes nothing is
+-- told before the body is touched; then what reading the body tells, and then what the body denotes.
+use Rattle.std.specs.Prelude.{◌≡◌, ℕ, ⊤, Bool, true, false, not, List, [], ◌∷◌, filter, Result}
+use Rattle.std.specs.declared.result.Result.TheVariants.{Ok, Err}
+use Rattle.http_bodies.specs.Bodies.{BodyState, never_failing, frames_of}
+use Rattle.body_reading.specs.declared.whole.BodyError.{BodyError}
+use Rattle.body_reading.specs.Whole.{whole}
+use Rattle.request_parts.specs.Requests.{Request}
+use Rattle.request_parts.specs.Wire.{wire_of}
+use Rattle.handler_shapes.specs.declared.slot.Slot.{Slot}
+use Rattle.handler_shapes.specs.declared.slot.Slot.TheVariants.{TypedBody, RawBody, StreamBody}
+use Rattle.descriptors.specs.declared.table.Definition.{Definition}
+use Rattle.typed_values.specs.Checks.{TablePasses}
+use Rattle.handler_shapes.specs.ShapeChecks.{SlotsPass}
+use Rattle.api_extract.specs.declared.extract_error.ExtractError.{ExtractError}
+use Rattle.api_extract.specs.declared.extract_error.ExtractError.TheVariants as errors
+use Rattle.api_extract.specs.Denotes.{GivenArgs, Intake, args_by, slot_told}
+use Rattle.api_extract.specs.ReadingErrors.{reading_error}
+use Rattle.api_extract.specs.Refusals.{GivenArg}
+
+-- whether the argument of a slot is made of the whole body
+abbrev pub reads_body : Slot → Bool
+reads_body (TypedBody desc name) = true
+reads_body RawBody = true
+reads_body _ = false
+
+-- whether a slot takes the body, whole or as a stream
+abbrev pub takes_body : Slot → Bool
+takes_body StreamBody = true
+takes_body slot = reads_body slot
+
+-- what a slot is given of a body that was read
+abbrev pub of_read : Result (List ℕ) BodyError → (List ℕ → GivenArg) → GivenArg
+of_read (Ok bytes) given = given bytes
+of_read (Err error) given = Err (reading_error error)
+
+-- what a slot is given of a request, of the outcome of reading its body, and of the body as it stands
+abbrev pub slot_given : Intake → Request → Result (List ℕ) BodyError → BodyState → Slot → GivenArg
+slot_given taken request read body slot =
+    if reads_body slot then of_read read (λ bytes. slot_told taken (wire_of request bytes) body slot) else
+    slot_told taken (wire_of request []) body slot
+
+-- what comes of a request and the frames of its body, where no call on the body fails
+abbrev pub extracted : Intake → Request → BodyState → GivenArgs
+extracted taken request body =
+    args_by (slot_given taken request (whole taken.limit taken.budget (frames_of body)) body) taken.slots
+
+-- what the slots of path, query and headers are given; it is asked before the body is touched
+abbrev pub shared_told : Intake → Request → GivenArgs
+shared_told taken request =
+    args_by (slot_told taken (wire_of request []) (never_failing [])) (filter (λ slot. not (takes_body slot)) taken.slots)
+
+-- at most one slot takes the body, and it is the last one
+abbrev pub BodyComesLast : List Slot → Type 0
+BodyComesLast [] = ⊤
+BodyComesLast (slot ∷ []) = ⊤
+BodyComesLast (slot ∷ next ∷ slots) = (takes_body slot ≡ false) × BodyComesLast (next ∷ slots)
+
+-- the definitions and the slots pass their checks, and the body comes last
+pub record AreServed (table : List Definition) (slots : List Slot) : Type 0 where
+  pub definitions : TablePasses table
+  pub each : SlotsPass table slots
+  pub last : BodyComesLast slots
+
+-- a call on the body failed, or memory ran out
+abbrev pub IsCutShort : GivenArgs → Type 0
+IsCutShort (Ok args) = ⊥
+IsCutShort (Err (errors.Refused fault message)) = ⊥
+IsCutShort (Err errors.BodyFault) = ⊤
+IsCutShort (Err (errors.BodyTooLarge sum)) = ⊥
+IsCutShort (Err (errors.FrameBudget count)) = ⊥
+IsCutShort (Err errors.OutOfMemory) = ⊤
