@@ -1,5 +1,6 @@
 //! The kinds of bodies that endpoints take.
-ghost use Rattle.std.specs.Prelude.{◌≡◌, Some, IsOk, IfOk, IsSome, ok_or};
+ghost use Rattle.std.specs.Prelude.{◌≡◌, Some};
+ghost use Rattle.std.specs.Result.{result_ok};
 ghost use Rattle.request_parts.specs.ContentTypes.{kind_of, mime_of};
 
 use request_words::{is_form_type, is_json_type};
@@ -39,7 +40,7 @@ impl ApiEndpointBodyContentType {
     /// gives, or JSON for `application/` with a structured suffix `json` (RFC 6839, section 3.1);
     /// `Unsupported` for any other. It takes no memory.
     pub fn from_mime_type(mime_type: &str) -> Result<ApiEndpointBodyContentType, Unsupported>
-        ensures { result ≡ ok_or (kind_of mime_type.now) Unsupported }
+        ensures { result_ok result ≡ kind_of mime_type.now }
     {
         match kind_of(mime_type.as_bytes()) {
             Some(kind) => Ok(kind),

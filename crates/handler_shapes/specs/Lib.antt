@@ -1,0 +1,5 @@
+pub mod ScalarTypes
+pub mod Arguments
+pub mod ShapeChecks
+pub mod ShapeLengths
+pub mod SlotFields
