@@ -5,6 +5,7 @@ use Rattle.std.specs.declared.result.Result.TheVariants.{Ok, Err}
 use Rattle.http_bodies.specs.Bodies.{BodyState, never_failing, frames_of}
 use Rattle.body_reading.specs.declared.whole.BodyError.{BodyError}
 use Rattle.body_reading.specs.Whole.{whole}
+use Rattle.request_parts.specs.declared.content_type.ApiEndpointBodyContentType.TheVariants.{Bytes}
 use Rattle.request_parts.specs.Requests.{Request}
 use Rattle.request_parts.specs.Wire.{wire_of}
 use Rattle.handler_shapes.specs.declared.slot.Slot.{Slot}
@@ -14,7 +15,7 @@ use Rattle.typed_values.specs.Checks.{TablePasses}
 use Rattle.handler_shapes.specs.ShapeChecks.{SlotsPass}
 use Rattle.api_extract.specs.declared.extract_error.ExtractError.{ExtractError}
 use Rattle.api_extract.specs.declared.extract_error.ExtractError.TheVariants as errors
-use Rattle.api_extract.specs.Denotes.{GivenArgs, Intake, args_by, slot_told}
+use Rattle.api_extract.specs.Denotes.{GivenArgs, Intake, args_by, intake, slot_told}
 use Rattle.api_extract.specs.ReadingErrors.{reading_error}
 use Rattle.api_extract.specs.Refusals.{GivenArg}
 
@@ -28,6 +29,11 @@ reads_body _ = false
 abbrev pub takes_body : Slot → Bool
 takes_body StreamBody = true
 takes_body slot = reads_body slot
+
+-- whether a slot takes the body as a stream
+abbrev pub takes_stream : Slot → Bool
+takes_stream StreamBody = true
+takes_stream _ = false
 
 -- what a slot is given of a body that was read
 abbrev pub of_read : Result (List ℕ) BodyError → (List ℕ → GivenArg) → GivenArg
@@ -45,10 +51,13 @@ abbrev pub extracted : Intake → Request → BodyState → GivenArgs
 extracted taken request body =
     args_by (slot_given taken request (whole taken.limit taken.budget (frames_of body)) body) taken.slots
 
+-- what a slot of path, query or headers is given, whatever the body is
+abbrev pub plainly_told : List Definition → Request → Slot → GivenArg
+plainly_told table request = slot_told (intake [] table Bytes 0 0) (wire_of request []) (never_failing [])
+
 -- what the slots of path, query and headers are given; it is asked before the body is touched
 abbrev pub shared_told : Intake → Request → GivenArgs
-shared_told taken request =
-    args_by (slot_told taken (wire_of request []) (never_failing [])) (filter (λ slot. not (takes_body slot)) taken.slots)
+shared_told taken request = args_by (plainly_told taken.table request) (filter (λ slot. not (takes_body slot)) taken.slots)
 
 -- at most one slot takes the body, and it is the last one
 abbrev pub BodyComesLast : List Slot → Type 0

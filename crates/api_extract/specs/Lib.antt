@@ -3,5 +3,6 @@ pub mod ReadingErrors
 pub mod Refusals
 pub mod TypedBodies
 pub mod PageQueries
+pub mod Answers
 pub mod Denotes
 pub mod Extraction

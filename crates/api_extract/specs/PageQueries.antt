@@ -38,11 +38,14 @@ abbrev pub limit_value : Option (List ℕ) → Told
 limit_value None = Ok Nothing
 limit_value (Some text) = just (or_refused BadLimit (number_of_text U32 (Some (pos 1)) None text))
 
+-- a pair `limit` stands more than once
+abbrev pub doubled_limit : Told
+doubled_limit = below (Name (codes "limit")) (refused (Doubled (codes "limit")))
+
 -- the pair `limit` stands at most once
 abbrev pub limit_told : List NamedText → Told
 limit_told pairs =
-    if is_doubled pairs (codes "limit") then below (Name (codes "limit")) (refused (Doubled (codes "limit"))) else
-    limit_value (last_value (codes "limit") pairs)
+    if is_doubled pairs (codes "limit") then doubled_limit else limit_value (last_value (codes "limit") pairs)
 
 -- ---- the page
 

@@ -1,9 +1,10 @@
 -- What the body of a request denotes under a type, by the media type of the request and that of the endpoint (RFC 9110,
 -- sections 8.3 and 8.3.1; OpenAPI 3.0.3, Request Body Object).
 use Rattle.std.specs.Prelude.{ℕ, List, Option, Some, None, codes}
+use Rattle.std.specs.Option.{option_map_or}
 use Rattle.schema_values.specs.declared.json_value.Json.{Json}
 use Rattle.request_words.specs.declared.request.HeaderLine.{HeaderLine}
-use Rattle.request_words.specs.MediaTypes.{media_type}
+use Rattle.request_words.specs.MediaTypes.{media_type, type_of_value}
 use Rattle.request_words.specs.Pairs.{form_pairs}
 use Rattle.request_parts.specs.declared.content_type.ApiEndpointBodyContentType.{ApiEndpointBodyContentType}
 use Rattle.request_parts.specs.declared.content_type.ApiEndpointBodyContentType.TheVariants.{Json as AsJson, UrlEncoded}
@@ -16,6 +17,10 @@ use Rattle.flat_maps.specs.declared.repeats.Repeats.TheVariants.{Refuse}
 use Rattle.flat_maps.specs.Pairs.{pairs_told}
 use Rattle.api_extract.specs.Readings.{value_read}
 use Rattle.api_extract.specs.Refusals.{GivenArg, refused_plainly, told_as}
+
+-- the media type that the value of the first `content-type` line gives, or the one where there is no such line
+abbrev pub media_by_value : Option (List ℕ) → Option (List ℕ)
+media_by_value value = option_map_or type_of_value value (Some (codes "application/json"))
 
 -- what is told of a JSON value that was read, if there is one
 abbrev pub read_told : List Definition → Desc → Option Json → Told

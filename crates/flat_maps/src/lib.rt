@@ -23,6 +23,7 @@ mod typed_maps;
 pub use fields::{absent_field, present_field};
 pub use map_error::MapError;
 pub use maps::{MapValue, decode_map};
+pub use numbers::number_of_text;
 pub use pairs::decode_pairs;
 pub use repeats::Repeats;
 pub use resolve::fields_of;

@@ -5,3 +5,4 @@ mod headers;
 mod lines;
 
 pub use headers::decode_headers;
+pub use lines::{first_line, last_line};

@@ -1,12 +1,29 @@
-// The last line of a name.
+//! The lines of a name.
 ghost use Rattle.std.specs.Prelude.{◌≡◌, map, option_map};
 ghost use Rattle.request_parts.specs.Wire.{wire_line};
-ghost use Rattle.request_words.specs.HeaderLines.{is_line_of, last_line};
+ghost use Rattle.request_words.specs.HeaderLines.{first_line, is_line_of, last_line};
 
 use http_header::{HeaderName, HeaderValue};
 
+/// The value of the first line of a name, which is compared without case (RFC 9110, section 5.1).
+/// It takes no memory.
+pub fn first_line<'a>(
+    lines: &'a [(HeaderName, HeaderValue)],
+    name: &[u8],
+) -> Option<&'a HeaderValue>
+    ensures { option_map (λ value. value.now.bytes) result
+        ≡ first_line name.now (map wire_line lines.now) }
+{
+    for line in lines {
+        if is_line_of(line, name) {
+            return Some(&line.1);
+        }
+    }
+    None
+}
+
 /// The value of the last line of a name, which is compared without case. It takes no memory.
-pub(crate) fn last_line<'a>(
+pub fn last_line<'a>(
     lines: &'a [(HeaderName, HeaderValue)],
     name: &[u8],
 ) -> Option<&'a HeaderValue>
