@@ -1,6 +1,6 @@
 -- What comes of a request whose body comes in frames: the first slot of path, query or headers that denotes nothing is
 -- told before the body is touched; then what reading the body tells, and then what the body denotes.
-use Rattle.std.specs.Prelude.{◌≡◌, ℕ, ⊤, Bool, true, false, not, List, [], ◌∷◌, filter, Result}
+use Rattle.std.specs.Prelude.{◌≡◌, ◌⊎◌, ℕ, ⊤, Bool, true, false, not, List, [], ◌∷◌, filter, Result}
 use Rattle.std.specs.declared.result.Result.TheVariants.{Ok, Err}
 use Rattle.http_bodies.specs.Bodies.{BodyState, never_failing, frames_of}
 use Rattle.body_reading.specs.declared.whole.BodyError.{BodyError}
@@ -72,10 +72,14 @@ pub record AreServed (table : List Definition) (slots : List Slot) : Type 0 wher
   pub last : BodyComesLast slots
 
 -- a call on the body failed, or memory ran out
-abbrev pub IsCutShort : GivenArgs → Type 0
-IsCutShort (Ok args) = ⊥
+abbrev pub IsCutShort : {T : Type 0} → Result T ExtractError → Type 0
+IsCutShort (Ok given) = ⊥
 IsCutShort (Err (errors.Refused fault message)) = ⊥
 IsCutShort (Err errors.BodyFault) = ⊤
 IsCutShort (Err (errors.BodyTooLarge sum)) = ⊥
 IsCutShort (Err (errors.FrameBudget count)) = ⊥
 IsCutShort (Err errors.OutOfMemory) = ⊤
+
+-- an answer is the one that is called for, or it was cut short
+abbrev pub ComesTo : {T : Type 0} → Result T ExtractError → Result T ExtractError → Type 0
+ComesTo result exact = IsCutShort result ⊎ (result ≡ exact)
