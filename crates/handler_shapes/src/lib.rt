@@ -12,4 +12,3 @@ pub use checks::{shape_passes, slot_passes};
 pub use scalars::is_scalar;
 pub use shape::{ApiEndpointErrorResponse, ApiEndpointResponse, ContentShape, HandlerShape};
 pub use slot::Slot;
-pub use body_reading::StreamingBody;
