@@ -1,0 +1,9 @@
+pub mod Told
+pub mod Reads
+pub mod TokenLemmas
+pub mod NamedPairs
+pub mod SlotLists
+pub mod FrontSlots
+pub mod Denoted
+pub mod PageFits
+pub mod ArgFits
