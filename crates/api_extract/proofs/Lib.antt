@@ -7,3 +7,4 @@ pub mod FrontSlots
 pub mod Denoted
 pub mod PageFits
 pub mod ArgFits
+pub mod Limits

@@ -1,6 +1,6 @@
 -- What a token reads as, as a function and as relations.
 use Rattle.std.proofs.Common.{◌≡◌, ℕ, ◌<◌, ◌≤◌, List, length, Bool, true, false, cond, nat_lt, bytes_eq, codes, Option, Some, None, option_and_then, refl, sym, ◌∙◌, ap, subst, arith}
-use Rattle.std.proofs.lemmas.Bool.{lt-ltb, le-ltb}
+use Rattle.std.proofs.lemmas.Bool.{lt-ltb, le-ltb, ltb-false}
 use Rattle.std.specs.declared.result.Result.{Result}
 use Rattle.std.specs.declared.result.Result.TheVariants.{Ok, Err}
 use Rattle.base64.specs.declared.decode.DecodeError.{DecodeError}
@@ -86,3 +86,29 @@ module _ (table : List Definition) (selector : Desc) where
 
   pub token_reads : (token : List ℕ) (tree : Tree) → TokenReads v1 table selector token tree → bytes_told table selector token ≡ Ok tree
   token_reads token tree reads = within token reads.small ∙ ap (decoded_told table selector) reads.decodes ∙ held_told reads.bytes tree reads.holds
+
+  -- ---- and the other way round
+
+  kept : (o : Told) (tree : Tree) → or_refused TokenCorrupted o ≡ Ok tree → o ≡ Ok tree
+  kept (Ok t) tree e = e
+  kept (Err trouble) tree e = absurd (cc e)
+
+  started_holds : (bytes : List ℕ) (json : Json) → Reads bytes json → (o : Option Json) → start_of json ≡ o → (tree : Tree) → started_told table selector o ≡ Ok tree → HoldsStart v1 table selector bytes tree
+  started_holds bytes json reads None is tree e = absurd (cc e)
+  started_holds bytes json reads (Some start) is tree e =
+      record { json = json; start = start; reads = reads; has_start = has_start json start is; denotes = kept (told table selector start selector) tree e }
+
+  read_holds : (bytes : List ℕ) (o : Option Json) → value_read bytes ≡ o → (tree : Tree) → started_told table selector (option_and_then start_of o) ≡ Ok tree → HoldsStart v1 table selector bytes tree
+  read_holds bytes None is tree e = absurd (cc e)
+  read_holds bytes (Some json) is tree e = started_holds bytes json (value_reads bytes json is) (start_of json) refl tree e
+
+  decoded_reads : (token : List ℕ) → length token ≤ 512 → (r : Result (List ℕ) DecodeError) → decode_of url_safe token ≡ r → (tree : Tree) → decoded_told table selector r ≡ Ok tree → TokenReads v1 table selector token tree
+  decoded_reads token small (Ok bytes) is tree e = record { bytes = bytes; small = small; decodes = is; holds = read_holds bytes (value_read bytes) refl tree e }
+  decoded_reads token small (Err error) is tree e = absurd (cc e)
+
+  pub told_reads : (token : List ℕ) (tree : Tree) → bytes_told table selector token ≡ Ok tree → TokenReads v1 table selector token tree
+  told_reads token tree e = by_size (nat_lt 512 (length token)) refl e
+    where
+      by_size : (b : Bool) → nat_lt 512 (length token) ≡ b → cond b (refused TokenTooLarge) (decoded_told table selector (decode_of url_safe token)) ≡ Ok tree → TokenReads v1 table selector token tree
+      by_size true is e = absurd (cc e)
+      by_size false is e = decoded_reads token (ltb-false 512 (length token) is) (decode_of url_safe token) refl tree e

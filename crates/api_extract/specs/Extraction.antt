@@ -46,10 +46,13 @@ slot_given taken request read body slot =
     if reads_body slot then of_read read (λ bytes. slot_told taken (wire_of request bytes) body slot) else
     slot_told taken (wire_of request []) body slot
 
+-- the same of the frames of the body, where no call on it fails
+abbrev pub slot_extracted : Intake → Request → BodyState → Slot → GivenArg
+slot_extracted taken request body = slot_given taken request (whole taken.limit taken.budget (frames_of body)) body
+
 -- what comes of a request and the frames of its body, where no call on the body fails
 abbrev pub extracted : Intake → Request → BodyState → GivenArgs
-extracted taken request body =
-    args_by (slot_given taken request (whole taken.limit taken.budget (frames_of body)) body) taken.slots
+extracted taken request body = args_by (slot_extracted taken request body) taken.slots
 
 -- what a slot of path, query or headers is given, whatever the body is
 abbrev pub plainly_told : List Definition → Request → Slot → GivenArg

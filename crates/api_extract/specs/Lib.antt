@@ -6,3 +6,4 @@ pub mod PageQueries
 pub mod Answers
 pub mod Denotes
 pub mod Extraction
+pub mod PathParams

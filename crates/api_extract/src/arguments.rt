@@ -1,28 +1,29 @@
 //! The arguments that a request gives the slots of a handler.
-ghost use Rattle.std.specs.Prelude.{◌≡◌, ◌⊎◌, ◌+◌, ◌-◌, ◌^◌, ◌<◌, ◌++◌, [], ◌∷◌, true, false, All};
-ghost use Rattle.std.specs.Prelude.{IfOk, OnOk, IfSome, IsErrOf, IsTrue, MatchOption, ℕ, List};
+ghost use Rattle.std.specs.Prelude.{◌≡◌, ◌⊎◌, ◌+◌, ◌-◌, ◌^◌, ◌<◌, ◌++◌, [], ◌∷◌, ℕ, List, All};
+ghost use Rattle.std.specs.Prelude.{true, false, IfOk, IfSome, IsErrOf, IsTrue, MatchOption, OnOk};
 ghost use Rattle.std.specs.List.{list_any};
-ghost use Rattle.typed_values.specs.declared.fault.Fault.{Fault as FaultValue};
 ghost use Rattle.http_bodies.specs.Bodies.{frames_of, never_failing, state_of};
 ghost use Rattle.http_bodies.specs.Frames.{all_data};
 ghost use Rattle.http_bodies.specs.Sources.{HasFailed};
-ghost use Rattle.body_reading.specs.Whole.{TakesAtMost};
+ghost use Rattle.body_reading.specs.Whole.{TakesAtMost, whole};
+ghost use Rattle.request_parts.specs.Wire.{wire_of};
 ghost use Rattle.typed_values.specs.Checks.{TablePasses};
+ghost use Rattle.typed_values.specs.declared.fault.Fault.{Fault as FaultValue};
 ghost use Rattle.handler_shapes.specs.Arguments.{ArgsFit};
 ghost use Rattle.handler_shapes.specs.ShapeChecks.{SlotPasses};
-ghost use Rattle.request_parts.specs.Wire.{wire_of};
 ghost use Rattle.api_extract.specs.declared.extract_error.ExtractError.{ExtractError as Extract};
-ghost use Rattle.api_extract.specs.Denotes.{Denotes, args_told, intake, slot_told};
 ghost use Rattle.api_extract.specs.Answers.{IsGiven};
-ghost use Rattle.api_extract.specs.Extraction.{AreServed, BodyComesLast, IsCutShort, extracted};
-ghost use Rattle.api_extract.specs.Extraction.{reads_body, shared_told, takes_body, takes_stream};
+ghost use Rattle.api_extract.specs.Denotes.{Denotes, args_told, intake, slot_told};
+ghost use Rattle.api_extract.specs.Extraction.{AreServed, BodyComesLast, ComesTo, extracted};
+ghost use Rattle.api_extract.specs.Extraction.{reads_body, shared_told, slot_extracted, slot_given};
+ghost use Rattle.api_extract.specs.Extraction.{takes_body, takes_stream};
 
 use crate::extract_error::ExtractError;
 use crate::shared::shared_arguments;
 use crate::typed_body::typed_argument;
 use body_reading::{StreamingBody, read_whole};
 use handler_shapes::{Arg, ArgList, Slot};
-use http_bodies::Body;
+use http_bodies::{Body, FrameSource};
 use request_parts::{ApiEndpointBodyContentType, RequestParts};
 use schema_values::List;
 use std::alloc::Global;
@@ -50,8 +51,8 @@ pub fn extract(
 
     // The answer is what the request and the frames of its body call for, unless a call on the
     // body failed or memory ran out.
-    ensures outcome { IsCutShort result ⊎ (result
-        ≡ extracted (intake slots.now table.now content_type limit budget) request.now body.old) }
+    ensures outcome { ComesTo result
+        (extracted (intake slots.now table.now content_type limit budget) request.now body.old) }
 
     // Arguments are exactly those that the request denotes, and are of the slots.
     ensures denotes { IfOk result (Denotes (intake slots.now table.now content_type limit budget)
@@ -86,22 +87,28 @@ pub fn extract(
     ensures fault { IsErrOf result ExtractError.BodyFault
         → HasFailed (state_of body.old) (state_of body.new) }
     ensures counts { ¬ IsErrOf result ExtractError.BodyFault
-        → (state_of body.new).faults ≡ (state_of body.old).faults }
+        → IsTrue (list_any takes_stream slots.now)
+        ⊎ ((state_of body.new).faults ≡ (state_of body.old).faults) }
 {
     let (shared, last) = without_body(slots.as_slice());
     let mut args = shared_arguments(alloc, table, request, shared)?;
-    match last {
-        Some(Slot::StreamBody) => {
-            let body = mem::replace(body, Body::empty());
-            args.push(Arg::Stream(StreamingBody::new(body, limit, budget)))?;
-        }
-        Some(slot) => {
-            let content = read_whole(alloc, body, limit, budget)?;
-            args.push(body_argument(alloc, table, request, content_type, slot, content)?)?;
-        }
-        None => {}
+    if let Some(slot) = last {
+        let reading = Reading {
+            content_type,
+            limit,
+            budget,
+        };
+        args.push(body_argument(alloc, table, request, reading, slot, body)?)?;
     }
     Ok(args)
+}
+
+// How a body is read: the kind of a typed one, and the limit and the budget of frames.
+#[derive(Clone, Copy)]
+struct Reading {
+    content_type: ApiEndpointBodyContentType,
+    limit: u64,
+    budget: u64,
 }
 
 // The slots before the one that takes the body, which is the last one, if there is one.
@@ -134,8 +141,69 @@ fn takes_body(slot: &Slot) -> bool
     )
 }
 
-// The argument of a slot that is made of the whole body.
+// The argument of the slot that takes the body.
 fn body_argument(
+    alloc: Global,
+    table: &DescTable,
+    request: &RequestParts,
+    reading: Reading,
+    slot: &Slot,
+    body: &mut Body,
+) -> Result<Arg, ExtractError>
+    requires table { TablePasses table.now }
+    requires slot { SlotPasses table.now slot.now }
+    requires takes { takes_body slot.now ≡ true }
+    requires budget { reading.budget < 2 ^ 64 - 1 }
+    ensures outcome { ComesTo result (slot_extracted (intake [] table.now reading.content_type
+        reading.limit reading.budget) request.now body.old slot.now) }
+    ensures most { (body.new ≡ never_failing []) ⊎ TakesAtMost (reading.budget + 1)
+        (Some (frames_of body.old)) (Some (frames_of body.new)) }
+    ensures moved { takes_stream slot.now ≡ true → body.new ≡ never_failing [] }
+    ensures fault { IsErrOf result ExtractError.BodyFault
+        → HasFailed (state_of body.old) (state_of body.new) }
+    ensures counts { ¬ IsErrOf result ExtractError.BodyFault
+        → (takes_stream slot.now ≡ true)
+        ⊎ ((state_of body.new).faults ≡ (state_of body.old).faults) }
+{
+    match slot {
+        Slot::StreamBody => {
+            let body = mem::replace(body, Body::empty());
+            let stream = StreamingBody::new(body, reading.limit, reading.budget);
+            Ok(Arg::Stream(stream))
+        }
+        _ => whole_argument(alloc, table, request, reading, slot, body),
+    }
+}
+
+// The argument that is made of the whole content of a source.
+fn whole_argument<S: FrameSource>(
+    alloc: Global,
+    table: &DescTable,
+    request: &RequestParts,
+    reading: Reading,
+    slot: &Slot,
+    source: &mut S,
+) -> Result<Arg, ExtractError>
+    requires table { TablePasses table.now }
+    requires slot { SlotPasses table.now slot.now }
+    requires reads { reads_body slot.now ≡ true }
+    requires budget { reading.budget < 2 ^ 64 - 1 }
+    ensures outcome { IfSome (S.state source.old).left (λ frames. ComesTo result
+        (slot_given (intake [] table.now reading.content_type reading.limit reading.budget)
+        request.now (whole reading.limit reading.budget frames) (never_failing []) slot.now)) }
+    ensures most { TakesAtMost (reading.budget + 1) (S.state source.old).left
+        (S.state source.new).left }
+    ensures fault { IsErrOf result ExtractError.BodyFault
+        → HasFailed (S.state source.old) (S.state source.new) }
+    ensures counts { ¬ IsErrOf result ExtractError.BodyFault
+        → (S.state source.new).faults ≡ (S.state source.old).faults }
+{
+    let content = read_whole(alloc, source, reading.limit, reading.budget)?;
+    content_argument(alloc, table, request, reading.content_type, slot, content)
+}
+
+// The argument that a content gives a slot.
+fn content_argument(
     alloc: Global,
     table: &DescTable,
     request: &RequestParts,
@@ -146,8 +214,9 @@ fn body_argument(
     requires table { TablePasses table.now }
     requires slot { SlotPasses table.now slot.now }
     requires reads { reads_body slot.now ≡ true }
-    ensures { IsGiven result (slot_told (intake [] table.now content_type 0 0)
-        (wire_of request.now content) (never_failing []) slot.now) }
+    ensures { (limit budget : ℕ) → IsGiven result (slot_told
+        (intake [] table.now content_type limit budget) (wire_of request.now content)
+        (never_failing []) slot.now) }
 {
     match slot {
         Slot::TypedBody(desc, _) => {

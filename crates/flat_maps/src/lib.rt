@@ -29,4 +29,4 @@ pub use repeats::Repeats;
 pub use resolve::fields_of;
 pub use text_maps::to_map_tree;
 pub use texts::{decode_text, tree_of_text};
-pub use typed_maps::{from_map, from_map_insensitive, to_map};
+pub use typed_maps::{from_map, from_map_insensitive, own_table, to_map};
