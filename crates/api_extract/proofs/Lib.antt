@@ -8,3 +8,4 @@ pub mod Denoted
 pub mod PageFits
 pub mod ArgFits
 pub mod Limits
+pub mod Joined

@@ -1,5 +1,5 @@
 -- The last pair of a name, and whether others stand before it.
-use Rattle.std.proofs.Common.{◌≡◌, ℕ, List, [], ◌∷◌, ◌++◌, map, filter, Bool, true, false, cond, bytes_eq, Some, refl, sym, ◌∙◌, ap}
+use Rattle.std.proofs.Common.{◌≡◌, ℕ, List, [], ◌∷◌, ◌++◌, map, filter, Bool, true, false, cond, bytes_eq, Some, refl, ap}
 use Rattle.request_words.specs.declared.pairs.NamedText.{NamedText}
 use Rattle.request_words.specs.Pairs.{are_some, last_text, values_of}
 use Rattle.flat_maps.specs.Pairs.{are_several}

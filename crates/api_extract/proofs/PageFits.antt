@@ -1,5 +1,5 @@
 -- The page and the limit that a query denotes are of what they are read under.
-use Rattle.std.proofs.Common.{◌≡◌, ◌≤◌, ℕ, ℤ, pos, negsuc, ◌≤ℤ◌, Bool, true, false, ◌&&◌, cond, nat_lt, int_le, codes, List, [], ◌∷◌, length, Option, Some, None, option_and_then, refl, sym, ◌∙◌, ap, subst}
+use Rattle.std.proofs.Common.{◌≡◌, ◌≤◌, ℕ, ℤ, pos, negsuc, ◌≤ℤ◌, Bool, true, false, ◌&&◌, cond, nat_lt, int_le, codes, List, [], ◌∷◌, length, Option, Some, None, option_and_then, refl, sym, subst}
 use Rattle.std.specs.Str.{encode_utf8_all}
 use Rattle.std.proofs.lemmas.Bool.{and_parts}
 use Rattle.std.specs.declared.result.Result.{Result}
@@ -10,7 +10,6 @@ use Rattle.base64.specs.GeneralPurpose.{decode_of}
 use Rattle.schema_values.specs.declared.json_value.Json.{Json}
 use Rattle.schema_values.specs.Reading.{Reads}
 use Rattle.schema_values.specs.Sound.{IsSound}
-use Rattle.schema_values.proofs.CallerLemmas.{reading_sound}
 use Rattle.request_words.specs.declared.pairs.NamedText.{NamedText}
 use Rattle.request_words.specs.Pairs.{last_value}
 use Rattle.descriptors.specs.declared.desc.Desc.{Desc}
@@ -23,9 +22,8 @@ use Rattle.typed_values.specs.declared.fault.FaultKind.{FaultKind}
 use Rattle.typed_values.specs.declared.fault.FaultKind.TheVariants.{BadText, BadLimit, TokenTooLarge, TokenCorrupted}
 use Rattle.typed_values.specs.Bounds.{is_number_of}
 use Rattle.typed_values.specs.Checks.{TablePasses, DescPasses}
-use Rattle.typed_values.specs.Denotes.{Told, just, if_holds, refused, told, JsonDenotes}
+use Rattle.typed_values.specs.Denotes.{Told, just, if_holds, refused, told}
 use Rattle.typed_values.specs.Fits.{Fits}
-use Rattle.typed_values.specs.Levels.{TreeOf}
 use Rattle.typed_values.proofs.CallerLemmas.{denoted_fits}
 use Rattle.flat_maps.specs.declared.repeats.Repeats.TheVariants.{Last}
 use Rattle.flat_maps.specs.Pairs.{is_doubled, pairs_told}
@@ -37,7 +35,7 @@ use Rattle.handler_shapes.specs.Arguments.{IsItemCount, LimitFits, PageFits, Pag
 use Rattle.page_tokens.proofs.Held.{start_sound}
 use Rattle.api_extract.specs.PageQueries.{PageTypes, as_choice, behind_limit, bytes_told, decoded_told, doubled_limit, limit_told, limit_value, or_refused, page_query_told, page_told, start_of, started_told}
 use Rattle.api_extract.specs.Readings.{value_read}
-use Rattle.api_extract.specs.Refusals.{GivenArg, told_as}
+use Rattle.api_extract.specs.Refusals.{told_as}
 use Rattle.api_extract.proofs.Reads.{value_reads}
 use Rattle.api_extract.proofs.TokenLemmas.{has_start}
 use lib.Dec.{T}

@@ -1,6 +1,7 @@
 -- What some slots are given, one behind the other.
-use Rattle.std.proofs.Common.{◌≡◌, Bool, true, false, not, cond, List, [], ◌∷◌, ◌++◌, filter, refl, sym, ◌∙◌, ap, ap₂}
-use Rattle.std.specs.declared.result.Result.{Result}
+use Rattle.std.proofs.Common.{◌≡◌, ℕ, ◌+◌, ◌<◌, ◌≤◌, List, [], ◌∷◌, ◌++◌, length, drop, get_or, refl, sym, ◌∙◌, ap}
+use Rattle.std.proofs.lemmas.List.{drop_more}
+use Rattle.std.proofs.Math.ListN.{drop_of_length-le}
 use Rattle.std.specs.declared.result.Result.TheVariants.{Ok, Err}
 use Rattle.handler_shapes.specs.declared.slot.Slot.{Slot}
 use Rattle.handler_shapes.specs.declared.arguments.Arg.{Arg}
@@ -45,3 +46,28 @@ error_behind (arg ∷ args) error = ap (arg_before arg) (error_behind args error
 pub none_behind : (args : List Arg) → args_before args (Ok []) ≡ Ok args
 none_behind [] = refl
 none_behind (arg ∷ args) = ap (arg_before arg) (none_behind args)
+
+one_more : (args : List Arg) (arg : Arg) (rest : GivenArgs) → args_before (args ++ arg ∷ []) rest ≡ args_before args (arg_before arg rest)
+one_more [] arg rest = refl
+one_more (first ∷ args) arg rest = ap (arg_before first) (one_more args arg rest)
+
+-- what a loop over slots has so far, before what is left
+module _ (given : Slot → GivenArg) (whole : GivenArgs) (slots : List Slot) (i : ℕ) (args : List Arg) (e : whole ≡ args_before args (args_by given (drop i slots))) where
+  module _ (slot : Slot) (h : i < length slots) (is : slot ≡ get_or slots i slot) where
+    next_given : whole ≡ args_before args (before_args (given slot) (args_by given (drop (i + 1) slots)))
+    next_given = e ∙ ap (λ (rest : List Slot). args_before args (args_by given rest)) (drop_more slots i slot h ∙ ap (λ (y : Slot). y ∷ drop (i + 1) slots) (sym is))
+
+    pub given_step : (arg : Arg) → given slot ≡ Ok arg → whole ≡ args_before (args ++ arg ∷ []) (args_by given (drop (i + 1) slots))
+    given_step arg ok =
+        next_given
+        ∙ ap (λ (one : GivenArg). args_before args (before_args one (args_by given (drop (i + 1) slots)))) ok
+        ∙ sym (one_more args arg (args_by given (drop (i + 1) slots)))
+
+    pub given_error : (error : ExtractError) → given slot ≡ Err error → whole ≡ Err error
+    given_error error bad =
+        next_given
+        ∙ ap (λ (one : GivenArg). args_before args (before_args one (args_by given (drop (i + 1) slots)))) bad
+        ∙ error_behind args error
+
+  pub given_end : length slots ≤ i → whole ≡ Ok args
+  given_end h = e ∙ ap (λ (rest : List Slot). args_before args (args_by given rest)) (drop_of_length-le slots h) ∙ none_behind args

@@ -1,5 +1,5 @@
 -- What an answer says of what is called for: it is that, unless memory ran out.
-use Rattle.std.specs.Prelude.{◌≡◌, ⊤, List, Result}
+use Rattle.std.specs.Prelude.{◌≡◌, ⊤, Result}
 use Rattle.std.specs.declared.result.Result.TheVariants.{Ok, Err}
 use Rattle.descriptors.specs.declared.tree.Tree.{Tree}
 use Rattle.typed_values.specs.declared.fault.DecodeError.{DecodeError}

@@ -1,6 +1,6 @@
 -- Which arguments a request denotes for the slots of a handler, and how it is refused where it denotes none (OpenAPI
 -- 3.0.3, Operation Object: its parameters and its request body).
-use Rattle.std.specs.Prelude.{◌≡◌, ℕ, Bool, true, false, List, [], ◌∷◌, codes, Result}
+use Rattle.std.specs.Prelude.{◌≡◌, ℕ, List, [], ◌∷◌, codes, Result}
 use Rattle.std.specs.declared.result.Result.TheVariants.{Ok, Err}
 use Rattle.request_words.specs.declared.request.WireRequest.{WireRequest}
 use Rattle.request_words.specs.Pairs.{query_pairs}
@@ -18,7 +18,7 @@ use Rattle.flat_maps.specs.Maps.{map_values}
 use Rattle.flat_maps.specs.Pairs.{pairs_told}
 use Rattle.header_texts.specs.HeaderTexts.{headers_told}
 use Rattle.api_extract.specs.declared.extract_error.ExtractError.{ExtractError}
-use Rattle.api_extract.specs.PageQueries.{PageTypes, page_query_told}
+use Rattle.api_extract.specs.PageQueries.{page_query_told}
 use Rattle.api_extract.specs.Refusals.{GivenArg, told_as}
 use Rattle.api_extract.specs.TypedBodies.{typed_body}
 

@@ -1,6 +1,6 @@
 -- What comes of a request whose body comes in frames: the first slot of path, query or headers that denotes nothing is
 -- told before the body is touched; then what reading the body tells, and then what the body denotes.
-use Rattle.std.specs.Prelude.{◌≡◌, ◌⊎◌, ℕ, ⊤, Bool, true, false, not, List, [], ◌∷◌, filter, Result}
+use Rattle.std.specs.Prelude.{◌≡◌, ◌⊎◌, ℕ, ⊤, Bool, true, false, not, List, [], ◌∷◌, ◌++◌, filter, if◌then◌else◌, Result}
 use Rattle.std.specs.declared.result.Result.TheVariants.{Ok, Err}
 use Rattle.http_bodies.specs.Bodies.{BodyState, never_failing, frames_of}
 use Rattle.body_reading.specs.declared.whole.BodyError.{BodyError}
@@ -10,6 +10,7 @@ use Rattle.request_parts.specs.Requests.{Request}
 use Rattle.request_parts.specs.Wire.{wire_of}
 use Rattle.handler_shapes.specs.declared.slot.Slot.{Slot}
 use Rattle.handler_shapes.specs.declared.slot.Slot.TheVariants.{TypedBody, RawBody, StreamBody}
+use Rattle.handler_shapes.specs.declared.arguments.Arg.{Arg}
 use Rattle.descriptors.specs.declared.table.Definition.{Definition}
 use Rattle.typed_values.specs.Checks.{TablePasses}
 use Rattle.handler_shapes.specs.ShapeChecks.{SlotsPass}
@@ -86,3 +87,8 @@ IsCutShort (Err errors.OutOfMemory) = ⊤
 -- an answer is the one that is called for, or it was cut short
 abbrev pub ComesTo : {T : Type 0} → Result T ExtractError → Result T ExtractError → Type 0
 ComesTo result exact = IsCutShort result ⊎ (result ≡ exact)
+
+-- an argument is pushed behind others, unless memory ran out; an error is the answer
+abbrev pub IsPushed : List Arg → Result Arg ExtractError → Result (List Arg) ExtractError → Type 0
+IsPushed args (Ok arg) result = (result ≡ Ok (args ++ arg ∷ [])) ⊎ (result ≡ Err errors.OutOfMemory)
+IsPushed args (Err error) result = result ≡ Err error

@@ -1,6 +1,6 @@
 -- What the query of an operation in pages denotes: a page and a limit. A request for the first page says what is scanned,
 -- one for a later page has a token of the page before (this project's own; the extension `x-dropshot-pagination`).
-use Rattle.std.specs.Prelude.{ℕ, ◌<◌, nat_lt, pos, Bool, false, List, [], ◌∷◌, length, Option, Some, None, option_and_then}
+use Rattle.std.specs.Prelude.{ℕ, nat_lt, pos, Bool, false, List, [], ◌∷◌, length, Option, Some, None, option_and_then}
 use Rattle.std.specs.Prelude.{if◌then◌else◌, bytes_eq, codes, Result}
 use Rattle.std.specs.declared.result.Result.TheVariants.{Ok, Err}
 use Rattle.std.specs.Str.{encode_utf8_all}
@@ -9,7 +9,6 @@ use Rattle.base64.specs.Engines.{url_safe}
 use Rattle.base64.specs.GeneralPurpose.{decode_of}
 use Rattle.schema_values.specs.declared.json_value.Json.{Json, out-Json}
 use Rattle.schema_values.specs.declared.json_value.Json.TheOpen.{Json-F}
-use Rattle.schema_values.specs.declared.json_value.Member.{Member}
 use Rattle.schema_values.specs.Get.{get_of}
 use Rattle.request_words.specs.declared.pairs.NamedText.{NamedText}
 use Rattle.request_words.specs.Pairs.{last_value}

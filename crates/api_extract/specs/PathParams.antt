@@ -1,6 +1,6 @@
 -- How the variables of a path are refused that denote no value of a type: 400 Bad Request (RFC 9110, section 15.5.1), in
 -- words of this project.
-use Rattle.std.specs.Prelude.{◌≡◌, ⊤, ℕ, List, ◌++◌, None, codes}
+use Rattle.std.specs.Prelude.{◌≡◌, ⊤, ◌++◌, None, codes}
 use Rattle.std.specs.declared.result.Result.TheVariants.{Err}
 use Rattle.http_status.specs.Errors.{bad_request}
 use Rattle.http_status.specs.declared.error.HttpError.{HttpError}

@@ -14,7 +14,8 @@ ghost use Rattle.handler_shapes.specs.ShapeChecks.{SlotPasses};
 ghost use Rattle.api_extract.specs.declared.extract_error.ExtractError.{ExtractError as Extract};
 ghost use Rattle.api_extract.specs.Answers.{IsGiven};
 ghost use Rattle.api_extract.specs.Denotes.{Denotes, args_told, intake, slot_told};
-ghost use Rattle.api_extract.specs.Extraction.{AreServed, BodyComesLast, ComesTo, extracted};
+ghost use Rattle.api_extract.specs.Extraction.{AreServed, BodyComesLast, ComesTo, IsPushed};
+ghost use Rattle.api_extract.specs.Extraction.{extracted};
 ghost use Rattle.api_extract.specs.Extraction.{reads_body, shared_told, slot_extracted, slot_given};
 ghost use Rattle.api_extract.specs.Extraction.{takes_body, takes_stream};
 
@@ -91,16 +92,33 @@ pub fn extract(
         ⊎ ((state_of body.new).faults ≡ (state_of body.old).faults) }
 {
     let (shared, last) = without_body(slots.as_slice());
-    let mut args = shared_arguments(alloc, table, request, shared)?;
-    if let Some(slot) = last {
-        let reading = Reading {
-            content_type,
-            limit,
-            budget,
-        };
-        args.push(body_argument(alloc, table, request, reading, slot, body)?)?;
+    let args = shared_arguments(alloc, table, request, shared)?;
+    let reading = Reading {
+        content_type,
+        limit,
+        budget,
+    };
+    match last {
+        Some(slot) => pushed(
+            args,
+            body_argument(alloc, table, request, reading, slot, body),
+        ),
+        None => Ok(args),
     }
-    Ok(args)
+}
+
+// An argument behind others.
+fn pushed(args: ArgList, last: Result<Arg, ExtractError>) -> Result<ArgList, ExtractError>
+    ensures { IsPushed args last result }
+{
+    match last {
+        Ok(arg) => {
+            let mut args = args;
+            args.push(arg)?;
+            Ok(args)
+        }
+        Err(error) => Err(error),
+    }
 }
 
 // How a body is read: the kind of a typed one, and the limit and the budget of frames.

@@ -1,5 +1,5 @@
 // The arguments of a path, a query and headers.
-ghost use Rattle.std.specs.Prelude.{◌≡◌, false, All, [], IfOk};
+ghost use Rattle.std.specs.Prelude.{◌≡◌, false, All};
 ghost use Rattle.typed_values.specs.Checks.{TablePasses, DescPasses};
 ghost use Rattle.handler_shapes.specs.ShapeChecks.{SlotPasses, SlotsPass};
 ghost use Rattle.api_extract.specs.Answers.{IsGiven, IsTold};

@@ -15,7 +15,7 @@ use Rattle.descriptors.specs.declared.tree.Tree.{Tree, Fields as Parts}
 use Rattle.typed_values.specs.declared.fault.FaultKind.TheVariants.{HeaderBytes}
 use Rattle.typed_values.specs.declared.fault.Place.TheVariants.{Name}
 use Rattle.typed_values.specs.Checks.{TablePasses, DescPasses}
-use Rattle.typed_values.specs.Denotes.{Told, below, just, if_present, by_presence, and_rest, and_then, all_told, as_tree, if_holds, refused}
+use Rattle.typed_values.specs.Denotes.{Told, below, if_present, by_presence, and_then, all_told, as_tree, if_holds, refused}
 use Rattle.typed_values.specs.Faults.{Trouble}
 use Rattle.typed_values.specs.Fits.{Fits}
 use Rattle.flat_maps.specs.Flat.{resolved, fields_told, flat_fields, given_told, looked_up, under_struct, FlatDenotes}

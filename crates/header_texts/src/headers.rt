@@ -1,5 +1,5 @@
 //! The struct that header lines denote.
-ghost use Rattle.std.specs.Prelude.{Contains, IfErr, IfOk, map, option_map};
+ghost use Rattle.std.specs.Prelude.{Contains, IfErr, IfOk, map};
 ghost use Rattle.descriptors.specs.declared.desc.Field.{Field};
 ghost use Rattle.descriptors.specs.declared.tree.Tree.{Tree};
 ghost use Rattle.typed_values.specs.Answer.{Tells, IfFault, IsFaultOf};
