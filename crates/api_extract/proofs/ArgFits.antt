@@ -33,7 +33,7 @@ use Rattle.handler_shapes.specs.declared.arguments.Arg.{Arg}
 use Rattle.handler_shapes.specs.declared.arguments.Arg.TheVariants.{Tree as OfTree, Raw, Stream}
 use Rattle.handler_shapes.specs.Arguments.{ArgFits, ArgsFit}
 use Rattle.handler_shapes.specs.ShapeChecks.{SlotPasses, SlotsPass}
-use Rattle.api_extract.specs.Denotes.{Denotes, GivenArgs, Intake, args_by, before_args, slot_told}
+use Rattle.api_extract.specs.Denotes.{Denotes, GivenArgs, Terms, args_by, before_args, slot_told}
 use Rattle.api_extract.specs.PageQueries.{PageTypes, page_query_told}
 use Rattle.api_extract.specs.Readings.{value_read}
 use Rattle.api_extract.specs.Refusals.{GivenArg, told_as}
@@ -77,35 +77,35 @@ module _ (table : List Definition) (desc : Desc) (name : List ℕ) (passes : Tab
 
 -- ---- each slot
 
-module _ (taken : Intake) (request : WireRequest) (body : BodyState) (passes : TablePasses taken.table) where
-  arg_fits : (slot : Slot) → SlotPasses taken.table slot → (arg : Arg) → slot_told taken request body slot ≡ Ok arg → ArgFits taken.table slot arg
+module _ (terms : Terms) (request : WireRequest) (body : BodyState) (passes : TablePasses terms.table) where
+  arg_fits : (slot : Slot) → SlotPasses terms.table slot → (arg : Arg) → slot_told terms request body slot ≡ Ok arg → ArgFits terms.table slot arg
   arg_fits (Path desc) right arg e =
       let names = map_values (λ value. value) request.variables in
-      of_told (ArgFits taken.table (Path desc)) (codes "bad parameter in URL path: ") (flat_told taken.table names desc) arg (λ t h. flat_fits taken.table desc names t passes right h) e
+      of_told (ArgFits terms.table (Path desc)) (codes "bad parameter in URL path: ") (flat_told terms.table names desc) arg (λ t h. flat_fits terms.table desc names t passes right h) e
   arg_fits (Query desc) right arg e =
       let pairs = query_pairs request.query in
-      of_told (ArgFits taken.table (Query desc)) (codes "unable to parse query string: ") (pairs_told taken.table Refuse pairs desc) arg (λ t h. pairs_fit taken.table desc Refuse pairs t passes right h) e
+      of_told (ArgFits terms.table (Query desc)) (codes "unable to parse query string: ") (pairs_told terms.table Refuse pairs desc) arg (λ t h. pairs_fit terms.table desc Refuse pairs t passes right h) e
   arg_fits (Header desc) right arg e =
-      of_told (ArgFits taken.table (Header desc)) (codes "error processing headers: ") (headers_told taken.table request.headers desc) arg (λ t h. headers_fit taken.table desc request.headers t passes right h) e
+      of_told (ArgFits terms.table (Header desc)) (codes "error processing headers: ") (headers_told terms.table request.headers desc) arg (λ t h. headers_fit terms.table desc request.headers t passes right h) e
   arg_fits (PagedQuery scan selector selector_table) right arg e =
-      let types : PageTypes = record { table = taken.table; scan = scan; selector_table = selector_table; selector = selector } in
+      let types : PageTypes = record { table = terms.table; scan = scan; selector_table = selector_table; selector = selector } in
       let pass : TypesPass types = record { table = passes; scan = right.0; selector_table = right.1.table; selector = right.1.selector } in
-      of_told (ArgFits taken.table (PagedQuery scan selector selector_table)) (codes "unable to parse query string: ") (page_query_told types (query_pairs request.query)) arg (page_query_fits types pass (query_pairs request.query)) e
-  arg_fits (TypedBody desc name) right arg e = media_fits taken.table desc name passes right request.body taken.content_type (media_type request.headers) arg e
-  arg_fits RawBody right arg e = let same : Raw request.body ≡ arg = cc e in subst (ArgFits taken.table RawBody) same tt
-  arg_fits StreamBody right arg e = let same : Stream (fresh_stream body taken.limit taken.budget) ≡ arg = cc e in subst (ArgFits taken.table StreamBody) same tt
+      of_told (ArgFits terms.table (PagedQuery scan selector selector_table)) (codes "unable to parse query string: ") (page_query_told types (query_pairs request.query)) arg (page_query_fits types pass (query_pairs request.query)) e
+  arg_fits (TypedBody desc name) right arg e = media_fits terms.table desc name passes right request.body terms.content_type (media_type request.headers) arg e
+  arg_fits RawBody right arg e = let same : Raw request.body ≡ arg = cc e in subst (ArgFits terms.table RawBody) same tt
+  arg_fits StreamBody right arg e = let same : Stream (fresh_stream body terms.limit terms.budget) ≡ arg = cc e in subst (ArgFits terms.table StreamBody) same tt
 
-  args_fit : (slots : List Slot) → AllByRecursion (SlotPasses taken.table) slots → (args : List Arg) → args_by (slot_told taken request body) slots ≡ Ok args → ArgsFit taken.table slots args
-  args_fit [] right args e = let same : [] ≡ args = cc e in subst (ArgsFit taken.table []) same tt
-  args_fit (slot ∷ slots) right args e = by_one (slot_told taken request body slot) refl (args_by (slot_told taken request body) slots) refl e
+  args_fit : (slots : List Slot) → AllByRecursion (SlotPasses terms.table) slots → (args : List Arg) → args_by (slot_told terms request body) slots ≡ Ok args → ArgsFit terms.table slots args
+  args_fit [] right args e = let same : [] ≡ args = cc e in subst (ArgsFit terms.table []) same tt
+  args_fit (slot ∷ slots) right args e = by_one (slot_told terms request body slot) refl (args_by (slot_told terms request body) slots) refl e
     where
-      by_one : (one : GivenArg) → slot_told taken request body slot ≡ one → (rest : GivenArgs) → args_by (slot_told taken request body) slots ≡ rest → before_args one rest ≡ Ok args → ArgsFit taken.table (slot ∷ slots) args
+      by_one : (one : GivenArg) → slot_told terms request body slot ≡ one → (rest : GivenArgs) → args_by (slot_told terms request body) slots ≡ rest → before_args one rest ≡ Ok args → ArgsFit terms.table (slot ∷ slots) args
       by_one (Ok arg) p (Ok more) q e =
           let same : arg ∷ more ≡ args = cc e in
-          subst (ArgsFit taken.table (slot ∷ slots)) same (arg_fits slot right.0 arg p, args_fit slots right.1 more q)
+          subst (ArgsFit terms.table (slot ∷ slots)) same (arg_fits slot right.0 arg p, args_fit slots right.1 more q)
       by_one (Ok arg) p (Err error) q e = absurd (cc e)
       by_one (Err error) p rest q e = absurd (cc e)
 
 -- all arguments
-pub denoted_fit : (taken : Intake) (request : WireRequest) (body : BodyState) → TablePasses taken.table → SlotsPass taken.table taken.slots → (args : List Arg) → Denotes taken request body args → ArgsFit taken.table taken.slots args
-denoted_fit taken request body passes right args e = args_fit taken request body passes taken.slots (recursion_from_All (SlotPasses taken.table) taken.slots right) args e
+pub denoted_fit : (terms : Terms) (slots : List Slot) (request : WireRequest) (body : BodyState) → TablePasses terms.table → SlotsPass terms.table slots → (args : List Arg) → Denotes terms slots request body args → ArgsFit terms.table slots args
+denoted_fit terms slots request body passes right args e = args_fit terms request body passes slots (recursion_from_All (SlotPasses terms.table) slots right) args e

@@ -17,7 +17,7 @@ use Rattle.handler_shapes.specs.declared.arguments.Arg.{Arg}
 use Rattle.typed_values.specs.declared.fault.Fault.{Fault}
 use Rattle.api_extract.specs.declared.extract_error.ExtractError.{ExtractError}
 use Rattle.api_extract.specs.declared.extract_error.ExtractError.TheVariants as errors
-use Rattle.api_extract.specs.Denotes.{GivenArgs, Intake, arg_before, args_by, args_told, before_args, slot_told}
+use Rattle.api_extract.specs.Denotes.{GivenArgs, Terms, arg_before, args_by, args_told, before_args, slot_told}
 use Rattle.api_extract.specs.Extraction.{extracted, of_read, slot_given}
 use Rattle.api_extract.specs.ReadingErrors.{reading_error}
 use Rattle.api_extract.specs.Refusals.{GivenArg}
@@ -55,18 +55,18 @@ no_telling (reading.BodyTooLarge sum) h = h
 no_telling (reading.FrameBudget count) h = h
 no_telling reading.OutOfMemory h = h
 
-module _ (taken : Intake) (request : Request) (body : BodyState) where
+module _ (terms : Terms) (request : Request) (body : BodyState) where
   abbrev read : Result (List ℕ) BodyError
-  read = whole taken.limit taken.budget (frames_of body)
+  read = whole terms.limit terms.budget (frames_of body)
 
   abbrev told : Slot → GivenArg
-  told = slot_told taken (wire_of request (all_data (frames_of body))) body
+  told = slot_told terms (wire_of request (all_data (frames_of body))) body
 
   abbrev given : Slot → GivenArg
-  given = slot_given taken request read body
+  given = slot_given terms request read body
 
-  of_content : (slot : Slot) (r : Result (List ℕ) BodyError) → read ≡ r → IsTelling (of_read r (λ bytes. slot_told taken (wire_of request bytes) body slot)) → of_read r (λ bytes. slot_told taken (wire_of request bytes) body slot) ≡ told slot
-  of_content slot (Ok content) e h = ap (λ (bytes : List ℕ). slot_told taken (wire_of request bytes) body slot) (read_data taken.limit taken.budget (frames_of body) content e)
+  of_content : (slot : Slot) (r : Result (List ℕ) BodyError) → read ≡ r → IsTelling (of_read r (λ bytes. slot_told terms (wire_of request bytes) body slot)) → of_read r (λ bytes. slot_told terms (wire_of request bytes) body slot) ≡ told slot
+  of_content slot (Ok content) e h = ap (λ (bytes : List ℕ). slot_told terms (wire_of request bytes) body slot) (read_data terms.limit terms.budget (frames_of body) content e)
   of_content slot (Err error) e h = absurd (no_telling {T = Arg} error h)
 
   slot_tells : (slot : Slot) → IsTelling (given slot) → given slot ≡ told slot
@@ -89,9 +89,9 @@ module _ (taken : Intake) (request : Request) (body : BodyState) where
       by_one (Err error) k = refl
 
   -- arguments that come of the frames are those that are denoted
-  pub come_denoted : (args : List Arg) → extracted taken request body ≡ Ok args → args_told taken (wire_of request (all_data (frames_of body))) body ≡ Ok args
-  come_denoted args e = sym (args_tell taken.slots (subst IsTelling (sym e) tt)) ∙ e
+  pub come_denoted : (slots : List Slot) (args : List Arg) → extracted terms slots request body ≡ Ok args → args_told terms slots (wire_of request (all_data (frames_of body))) body ≡ Ok args
+  come_denoted slots args e = sym (args_tell slots (subst IsTelling (sym e) tt)) ∙ e
 
   -- and so is a refusal
-  pub come_refused : (fault : Fault) (message : List ℕ) → extracted taken request body ≡ Err (errors.Refused fault message) → args_told taken (wire_of request (all_data (frames_of body))) body ≡ Err (errors.Refused fault message)
-  come_refused fault message e = sym (args_tell taken.slots (subst IsTelling (sym e) tt)) ∙ e
+  pub come_refused : (slots : List Slot) (fault : Fault) (message : List ℕ) → extracted terms slots request body ≡ Err (errors.Refused fault message) → args_told terms slots (wire_of request (all_data (frames_of body))) body ≡ Err (errors.Refused fault message)
+  come_refused slots fault message e = sym (args_tell slots (subst IsTelling (sym e) tt)) ∙ e

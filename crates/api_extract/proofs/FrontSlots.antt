@@ -11,7 +11,7 @@ use Rattle.request_parts.specs.Wire.{wire_of}
 use Rattle.handler_shapes.specs.declared.slot.Slot.{Slot}
 use Rattle.handler_shapes.specs.declared.slot.Slot.TheVariants.{Path, Query, Header, PagedQuery, TypedBody, RawBody, StreamBody}
 use Rattle.descriptors.specs.declared.table.Definition.{Definition}
-use Rattle.api_extract.specs.Denotes.{GivenArgs, args_by, before_args, intake, slot_told}
+use Rattle.api_extract.specs.Denotes.{GivenArgs, args_by, before_args, slot_told, terms}
 use Rattle.api_extract.specs.Extraction.{BodyComesLast, plainly_told, slot_given, takes_body, takes_stream}
 use Rattle.api_extract.specs.Refusals.{GivenArg}
 use Rattle.api_extract.proofs.SlotLists.{args_joined, behind}
@@ -76,8 +76,8 @@ same_args : (one other : Slot → GivenArg) → ((slot : Slot) → TakesNone slo
 same_args one other same [] h = refl
 same_args one other same (slot ∷ slots) h = ap₂ before_args (same slot h.0) (same_args one other same slots h.1)
 
-module _ (slots : List Slot) (table : List Definition) (kind : ApiEndpointBodyContentType) (limit budget : ℕ) (request : Request) (body : BodyState) where
-  plain_told : (bytes : List ℕ) (slot : Slot) → TakesNone slot → slot_told (intake slots table kind limit budget) (wire_of request bytes) body slot ≡ plainly_told table request slot
+module _ (table : List Definition) (kind : ApiEndpointBodyContentType) (limit budget : ℕ) (request : Request) (body : BodyState) where
+  plain_told : (bytes : List ℕ) (slot : Slot) → TakesNone slot → slot_told (terms table kind limit budget) (wire_of request bytes) body slot ≡ plainly_told table request slot
   plain_told bytes (Path desc) h = refl
   plain_told bytes (Query desc) h = refl
   plain_told bytes (Header desc) h = refl
@@ -86,7 +86,7 @@ module _ (slots : List Slot) (table : List Definition) (kind : ApiEndpointBodyCo
   plain_told bytes RawBody h = absurd (cc h)
   plain_told bytes StreamBody h = absurd (cc h)
 
-  plain_given : (read : Result (List ℕ) BodyError) (slot : Slot) → TakesNone slot → slot_given (intake slots table kind limit budget) request read body slot ≡ plainly_told table request slot
+  plain_given : (read : Result (List ℕ) BodyError) (slot : Slot) → TakesNone slot → slot_given (terms table kind limit budget) request read body slot ≡ plainly_told table request slot
   plain_given read (Path desc) h = refl
   plain_given read (Query desc) h = refl
   plain_given read (Header desc) h = refl
@@ -96,9 +96,9 @@ module _ (slots : List Slot) (table : List Definition) (kind : ApiEndpointBodyCo
   plain_given read StreamBody h = absurd (cc h)
 
   pub given_joined : (read : Result (List ℕ) BodyError) (front rest : List Slot) → AllByRecursion TakesNone front
-      → args_by (slot_given (intake slots table kind limit budget) request read body) (front ++ rest)
-      ≡ behind (args_by (plainly_told table request) front) (args_by (slot_given (intake slots table kind limit budget) request read body) rest)
+      → args_by (slot_given (terms table kind limit budget) request read body) (front ++ rest)
+      ≡ behind (args_by (plainly_told table request) front) (args_by (slot_given (terms table kind limit budget) request read body) rest)
   given_joined read front rest h =
-      let given = slot_given (intake slots table kind limit budget) request read body in
+      let given = slot_given (terms table kind limit budget) request read body in
       args_joined given front rest
       ∙ ap (λ (some : GivenArgs). behind some (args_by given rest)) (same_args given (plainly_told table request) (plain_given read) front h)

@@ -13,7 +13,7 @@ use Rattle.descriptors.specs.declared.table.Definition.{Definition}
 use Rattle.api_extract.specs.declared.extract_error.ExtractError.{ExtractError}
 use Rattle.api_extract.specs.declared.extract_error.ExtractError.TheVariants as errors
 use Rattle.api_extract.specs.Answers.{IsGiven}
-use Rattle.api_extract.specs.Denotes.{GivenArgs, args_by, intake}
+use Rattle.api_extract.specs.Denotes.{GivenArgs, args_by, terms}
 use Rattle.api_extract.specs.Extraction.{ComesTo, IsCutShort, IsPushed, extracted, plainly_told, shared_told, slot_extracted, takes_body}
 use Rattle.api_extract.specs.Refusals.{GivenArg}
 use Rattle.api_extract.proofs.FrontSlots.{TakesNone, drops_last, given_joined, keeps_all}
@@ -55,14 +55,14 @@ last_comes given slot args (Err error) result all e (inr is) pushed =
 
 module _ (slots : List Slot) (table : List Definition) (kind : ApiEndpointBodyContentType) (limit budget : ℕ) (request : Request) (body : BodyState) (front : List Slot) (none : AllByRecursion TakesNone front) where
   pub all_joined : (rest : List Slot) → slots ≡ front ++ rest
-      → extracted (intake slots table kind limit budget) request body
-      ≡ behind (args_by (plainly_told table request) front) (args_by (slot_extracted (intake slots table kind limit budget) request body) rest)
+      → extracted (terms table kind limit budget) slots request body
+      ≡ behind (args_by (plainly_told table request) front) (args_by (slot_extracted (terms table kind limit budget) slots request body) rest)
   all_joined rest e =
-      ap (args_by (slot_extracted (intake slots table kind limit budget) request body)) e
-      ∙ given_joined slots table kind limit budget request body (whole limit budget (frames_of body)) front rest none
+      ap (args_by (slot_extracted (terms table kind limit budget) slots request body)) e
+      ∙ given_joined table kind limit budget request body (whole limit budget (frames_of body)) front rest none
 
-  pub shared_alone : slots ≡ front → shared_told (intake slots table kind limit budget) request ≡ args_by (plainly_told table request) front
+  pub shared_alone : slots ≡ front → shared_told table slots request ≡ args_by (plainly_told table request) front
   shared_alone e = ap (λ (some : List Slot). args_by (plainly_told table request) (filter (λ slot. not (takes_body slot)) some)) e ∙ ap (args_by (plainly_told table request)) (keeps_all front none)
 
-  pub shared_before : (last : Slot) → slots ≡ front ++ last ∷ [] → takes_body last ≡ true → shared_told (intake slots table kind limit budget) request ≡ args_by (plainly_told table request) front
+  pub shared_before : (last : Slot) → slots ≡ front ++ last ∷ [] → takes_body last ≡ true → shared_told table slots request ≡ args_by (plainly_told table request) front
   shared_before last e takes = ap (λ (some : List Slot). args_by (plainly_told table request) (filter (λ slot. not (takes_body slot)) some)) e ∙ ap (args_by (plainly_told table request)) (drops_last front last none takes)

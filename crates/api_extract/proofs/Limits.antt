@@ -10,14 +10,14 @@ use Rattle.request_parts.specs.Requests.{Request}
 use Rattle.request_parts.specs.Wire.{wire_of}
 use Rattle.handler_shapes.specs.declared.slot.Slot.{Slot}
 use Rattle.handler_shapes.specs.declared.slot.Slot.TheVariants.{Path, Query, Header, PagedQuery, TypedBody, RawBody, StreamBody}
-use Rattle.api_extract.specs.Denotes.{Intake, args_by, args_told, before_args, slot_told}
+use Rattle.api_extract.specs.Denotes.{Terms, args_by, args_told, before_args, slot_told}
 use Rattle.api_extract.specs.Extraction.{extracted, of_read, slot_extracted}
 
-module _ (taken : Intake) (request : Request) (body : BodyState) (reads : whole taken.limit taken.budget (frames_of body) ≡ Ok (all_data (frames_of body))) where
-  of_data : (slot : Slot) → of_read (whole taken.limit taken.budget (frames_of body)) (λ bytes. slot_told taken (wire_of request bytes) body slot) ≡ slot_told taken (wire_of request (all_data (frames_of body))) body slot
-  of_data slot = ap (λ (r : Result (List ℕ) BodyError). of_read r (λ bytes. slot_told taken (wire_of request bytes) body slot)) reads
+module _ (terms : Terms) (request : Request) (body : BodyState) (reads : whole terms.limit terms.budget (frames_of body) ≡ Ok (all_data (frames_of body))) where
+  of_data : (slot : Slot) → of_read (whole terms.limit terms.budget (frames_of body)) (λ bytes. slot_told terms (wire_of request bytes) body slot) ≡ slot_told terms (wire_of request (all_data (frames_of body))) body slot
+  of_data slot = ap (λ (r : Result (List ℕ) BodyError). of_read r (λ bytes. slot_told terms (wire_of request bytes) body slot)) reads
 
-  same_slot : (slot : Slot) → slot_extracted taken request body slot ≡ slot_told taken (wire_of request (all_data (frames_of body))) body slot
+  same_slot : (slot : Slot) → slot_extracted terms request body slot ≡ slot_told terms (wire_of request (all_data (frames_of body))) body slot
   same_slot (Path desc) = refl
   same_slot (Query desc) = refl
   same_slot (Header desc) = refl
@@ -26,9 +26,9 @@ module _ (taken : Intake) (request : Request) (body : BodyState) (reads : whole 
   same_slot RawBody = of_data RawBody
   same_slot StreamBody = refl
 
-  same_slots : (slots : List Slot) → args_by (slot_extracted taken request body) slots ≡ args_by (slot_told taken (wire_of request (all_data (frames_of body))) body) slots
+  same_slots : (slots : List Slot) → args_by (slot_extracted terms request body) slots ≡ args_by (slot_told terms (wire_of request (all_data (frames_of body))) body) slots
   same_slots [] = refl
   same_slots (slot ∷ slots) = ap₂ before_args (same_slot slot) (same_slots slots)
 
-  pub all_read : extracted taken request body ≡ args_told taken (wire_of request (all_data (frames_of body))) body
-  all_read = same_slots taken.slots
+  pub all_read : (slots : List Slot) → extracted terms slots request body ≡ args_told terms slots (wire_of request (all_data (frames_of body))) body
+  all_read slots = same_slots slots

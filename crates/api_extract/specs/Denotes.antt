@@ -22,39 +22,38 @@ use Rattle.api_extract.specs.PageQueries.{page_query_told}
 use Rattle.api_extract.specs.Refusals.{GivenArg, told_as}
 use Rattle.api_extract.specs.TypedBodies.{typed_body}
 
--- what an endpoint takes of a request: slots, the definitions that they refer to, the kind of a typed body, and the limit
--- and the budget of frames of a body
-pub record Intake : Type 0 where
-  pub slots : List Slot
+-- on what terms a request is read: the definitions that slots refer to, the kind of a typed body, and the limit and the
+-- budget of frames of a body
+pub record Terms : Type 0 where
   pub table : List Definition
   pub content_type : ApiEndpointBodyContentType
   pub limit : ℕ
   pub budget : ℕ
 
--- what is taken, by its parts
-abbrev pub intake : List Slot → List Definition → ApiEndpointBodyContentType → ℕ → ℕ → Intake
-intake slots table content_type limit budget =
-    record { slots = slots; table = table; content_type = content_type; limit = limit; budget = budget }
+-- these terms
+abbrev pub terms : List Definition → ApiEndpointBodyContentType → ℕ → ℕ → Terms
+terms table content_type limit budget =
+    record { table = table; content_type = content_type; limit = limit; budget = budget }
 
 -- One row for each slot: what a request gives it. The body is that of the request as it stands, with its frames.
-abbrev pub slot_told : Intake → WireRequest → BodyState → Slot → GivenArg
-slot_told taken request body (Path desc) =
-    told_as (codes "bad parameter in URL path: ") (flat_told taken.table (map_values (λ value. value) request.variables) desc)
-slot_told taken request body (Query desc) =
-    told_as (codes "unable to parse query string: ") (pairs_told taken.table Refuse (query_pairs request.query) desc)
-slot_told taken request body (Header desc) =
-    told_as (codes "error processing headers: ") (headers_told taken.table request.headers desc)
-slot_told taken request body (PagedQuery scan selector selector_table) =
+abbrev pub slot_told : Terms → WireRequest → BodyState → Slot → GivenArg
+slot_told terms request body (Path desc) =
+    told_as (codes "bad parameter in URL path: ") (flat_told terms.table (map_values (λ value. value) request.variables) desc)
+slot_told terms request body (Query desc) =
+    told_as (codes "unable to parse query string: ") (pairs_told terms.table Refuse (query_pairs request.query) desc)
+slot_told terms request body (Header desc) =
+    told_as (codes "error processing headers: ") (headers_told terms.table request.headers desc)
+slot_told terms request body (PagedQuery scan selector selector_table) =
     told_as (codes "unable to parse query string: ") (page_query_told (record {
-      table = taken.table;
+      table = terms.table;
       scan = scan;
       selector_table = selector_table;
       selector = selector;
     }) (query_pairs request.query))
-slot_told taken request body (TypedBody desc name) =
-    typed_body taken.table desc taken.content_type request.headers request.body
-slot_told taken request body RawBody = Ok (Raw request.body)
-slot_told taken request body StreamBody = Ok (Stream (fresh_stream body taken.limit taken.budget))
+slot_told terms request body (TypedBody desc name) =
+    typed_body terms.table desc terms.content_type request.headers request.body
+slot_told terms request body RawBody = Ok (Raw request.body)
+slot_told terms request body StreamBody = Ok (Stream (fresh_stream body terms.limit terms.budget))
 
 -- the arguments of some slots, or the first error
 abbrev pub GivenArgs : Type 0
@@ -75,10 +74,10 @@ abbrev pub args_by : (Slot → GivenArg) → List Slot → GivenArgs
 args_by given [] = Ok []
 args_by given (slot ∷ slots) = before_args (given slot) (args_by given slots)
 
--- what a request gives the slots
-abbrev pub args_told : Intake → WireRequest → BodyState → GivenArgs
-args_told taken request body = args_by (slot_told taken request body) taken.slots
+-- what a request gives some slots
+abbrev pub args_told : Terms → List Slot → WireRequest → BodyState → GivenArgs
+args_told terms slots request body = args_by (slot_told terms request body) slots
 
 -- the request denotes these arguments
-abbrev pub Denotes : Intake → WireRequest → BodyState → List Arg → Type 0
-Denotes taken request body args = args_told taken request body ≡ Ok args
+abbrev pub Denotes : Terms → List Slot → WireRequest → BodyState → List Arg → Type 0
+Denotes terms slots request body args = args_told terms slots request body ≡ Ok args

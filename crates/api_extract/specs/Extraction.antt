@@ -16,7 +16,7 @@ use Rattle.typed_values.specs.Checks.{TablePasses}
 use Rattle.handler_shapes.specs.ShapeChecks.{SlotsPass}
 use Rattle.api_extract.specs.declared.extract_error.ExtractError.{ExtractError}
 use Rattle.api_extract.specs.declared.extract_error.ExtractError.TheVariants as errors
-use Rattle.api_extract.specs.Denotes.{GivenArgs, Intake, args_by, intake, slot_told}
+use Rattle.api_extract.specs.Denotes.{GivenArgs, Terms, args_by, slot_told, terms}
 use Rattle.api_extract.specs.ReadingErrors.{reading_error}
 use Rattle.api_extract.specs.Refusals.{GivenArg}
 
@@ -42,26 +42,26 @@ of_read (Ok bytes) given = given bytes
 of_read (Err error) given = Err (reading_error error)
 
 -- what a slot is given of a request, of the outcome of reading its body, and of the body as it stands
-abbrev pub slot_given : Intake → Request → Result (List ℕ) BodyError → BodyState → Slot → GivenArg
-slot_given taken request read body slot =
-    if reads_body slot then of_read read (λ bytes. slot_told taken (wire_of request bytes) body slot) else
-    slot_told taken (wire_of request []) body slot
+abbrev pub slot_given : Terms → Request → Result (List ℕ) BodyError → BodyState → Slot → GivenArg
+slot_given terms request read body slot =
+    if reads_body slot then of_read read (λ bytes. slot_told terms (wire_of request bytes) body slot) else
+    slot_told terms (wire_of request []) body slot
 
 -- the same of the frames of the body, where no call on it fails
-abbrev pub slot_extracted : Intake → Request → BodyState → Slot → GivenArg
-slot_extracted taken request body = slot_given taken request (whole taken.limit taken.budget (frames_of body)) body
+abbrev pub slot_extracted : Terms → Request → BodyState → Slot → GivenArg
+slot_extracted terms request body = slot_given terms request (whole terms.limit terms.budget (frames_of body)) body
 
 -- what comes of a request and the frames of its body, where no call on the body fails
-abbrev pub extracted : Intake → Request → BodyState → GivenArgs
-extracted taken request body = args_by (slot_extracted taken request body) taken.slots
+abbrev pub extracted : Terms → List Slot → Request → BodyState → GivenArgs
+extracted terms slots request body = args_by (slot_extracted terms request body) slots
 
 -- what a slot of path, query or headers is given, whatever the body is
 abbrev pub plainly_told : List Definition → Request → Slot → GivenArg
-plainly_told table request = slot_told (intake [] table Bytes 0 0) (wire_of request []) (never_failing [])
+plainly_told table request = slot_told (terms table Bytes 0 0) (wire_of request []) (never_failing [])
 
 -- what the slots of path, query and headers are given; it is asked before the body is touched
-abbrev pub shared_told : Intake → Request → GivenArgs
-shared_told taken request = args_by (plainly_told taken.table request) (filter (λ slot. not (takes_body slot)) taken.slots)
+abbrev pub shared_told : List Definition → List Slot → Request → GivenArgs
+shared_told table slots request = args_by (plainly_told table request) (filter (λ slot. not (takes_body slot)) slots)
 
 -- at most one slot takes the body, and it is the last one
 abbrev pub BodyComesLast : List Slot → Type 0

@@ -12,30 +12,31 @@ ghost use Rattle.descriptors.specs.declared.desc.Desc.{Desc as Descriptor};
 ghost use Rattle.descriptors.specs.declared.table.Definition.{Definition as Entry};
 ghost use Rattle.descriptors.specs.declared.tree.Tree.{Tree as Value};
 ghost use Rattle.handler_shapes.specs.declared.arguments.Arg.{Arg as Argument};
+ghost use Rattle.handler_shapes.specs.declared.slot.Slot.{Slot as Taken};
 ghost use Rattle.handler_shapes.specs.Arguments.{ArgsFit};
 ghost use Rattle.handler_shapes.specs.ShapeChecks.{SlotsPass};
 ghost use Rattle.page_tokens.specs.Forms.{v1};
 ghost use Rattle.page_tokens.specs.Tokens.{TokenReads};
-ghost use Rattle.api_extract.specs.Denotes.{Denotes, Intake, args_told};
+ghost use Rattle.api_extract.specs.Denotes.{Denotes, Terms, args_told};
 ghost use Rattle.api_extract.specs.Extraction.{extracted};
 ghost use Rattle.api_extract.specs.PageQueries.{bytes_told};
 ghost use Rattle.api_extract.specs.Readings.{value_read};
 
 /// The arguments that a request denotes are of the slots.
 pub fn denoted_arguments_fit()
-    ensures { (taken : Intake) (request : Sent) (body : BodyState) (args : List Argument)
-        → TablePasses taken.table → SlotsPass taken.table taken.slots
-        → Denotes taken request body args → ArgsFit taken.table taken.slots args }
+    ensures { (terms : Terms) (slots : List Taken) (request : Sent) (body : BodyState)
+        (args : List Argument) → TablePasses terms.table → SlotsPass terms.table slots
+        → Denotes terms slots request body args → ArgsFit terms.table slots args }
 {}
 
 /// A request whose body is within the budget of frames and the limit gives what it denotes, or its
 /// refusal.
 pub fn requests_within_limits_are_read()
-    ensures { (taken : Intake) (request : Request) (body : BodyState)
-        → length (frames_of body) ≤ taken.budget
-        → length (all_data (frames_of body)) ≤ taken.limit
-        → extracted taken request body
-        ≡ args_told taken (wire_of request (all_data (frames_of body))) body }
+    ensures { (terms : Terms) (slots : List Taken) (request : Request) (body : BodyState)
+        → length (frames_of body) ≤ terms.budget
+        → length (all_data (frames_of body)) ≤ terms.limit
+        → extracted terms slots request body
+        ≡ args_told terms slots (wire_of request (all_data (frames_of body))) body }
 {}
 
 /// The value that bytes read as is the one that they are read as by `Reads`.

@@ -2,6 +2,7 @@
 #![tactic(auto)]
 
 mod arguments;
+mod bodies;
 mod extract_error;
 mod laws;
 mod media;
@@ -10,6 +11,7 @@ mod path_params;
 mod queries;
 mod refusals;
 mod shared;
+mod slots;
 mod typed_body;
 
 pub use arguments::extract;

@@ -4,4 +4,4 @@ use Rattle.api_extract.proofs.Limits.{all_read}
 use Rattle.api_extract.proofs.laws.requests_within_limits_are_read.Goals as goal
 
 pub returns : goal.returns
-returns c taken request body few small = all_read taken request body (whole_read taken.limit taken.budget (frames_of body) few small)
+returns c terms slots request body few small = all_read terms request body (whole_read terms.limit terms.budget (frames_of body) few small) slots
