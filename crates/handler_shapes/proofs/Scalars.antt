@@ -1,8 +1,9 @@
 -- Which types are scalar, form by form.
 use Rattle.std.proofs.Common.{◌≡◌, ◌↔◌, ℕ, ℤ, List, Option, Some, None, sym, ◌∙◌, ap, subst}
-use Rattle.descriptors.specs.declared.desc.Desc.{Desc, out-Desc, roll-Desc, roll-out-Desc}
+use Rattle.descriptors.specs.declared.desc.Desc.{Desc, out-Desc}
 use Rattle.descriptors.specs.declared.desc.Desc.TheOpen.{Desc-F}
 use Rattle.descriptors.specs.declared.desc.Desc.TheVariants as desc
+use Rattle.descriptors.specs.declared.desc.Desc.TheViews.{roll-Desc, roll-out-Desc}
 use Rattle.descriptors.specs.declared.desc.IntKind.{IntKind}
 use Rattle.descriptors.specs.declared.desc.Named.{Named}
 use Rattle.descriptors.specs.declared.table.Definition.{Definition}

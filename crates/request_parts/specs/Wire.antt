@@ -1,5 +1,6 @@
 -- The request on the wire that a request and the bytes of its body are.
 use Rattle.std.specs.Prelude.{ℕ, List, [], map, unwrap_or}
+use Rattle.std.proofs.Common.{inl}
 use Rattle.std.specs.Str.{chars}
 use Rattle.std_collections.specs.BTreeMap.{BTreeMap}
 use Rattle.std_collections.specs.Layout.BTreeMap.{btree_map}
