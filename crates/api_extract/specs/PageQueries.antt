@@ -49,7 +49,7 @@ limit_told pairs =
 -- ---- the page
 
 -- whether a member is the text `v1`
-abbrev is_v1_level : {X Y : Type 0} → Json-F X Y → Bool
+abbrev pub is_v1_level : {X Y : Type 0} → Json-F X Y → Bool
 is_v1_level (Json-F.Text text) = bytes_eq text (codes "v1")
 is_v1_level _ = false
 

@@ -1,13 +1,14 @@
 // The page and the limit that a query denotes.
-ghost use Rattle.std.specs.Prelude.{◌≡◌, [], ◌∷◌, IfOk, Some};
+ghost use Rattle.std.specs.Prelude.{◌≡◌, [], ◌∷◌, IfOk, Some, codes};
 ghost use Rattle.std.specs.declared.result.Result.TheVariants.{Err};
 ghost use Rattle.std.specs.Str.{encode_utf8_all};
+ghost use Rattle.request_words.specs.Pairs.{last_value};
 ghost use Rattle.flat_maps.specs.declared.repeats.Repeats.TheVariants.{Last};
 ghost use Rattle.flat_maps.specs.Pairs.{pairs_told};
 ghost use Rattle.typed_values.specs.Checks.{TablePasses, DescPasses};
 ghost use Rattle.api_extract.specs.Answers.{IsTold};
 ghost use Rattle.api_extract.specs.PageQueries.{as_choice, bytes_told, doubled_limit};
-ghost use Rattle.api_extract.specs.PageQueries.{limit_told, limit_value, page_query_told};
+ghost use Rattle.api_extract.specs.PageQueries.{limit_told, limit_value, page_query_told, page_told};
 
 use crate::queries::last_named;
 use crate::refusals::whole_fault;
@@ -40,11 +41,34 @@ pub(crate) fn decode_page_query(
     }) pairs.now) }
 {
     let limit = decode_limit(alloc, pairs.as_slice())?;
-    let page = match last_named(pairs.as_slice(), "page_token") {
+    let page = decode_page(alloc, table, scan, selector_table, selector, pairs)?;
+    Ok(page_beside(alloc, page, limit)?)
+}
+
+// The page: a later one where the query has a token, else the first.
+fn decode_page(
+    alloc: Global,
+    table: &DescTable,
+    scan: &Desc,
+    selector_table: &DescTable,
+    selector: &Desc,
+    pairs: &List<NamedText>,
+) -> Result<Tree, DecodeError>
+    requires table { TablePasses table.now }
+    requires scan { DescPasses table.now scan.now }
+    requires selector_table { TablePasses selector_table.now }
+    requires selector { DescPasses selector_table.now selector.now }
+    ensures { IsTold result (page_told (record {
+      table = table.now;
+      scan = scan.now;
+      selector_table = selector_table.now;
+      selector = selector.now;
+    }) pairs.now (last_value (codes "page_token") pairs.now)) }
+{
+    match last_named(pairs.as_slice(), "page_token") {
         Some((pair, _)) => decode_later_page(alloc, selector_table, selector, &pair.value),
         None => decode_first_page(alloc, table, scan, pairs),
-    };
-    Ok(page_beside(alloc, page?, limit)?)
+    }
 }
 
 // The page and the limit.

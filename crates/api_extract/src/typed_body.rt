@@ -81,10 +81,13 @@ fn argument_by_kinds(
     requires desc { DescPasses table.now desc.now }
     ensures { IsGiven result (body_by_kinds table.now desc.now content.now expected given) }
 {
-    use ApiEndpointBodyContentType::{Json, UrlEncoded};
     match (expected, given) {
-        (Json, Json) => json_argument(alloc, table, desc, content),
-        (UrlEncoded, UrlEncoded) => form_argument(alloc, table, desc, content),
+        (ApiEndpointBodyContentType::Json, ApiEndpointBodyContentType::Json) => {
+            json_argument(alloc, table, desc, content)
+        }
+        (ApiEndpointBodyContentType::UrlEncoded, ApiEndpointBodyContentType::UrlEncoded) => {
+            form_argument(alloc, table, desc, content)
+        }
         _ => refuse_plainly(alloc, mismatch(alloc, expected, given)?),
     }
 }
