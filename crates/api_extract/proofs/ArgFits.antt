@@ -39,7 +39,7 @@ use Rattle.api_extract.specs.Readings.{value_read}
 use Rattle.api_extract.specs.Refusals.{GivenArg, told_as}
 use Rattle.api_extract.specs.TypedBodies.{body_by_given, body_by_kinds, body_by_media, form_body, json_body, read_told}
 use Rattle.api_extract.proofs.PageFits.{TypesPass, page_query_fits, tree_told}
-use Rattle.api_extract.proofs.Reads.{value_reads}
+use Rattle.api_extract.proofs.ReadValues.{value_reads}
 
 -- what holds of each tree that is told holds of the argument
 of_told : (P : Arg → Type 0) (prefix : List ℕ) (o : Told) (arg : Arg) → ((t : Tree) → o ≡ Ok t → P (OfTree t)) → told_as prefix o ≡ Ok arg → P arg

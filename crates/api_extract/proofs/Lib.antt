@@ -1,5 +1,5 @@
 pub mod Told
-pub mod Reads
+pub mod ReadValues
 pub mod TokenLemmas
 pub mod NamedPairs
 pub mod SlotLists

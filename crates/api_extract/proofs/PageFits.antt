@@ -36,7 +36,7 @@ use Rattle.page_tokens.proofs.Held.{start_sound}
 use Rattle.api_extract.specs.PageQueries.{PageTypes, as_choice, behind_limit, bytes_told, decoded_told, doubled_limit, limit_told, limit_value, or_refused, page_query_told, page_told, start_of, started_told}
 use Rattle.api_extract.specs.Readings.{value_read}
 use Rattle.api_extract.specs.Refusals.{told_as}
-use Rattle.api_extract.proofs.Reads.{value_reads}
+use Rattle.api_extract.proofs.ReadValues.{value_reads}
 use Rattle.api_extract.proofs.TokenLemmas.{has_start}
 use lib.Dec.{T}
 use lib.Signed.{le_z_yes}

@@ -23,7 +23,7 @@ use Rattle.page_tokens.specs.Forms.{v1}
 use Rattle.page_tokens.specs.Tokens.{HoldsNone, HoldsStart, TokenReads}
 use Rattle.api_extract.specs.Readings.{value_read}
 use Rattle.api_extract.specs.PageQueries.{bytes_told, decoded_told, is_v1, is_v1_level, or_refused, start_of, started_told}
-use Rattle.api_extract.proofs.Reads.{read_value, value_reads}
+use Rattle.api_extract.proofs.ReadValues.{read_value, value_reads}
 
 -- ---- the start in an object
 

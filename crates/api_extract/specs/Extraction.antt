@@ -1,9 +1,12 @@
 -- What comes of a request whose body comes in frames: the first slot of path, query or headers that denotes nothing is
 -- told before the body is touched; then what reading the body tells, and then what the body denotes.
-use Rattle.std.specs.Prelude.{◌≡◌, ◌⊎◌, ℕ, ⊤, Bool, true, false, not, List, [], ◌∷◌, ◌++◌, filter, if◌then◌else◌, Result}
+use Rattle.std.specs.Prelude.{◌≡◌, ◌⊎◌, ◌+◌, ◌≤◌, length, OnOk, ℕ, ⊤, Bool, true, false, not, List, [], ◌∷◌, ◌++◌, filter, if◌then◌else◌, Result}
 use Rattle.std.specs.declared.result.Result.TheVariants.{Ok, Err}
 use Rattle.http_bodies.specs.Bodies.{BodyState, never_failing, frames_of}
+use Rattle.http_bodies.specs.Frames.{SourceState}
+use Rattle.http_bodies.specs.Sources.{TakesFrames}
 use Rattle.body_reading.specs.declared.whole.BodyError.{BodyError}
+use Rattle.body_reading.specs.Gathered.{GathersInto}
 use Rattle.body_reading.specs.Whole.{whole}
 use Rattle.request_parts.specs.declared.content_type.ApiEndpointBodyContentType.TheVariants.{Bytes}
 use Rattle.request_parts.specs.Requests.{Request}
@@ -92,3 +95,12 @@ ComesTo result exact = IsCutShort result ⊎ (result ≡ exact)
 abbrev pub IsPushed : List Arg → Result Arg ExtractError → Result (List Arg) ExtractError → Type 0
 IsPushed args (Ok arg) result = (result ≡ Ok (args ++ arg ∷ [])) ⊎ (result ≡ Err errors.OutOfMemory)
 IsPushed args (Err error) result = result ≡ Err error
+
+-- what came of a source, as a body of at most one frame more than the budget, and the answer that it calls for; where it
+-- is taken as a stream, the body is gathered of the source
+pub record ComesOf {T : Type 0} (budget : ℕ) (streams : Bool) (old new : SourceState) (exact : BodyState → Result T ExtractError) (result : Result T ExtractError) : Type 0 where
+  pub body : BodyState
+  pub taken : TakesFrames old.left (frames_of body) new.left
+  pub most : length (frames_of body) ≤ budget + 1
+  pub answer : ComesTo result (exact body)
+  pub gathers : streams ≡ true → OnOk result (GathersInto budget old new body)

@@ -1,4 +1,4 @@
-use Rattle.api_extract.proofs.Reads.{read_value, value_reads}
+use Rattle.api_extract.proofs.ReadValues.{read_value, value_reads}
 use Rattle.api_extract.proofs.laws.values_are_read.Goals as goal
 
 pub returns : goal.returns
