@@ -85,9 +85,9 @@ fn success_lines(
         }
         Err(MapError::OutOfMemory) => return Err(Unwritten::OutOfMemory),
     };
-    let mut lines = content_lines(alloc, &success.content)?;
-    insert_named(alloc, &mut lines, &named)?;
-    lines.extend(success.others.copy(alloc)?)?;
+    let others = success.others.copy(alloc)?;
+    let mut lines = insert_named(alloc, content_lines(alloc, &success.content)?, &named)?;
+    lines.extend(others)?;
     Ok(lines)
 }
 
@@ -151,6 +151,7 @@ fn shaped_body(
 {
     match shape {
         ContentShape::Json(desc, _) => json_body(alloc, table, desc, tree),
-        _ => unreachable!(),
+        ContentShape::Empty => unreachable!(),
+        ContentShape::Freeform => unreachable!(),
     }
 }

@@ -81,22 +81,23 @@ pub(crate) fn content_lines(alloc: Global, content: &Content) -> Result<HeaderLi
     Ok(lines)
 }
 
-/// Inserts named headers among lines, in the order of their names. The first that is no header line is
-/// told.
+/// Lines among which named headers are inserted, in the order of their names. The first that is no header
+/// line is told.
 pub(crate) fn insert_named(
     alloc: Global,
-    lines: &mut HeaderList,
+    lines: HeaderList,
     named: &BTreeMap<Text, Text>,
-) -> Result<(), Unwritten>
-    ensures lines { OnOk result (lines.new ≡ with_named named.now.entries lines.old) }
+) -> Result<HeaderList, Unwritten>
+    ensures lines { IfOk result (λ all. all ≡ with_named named.now.entries lines) }
     ensures valid { OnOk result (AreHeaderLines named.now.entries) }
     ensures refused { IfErr result (λ e. IfRefusal e (IsFirstRefused named.now.entries)) }
 {
+    let mut all = lines;
     for (name, text) in named.iter() {
         let (name, value) = header_line(alloc, name, text)?;
-        lines.insert(name, value)?;
+        all.insert(name, value)?;
     }
-    Ok(())
+    Ok(all)
 }
 
 // The header line of a name and a text. The name is looked at first.

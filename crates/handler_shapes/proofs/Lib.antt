@@ -1,1 +1,1 @@
-pub mod Scalars
+pub mod ScalarForms

@@ -5,7 +5,7 @@ use Rattle.descriptors.proofs.CallerLemmas.{definition_is}
 use Rattle.flat_maps.proofs.CallerLemmas.{fewer_inside, fewer_behind}
 use Rattle.flat_maps.proofs.Passing.{option_passes, definition_passes}
 use Rattle.handler_shapes.specs.ScalarTypes.{a_truth, a_character, a_number, a_text, a_name}
-use Rattle.handler_shapes.proofs.Scalars.{option_scalar, reference_scalar, dangling_not, other_not}
+use Rattle.handler_shapes.proofs.ScalarForms.{option_scalar, reference_scalar, dangling_not, other_not}
 use Rattle.handler_shapes.proofs.scalars.+is_scalar.Goals as goal
 
 pub is_scalar-requires : goal.is_scalar-requires
