@@ -9,3 +9,4 @@ pub mod PageFits
 pub mod ArgFits
 pub mod Limits
 pub mod Joined
+pub mod Contents

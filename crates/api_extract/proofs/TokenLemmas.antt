@@ -63,9 +63,11 @@ module _ (table : List Definition) (selector : Desc) where
       by_told : (json start : Json) → Reads bytes json → v1.HasStart json start → (o : Told) → told table selector start selector ≡ o → or_refused TokenCorrupted o ≡ refused TokenCorrupted
       by_told json start reads has (Ok tree) e = absurd (none tree (record { json = json; start = start; reads = reads; has_start = has; denotes = e }))
       by_told json start reads has (Err trouble) e = refl
+
       by_start : (json : Json) → Reads bytes json → (o : Option Json) → start_of json ≡ o → started_told table selector o ≡ refused TokenCorrupted
       by_start json reads None e = refl
       by_start json reads (Some start) e = by_told json start reads (has_start json start e) (told table selector start selector) refl
+
       by_value : (o : Option Json) → value_read bytes ≡ o → started_told table selector (option_and_then start_of o) ≡ refused TokenCorrupted
       by_value None e = refl
       by_value (Some json) e = by_start json (value_reads bytes json e) (start_of json) refl

@@ -1,20 +1,20 @@
 // The argument of the slot that takes the body.
-ghost use Rattle.std.specs.Prelude.{◌≡◌, ◌⊎◌, ◌+◌, ◌-◌, ◌^◌, ◌<◌, [], ℕ, true};
+ghost use Rattle.std.specs.Prelude.{◌≡◌, ◌⊎◌, ◌+◌, ◌-◌, ◌^◌, ◌<◌, [], ℕ, true, false};
 ghost use Rattle.std.specs.Prelude.{IfSome, IsErrOf, Some};
 ghost use Rattle.http_bodies.specs.Bodies.{BodyState, frames_of, never_failing, state_of};
-ghost use Rattle.http_bodies.specs.Sources.{HasFailed};
+ghost use Rattle.http_bodies.specs.Sources.{GoesOn, HasFailed};
 ghost use Rattle.body_reading.specs.Whole.{TakesAtMost, whole};
 ghost use Rattle.request_parts.specs.Wire.{wire_of};
 ghost use Rattle.typed_values.specs.Checks.{TablePasses};
 ghost use Rattle.handler_shapes.specs.ShapeChecks.{SlotPasses};
 ghost use Rattle.api_extract.specs.Answers.{IsGiven};
 ghost use Rattle.api_extract.specs.Denotes.{slot_told, terms};
-ghost use Rattle.api_extract.specs.Extraction.{ComesTo, reads_body, slot_extracted, slot_given};
+ghost use Rattle.api_extract.specs.Extraction.{ComesOf, ComesTo, reads_body, slot_extracted, slot_given};
 ghost use Rattle.api_extract.specs.Extraction.{takes_body, takes_stream};
 
 use crate::extract_error::ExtractError;
 use crate::typed_body::typed_argument;
-use body_reading::{StreamingBody, read_whole};
+use body_reading::{StreamingBody, gather_frames, read_whole};
 use handler_shapes::{Arg, Slot};
 use http_bodies::{Body, FrameSource};
 use request_parts::{ApiEndpointBodyContentType, RequestParts};
@@ -65,6 +65,37 @@ pub(crate) fn body_argument(
     }
 }
 
+/// The argument of the slot that takes the body, of a source. A stream is of frames that are
+/// gathered first.
+pub(crate) fn source_argument<S: FrameSource>(
+    alloc: Global,
+    table: &DescTable,
+    request: &RequestParts,
+    reading: Reading,
+    slot: &Slot,
+    source: &mut S,
+) -> Result<Arg, ExtractError>
+    requires table { TablePasses table.now }
+    requires slot { SlotPasses table.now slot.now }
+    requires takes { takes_body slot.now ≡ true }
+    requires budget { reading.budget < 2 ^ 64 - 1 }
+    ensures came { ComesOf reading.budget (takes_stream slot.now) (S.state source.old)
+        (S.state source.new) (λ body. slot_extracted (terms table.now reading.content_type
+        reading.limit reading.budget) request.now body slot.now) result }
+    ensures fault { IsErrOf result ExtractError.BodyFault
+        → HasFailed (S.state source.old) (S.state source.new) }
+    ensures goes_on { GoesOn (S.state source.old) (S.state source.new) }
+{
+    match slot {
+        Slot::StreamBody => {
+            let body = gather_frames(alloc, source, reading.budget)?;
+            let stream = StreamingBody::new(body, reading.limit, reading.budget);
+            Ok(Arg::Stream(stream))
+        }
+        _ => whole_argument(alloc, table, request, reading, slot, source),
+    }
+}
+
 // The argument that is made of the whole content of a source.
 fn whole_argument<S: FrameSource>(
     alloc: Global,
@@ -81,12 +112,14 @@ fn whole_argument<S: FrameSource>(
     ensures outcome { IfSome (S.state source.old).left (λ frames. ComesTo result
         (slot_given (terms table.now reading.content_type reading.limit reading.budget)
         request.now (whole reading.limit reading.budget frames) (never_failing []) slot.now)) }
-    ensures most { TakesAtMost (reading.budget + 1) (S.state source.old).left
-        (S.state source.new).left }
+    ensures came { ComesOf reading.budget false (S.state source.old) (S.state source.new)
+        (λ body. slot_extracted (terms table.now reading.content_type reading.limit reading.budget)
+        request.now body slot.now) result }
     ensures fault { IsErrOf result ExtractError.BodyFault
         → HasFailed (S.state source.old) (S.state source.new) }
     ensures counts { ¬ IsErrOf result ExtractError.BodyFault
         → (S.state source.new).faults ≡ (S.state source.old).faults }
+    ensures goes_on { GoesOn (S.state source.old) (S.state source.new) }
 {
     let content = read_whole(alloc, source, reading.limit, reading.budget)?;
     content_argument(alloc, table, request, reading.content_type, slot, content)
@@ -111,7 +144,14 @@ fn content_argument(
     match slot {
         Slot::TypedBody(desc, _) => {
             let headers = request.info.headers();
-            typed_argument(alloc, table, desc, content_type, headers, content.as_slice())
+            typed_argument(
+                alloc,
+                table,
+                desc,
+                content_type,
+                headers,
+                content.as_slice(),
+            )
         }
         _ => Ok(Arg::Raw(content)),
     }

@@ -12,6 +12,7 @@ mod queries;
 mod refusals;
 mod shared;
 mod slots;
+mod sources;
 mod typed_body;
 
 pub use arguments::extract;
@@ -20,3 +21,4 @@ pub use laws::{
     denoted_arguments_fit, requests_within_limits_are_read, tokens_are_read, values_are_read,
 };
 pub use path_params::http_extract_path_params;
+pub use sources::extract_from;

@@ -12,8 +12,7 @@ use http_header::HeaderValue;
 use request_words::{HeaderLine, media_type};
 use schema_values::{List, Text};
 use std::alloc::{AllocError, Global};
-use std::slice;
-use std::str;
+use std::{slice, str};
 
 /// The media type of a request with these header lines: that of its first `content-type` line, none
 /// where a byte of it is not shown, and `application/json` where there is no such line.

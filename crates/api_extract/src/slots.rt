@@ -29,14 +29,14 @@ pub(crate) fn without_body(slots: &[Slot]) -> (&[Slot], Option<&Slot>)
 fn takes_body(slot: &Slot) -> bool
     ensures { result ≡ takes_body slot.now }
 {
-    matches!(
-        slot,
-        Slot::TypedBody(..) | Slot::RawBody | Slot::StreamBody
-    )
+    matches!(slot, Slot::TypedBody(..) | Slot::RawBody | Slot::StreamBody)
 }
 
 /// An argument behind others.
-pub(crate) fn pushed(args: ArgList, last: Result<Arg, ExtractError>) -> Result<ArgList, ExtractError>
+pub(crate) fn pushed(
+    args: ArgList,
+    last: Result<Arg, ExtractError>,
+) -> Result<ArgList, ExtractError>
     ensures { IsPushed args last result }
 {
     match last {

@@ -48,6 +48,7 @@ module _ (table : List Definition) (lines : List HeaderLine) where
           ∙ e
       by_shown value false h e =
           absurd (hidden_field f.presence f.name t (sym (ap (λ (b : Bool). by_presence f (Some (if_holds b HeaderBytes (text_told table value f.desc)))) h) ∙ e))
+
       by_line : (o : Option (List ℕ)) → by_presence f (option_map (line_told table f.desc) o) ≡ Ok t
           → by_presence f (option_map (given_told table f.desc) (option_map String (option_and_then shown_text o))) ≡ Ok t
       by_line None e = e

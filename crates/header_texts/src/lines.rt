@@ -23,10 +23,7 @@ pub fn first_line<'a>(
 }
 
 /// The value of the last line of a name, which is compared without case. It takes no memory.
-pub fn last_line<'a>(
-    lines: &'a [(HeaderName, HeaderValue)],
-    name: &[u8],
-) -> Option<&'a HeaderValue>
+pub fn last_line<'a>(lines: &'a [(HeaderName, HeaderValue)], name: &[u8]) -> Option<&'a HeaderValue>
     ensures { option_map (λ value. value.now.bytes) result
         ≡ last_line name.now (map wire_line lines.now) }
 {
