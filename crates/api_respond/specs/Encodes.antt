@@ -21,11 +21,11 @@ abbrev pub Turns : Type 1
 Turns = HttpError → ErrorReply → Type 0
 
 -- the lines of a success whose named headers are header lines
-pub record AreSent (table : List Definition) (response : ApiEndpointResponse) (reply : SuccessReply) (lines : List Line) : Type 0 where
+pub record AreSent (table : List Definition) (response : ApiEndpointResponse) (reply : SuccessReply) (sent : List Line) : Type 0 where
   pub entries : List TextEntry
   pub written : headers_written table response.headers reply.named ≡ Ok entries
   pub valid : AreHeaderLines entries
-  pub lines : lines ≡ success_lines entries reply
+  pub lines : sent ≡ success_lines entries reply
 
 -- what is told of named headers that are written as no map, or of the first that is no header line
 pub data WhyUnsent (table : List Definition) (response : ApiEndpointResponse) (reply : SuccessReply) (message : List ℕ) : Type 0 where
@@ -35,20 +35,20 @@ pub data WhyUnsent (table : List Definition) (response : ApiEndpointResponse) (r
       → IsFirstRefused entries message → WhyUnsent table response reply message
 
 -- a success is sent: its status, its lines, and the body of its content, which moves
-pub record IsSent (shape : HandlerShape) (reply : SuccessReply) (response : Response) (left : SuccessReply) : Type 0 where
+pub record IsSent (shape : HandlerShape) (reply : SuccessReply) (response : Response) (after : SuccessReply) : Type 0 where
   pub status : response.status ≡ reply.status
   pub lines : AreSent shape.table shape.response reply response.headers
   pub body : response.body ≡ content_body shape.table shape.response.content reply.content
-  pub left : left ≡ success_left reply
+  pub left : after ≡ success_left reply
 
 -- a success is not sent, but what the handler makes of an internal error that tells why; nothing moves
-pub record IsTurned (shape : HandlerShape) (turns : Turns) (reply : SuccessReply) (id : List ℕ) (response : Response) (left : SuccessReply) : Type 0 where
+pub record IsTurned (shape : HandlerShape) (turns : Turns) (reply : SuccessReply) (id : List ℕ) (sent : Response) (after : SuccessReply) : Type 0 where
   pub message : List ℕ
   pub cause : WhyUnsent shape.table shape.response reply message
   pub error : ErrorReply
   pub turned : turns (internal_error message) error
-  pub response : response ≡ failure_response shape error id
-  pub left : left ≡ reply
+  pub response : sent ≡ failure_response shape error id
+  pub left : after ≡ reply
 
 -- what a success is sent as
 abbrev pub SuccessEncodes : HandlerShape → Turns → SuccessReply → List ℕ → Response → SuccessReply → Type 0

@@ -108,7 +108,12 @@ fn send(
     ensures left { IfOk result (λ _. success.new ≡ success_left success.old) }
     ensures err { OnErr result (success.new ≡ success.old) }
 {
-    let body = content_body(alloc, &shape.table, &shape.response.content, &mut success.content)?;
+    let body = content_body(
+        alloc,
+        &shape.table,
+        &shape.response.content,
+        &mut success.content,
+    )?;
     Ok(Response {
         status: success.status,
         headers,

@@ -1,7 +1,9 @@
 //! The header lines of successes.
-ghost use Rattle.std.specs.Prelude.{◌≡◌, ◌++◌, IfErr, IfOk, IsTrue, OnOk};
+ghost use Rattle.std.specs.Prelude.{◌≡◌, [], ◌∷◌, ◌++◌, codes, IfErr, IfOk, IsTrue, OnOk};
 ghost use Rattle.schema_values.specs.Ascii.{all_ascii};
 ghost use Rattle.flat_maps.specs.MapErrors.{AnswersAs};
+ghost use Rattle.http_header.specs.FieldValue.{is_visible_text};
+ghost use Rattle.http_status.specs.ErrorLines.{header_line};
 ghost use Rattle.handler_shapes.specs.ShapeChecks.{HeadersPass};
 ghost use Rattle.typed_values.specs.Checks.{TablePasses};
 ghost use Rattle.api_respond.specs.NamedHeaders.{AreHeaderLines, IfRefusal, IsFirstRefused, IsHeaderEntry};
@@ -64,20 +66,25 @@ fn with_prefix(alloc: Global, prefix: &str, text: &Text) -> Result<Text, AllocEr
     Ok(whole)
 }
 
-/// The header line that tells what kind of content there is.
+/// The header line that tells the type of a content, where there is one.
 pub(crate) fn content_lines(alloc: Global, content: &Content) -> Result<HeaderList, AllocError>
     ensures { IfOk result (λ lines. lines ≡ content_lines content.now) }
 {
-    let mut lines = HeaderList::new(alloc);
     match content {
-        Content::Json(_) => lines.append(CONTENT_TYPE, HeaderValue::from_static(CONTENT_TYPE_JSON))?,
-        Content::Freeform(_) => {
-            let value = HeaderValue::from_static(CONTENT_TYPE_OCTET_STREAM);
-            lines.append(CONTENT_TYPE, value)?;
-        }
-        Content::Empty => {}
-        Content::Bare(_) => {}
+        Content::Json(_) => type_line(alloc, CONTENT_TYPE_JSON),
+        Content::Freeform(_) => type_line(alloc, CONTENT_TYPE_OCTET_STREAM),
+        Content::Empty => Ok(HeaderList::new(alloc)),
+        Content::Bare(_) => Ok(HeaderList::new(alloc)),
     }
+}
+
+// The header line of a media type.
+fn type_line(alloc: Global, media_type: &'static str) -> Result<HeaderList, AllocError>
+    requires { IsTrue (is_visible_text media_type.now) }
+    ensures { IfOk result (λ lines. lines ≡ header_line (codes "content-type") media_type.now ∷ []) }
+{
+    let mut lines = HeaderList::new(alloc);
+    lines.append(CONTENT_TYPE, HeaderValue::from_static(media_type))?;
     Ok(lines)
 }
 
