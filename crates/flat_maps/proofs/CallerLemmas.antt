@@ -18,3 +18,5 @@ pub use Rattle.flat_maps.proofs.OwnTables.{never_clashes}
 -- the entries of the map that a struct is written as
 pub use Rattle.flat_maps.proofs.TextLoops.{written_distinct}
 pub use Rattle.flat_maps.proofs.EntryLookups.{under, under_sorted}
+-- what a loop over fields has decoded, before what is left
+pub use Rattle.flat_maps.proofs.Loops.{after, all_step, all_err, all_end}

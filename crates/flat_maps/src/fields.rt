@@ -47,13 +47,13 @@ fn decode_field(
         (option_map (given_told table.now field.now.desc) (option_map given_of given.entry))) }
 {
     match given {
-        Some(given) => present(alloc, field, decode_given(alloc, table, &field.desc, given)),
-        None => absent(alloc, field),
+        Some(given) => present_field(alloc, field, decode_given(alloc, table, &field.desc, given)),
+        None => absent_field(alloc, field),
     }
 }
 
-// What a field that is there gives.
-fn present(alloc: Global, field: &Field, answer: Result<Tree, Stop>) -> Result<Tree, Stop>
+/// What a field that is there gives, by what its value denotes: a fault stands below its name.
+pub fn present_field(alloc: Global, field: &Field, answer: Result<Tree, Stop>) -> Result<Tree, Stop>
     ensures { (told : Told) → Tells answer told
         → Tells result (if_present field.now.presence (below (Name field.now.name) told)) }
 {
@@ -66,8 +66,8 @@ fn present(alloc: Global, field: &Field, answer: Result<Tree, Stop>) -> Result<T
     }
 }
 
-// What an absent field gives.
-fn absent(alloc: Global, field: &Field) -> Result<Tree, Stop>
+/// What an absent field gives, by its presence.
+pub fn absent_field(alloc: Global, field: &Field) -> Result<Tree, Stop>
     ensures { Tells result (if_absent field.now.presence field.now.name) }
 {
     match &field.presence {

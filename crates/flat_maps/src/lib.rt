@@ -20,10 +20,13 @@ mod text_maps;
 mod texts;
 mod typed_maps;
 
+pub use fields::{absent_field, present_field};
 pub use map_error::MapError;
 pub use maps::{MapValue, decode_map};
+pub use numbers::number_of_text;
 pub use pairs::decode_pairs;
 pub use repeats::Repeats;
+pub use resolve::fields_of;
 pub use text_maps::to_map_tree;
-pub use texts::decode_text;
-pub use typed_maps::{from_map, from_map_insensitive, to_map};
+pub use texts::{decode_text, tree_of_text};
+pub use typed_maps::{from_map, from_map_insensitive, own_table, to_map};

@@ -13,7 +13,7 @@ use std::alloc::Global;
 use typed_values::{Stop, is_number_of};
 
 /// The number of a text, within its kind and its bounds.
-pub(crate) fn number_of_text(
+pub fn number_of_text(
     alloc: Global,
     kind: IntKind,
     min: Option<i128>,

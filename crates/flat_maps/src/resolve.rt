@@ -42,7 +42,7 @@ pub(crate) fn held<'a>(table: &'a DescTable, desc: &'a Desc) -> Option<&'a Desc>
 
 /// The fields of the struct that a descriptor is or that references lead to, where it takes unknown
 /// names.
-pub(crate) fn fields_of<'a>(table: &'a DescTable, desc: &'a Desc) -> Option<&'a [Field]>
+pub fn fields_of<'a>(table: &'a DescTable, desc: &'a Desc) -> Option<&'a [Field]>
     requires table { TablePasses table.now }
     requires desc { DescPasses table.now desc.now }
     ensures fields { option_map (λ fields. fields.now) result

@@ -39,7 +39,7 @@ pub fn decode_text(
 }
 
 /// The same, with a fault on its way out.
-pub(crate) fn tree_of_text(
+pub fn tree_of_text(
     alloc: Global,
     table: &DescTable,
     desc: &Desc,

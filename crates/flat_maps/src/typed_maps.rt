@@ -102,8 +102,8 @@ fn decode_names<L: LookUp>(
     }
 }
 
-// The table of a type's definitions, none of which clash.
-fn own_table<T: ApiType>(alloc: Global) -> Result<DescTable, MapError>
+/// The table of a type's definitions, none of which clash. Fails only for want of memory.
+pub fn own_table<T: ApiType>(alloc: Global) -> Result<DescTable, MapError>
     requires { HasOwnTable T.definitions_of T.desc_of }
     ensures table { IfOk result (λ table. table ≡ own_table T.definitions_of) }
     ensures memory { IfErr result (λ error. error ≡ MapError.OutOfMemory) }

@@ -22,7 +22,7 @@ use Rattle.flat_maps.specs.Pairs.{pairs_fields, pairs_told, PairsDenote}
 use Rattle.written_schemas.proofs.Sorted.{all_sorted}
 use Rattle.written_texts.specs.FieldParameters.{parameter_of, field_parameters, path_parameters, query_parameters, header_parameters, AllHold, AllRequired}
 use Rattle.written_texts.specs.FlatStructs.{IsFlatStruct, DefinesFields}
-use Rattle.written_texts.specs.HeaderTexts.{header_told, headers_told, HeadersDenote}
+use Rattle.header_texts.specs.HeaderTexts.{header_told, headers_told, HeadersDenote}
 use Rattle.written_texts.proofs.FlatFields.{field_written}
 use Rattle.written_texts.proofs.Places.{pairs_told_where, variables_told_where, lines_told_where}
 use Rattle.written_texts.proofs.Whole.{plain_texts, header_texts, query_texts, holds_where}

@@ -23,7 +23,7 @@ ghost use Rattle.written_texts.specs.Agrees.{AdmitsTexts};
 ghost use Rattle.written_texts.specs.FieldParameters.{AllHold, AllRequired, path_parameters};
 ghost use Rattle.written_texts.specs.FieldParameters.{query_parameters, header_parameters};
 ghost use Rattle.written_texts.specs.FlatStructs.{IsFlatStruct, DefinesFields};
-ghost use Rattle.written_texts.specs.HeaderTexts.{HeadersDenote};
+ghost use Rattle.header_texts.specs.HeaderTexts.{HeadersDenote};
 ghost use Rattle.written_texts.specs.PageParameters.{HasLimit, NoneNamed, PageParametersHold};
 ghost use Rattle.handler_shapes.specs.ScalarTypes.{IsScalarType};
 

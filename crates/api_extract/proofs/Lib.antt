@@ -1,0 +1,12 @@
+pub mod Told
+pub mod ReadValues
+pub mod TokenLemmas
+pub mod NamedPairs
+pub mod SlotLists
+pub mod FrontSlots
+pub mod Denoted
+pub mod PageFits
+pub mod ArgFits
+pub mod Limits
+pub mod Joined
+pub mod Contents

@@ -1,0 +1,2 @@
+pub mod HeaderFits
+pub mod CallerLemmas

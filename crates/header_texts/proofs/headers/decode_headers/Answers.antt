@@ -1,0 +1,13 @@
+use Rattle.std.proofs.Common.{List, map, subst}
+use Rattle.header_lists.specs.HeaderLists.{Line}
+use Rattle.request_parts.specs.Wire.{wire_line}
+use Rattle.header_texts.specs.HeaderTexts.{HeadersDenote}
+use Rattle.header_texts.proofs.HeaderFits.{headers_fit}
+use Rattle.header_texts.proofs.headers.decode_headers.Goals as goal
+
+pub returns-in-Ok-clause-fits : goal.returns-in-Ok-clause-fits
+returns-in-Ok-clause-fits c =
+    let table = c.args.table.now in
+    let desc = c.args.desc.now in
+    headers_fit table desc (map wire_line c.args.lines.now) c.in-Ok.tree c.requires.table c.requires.desc
+    (subst (λ (lines : List Line). HeadersDenote table desc (map wire_line lines) c.in-Ok.tree) c.lines.ensures c.in-Ok.ensures)
