@@ -1,0 +1,133 @@
+//! Templates of paths.
+ghost use Rattle.std.specs.Prelude.{◌≡◌, ◌↔◌, IfOk, IfSome, IsTrue, is_some, option_map};
+ghost use Rattle.std.specs.Str.{chars};
+ghost use Rattle.path_templates.specs.Segments.{segments_of, wildcard_of};
+ghost use Rattle.path_templates.specs.Shapes.{HaveOneShape, shape_of};
+ghost use Rattle.path_templates.specs.Templates.{IsTemplateOf, names_of, trimmed};
+ghost use Rattle.path_templates.specs.Variables.{VariablesMatch};
+
+use crate::characters::characters;
+use crate::segment::PathSegment;
+use crate::segments::segments_trimmed;
+use crate::variables::{all_given, all_named};
+use schema_values::{List, Text, VariableSet};
+use std::alloc::{AllocError, Global};
+use std::marker::Model;
+
+/// The path without one slash at its end; a slash alone stays.
+pub fn without_trailing_slash(path: &Text) -> &str
+    ensures { chars result.now ≡ trimmed path.now }
+{
+    let path = path.as_str();
+    if path == "/" {
+        return path;
+    }
+    match path.strip_suffix('/') {
+        Some(front) => front,
+        None => path,
+    }
+}
+
+/// The template of a path: a slash alone, or segments that each stand behind a slash. A segment is a
+/// literal, a variable `{name}`, or as the last one a wildcard `{name:.*}`. Contracts see the list of
+/// its segments.
+#[derive(Drop)]
+pub struct Template {
+    segments: List<PathSegment>,
+}
+
+impl Model for Template {
+    ghost use Rattle.std.specs.Prelude.{◌≡◌, List as ListOf, true};
+    ghost use Rattle.path_templates.specs.declared.segment.PathSegment.{PathSegment as Segment};
+    ghost use Rattle.path_templates.specs.Templates.{are_segments};
+
+    ghost Value = { ListOf Segment };
+
+    ghost view = { λ template. template.segments };
+
+    ghost invariant = { λ template. are_segments template.segments ≡ true };
+}
+
+impl Template {
+    /// The template of a path, where one slash at its end is dropped. `None` exactly where the path is
+    /// no template.
+    pub fn parse(alloc: Global, path: &Text) -> Result<Option<Template>, AllocError>
+        ensures segments { IfOk result (λ found. found ≡ segments_of path.now) }
+        ensures spelled { IfOk result (IfSome (IsTemplateOf path.now)) }
+    {
+        let characters = characters(alloc, path)?;
+        let segments = segments_trimmed(alloc, trimmed(characters.as_slice()))?;
+        Ok(segments.map(|segments| Template { segments }))
+    }
+
+    /// The segments, in order.
+    pub fn segments(&self) -> &[PathSegment]
+        ensures { result.now ≡ self.now }
+    {
+        self.segments.as_slice()
+    }
+
+    /// The names of the variables, in order. No two are one.
+    pub fn variable_names(&self, alloc: Global) -> Result<List<Text>, AllocError>
+        ensures { IfOk result (λ names. names ≡ names_of self.now) }
+    {
+        let mut names = List::new(alloc);
+        for segment in self.segments() {
+            if let Some(name) = segment.variable_name() {
+                names.push(name.copy(alloc)?)?;
+            }
+        }
+        Ok(names)
+    }
+
+    /// The name of the wildcard, if there is one.
+    pub fn wildcard(&self) -> Option<&Text>
+        ensures { option_map (λ name. name.now) result ≡ wildcard_of self.now }
+    {
+        self.segments().iter().find(|segment| segment.is_wildcard())?.variable_name()
+    }
+
+    /// The text of the template, where each variable is replaced by the sign `{}`.
+    pub fn shape(&self, alloc: Global) -> Result<Text, AllocError>
+        ensures { IfOk result (λ shape. shape ≡ shape_of self.now) }
+    {
+        let mut shape = Text::new(alloc);
+        if self.segments.is_empty() {
+            shape.push_ascii("/")?;
+        }
+        for segment in self.segments() {
+            shape.push_ascii("/")?;
+            segment.push_nameless(&mut shape)?;
+        }
+        Ok(shape)
+    }
+
+    /// Whether the variables of a request are those of the template: exactly its names, one text for a
+    /// variable, and components for a wildcard.
+    pub fn variables_match(&self, variables: &VariableSet) -> bool
+        ensures { IsTrue result ↔ VariablesMatch self.now variables.now.entries }
+    {
+        all_given(self.segments(), variables) && all_named(self.segments(), variables)
+    }
+
+    /// A template equal to this one.
+    pub fn copy(&self, alloc: Global) -> Result<Template, AllocError>
+        ensures { IfOk result (λ copy. copy ≡ self.now) }
+    {
+        let mut segments = List::new(alloc);
+        for segment in self.segments() {
+            segments.push(segment.copy(alloc)?)?;
+        }
+        Ok(Template { segments })
+    }
+}
+
+// Some characters without a slash at the end; a slash alone stays.
+fn trimmed(path: &[char]) -> &[char]
+    ensures { result.now ≡ trimmed path.now }
+{
+    match path.split_last() {
+        Some(('/', front)) if !front.is_empty() => front,
+        _ => path,
+    }
+}
