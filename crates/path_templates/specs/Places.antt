@@ -1,16 +1,19 @@
 -- The places of things in a list, by their keys.
-use Rattle.std.specs.Prelude.{◌≡◌, ◌++◌, ◌+◌, ℕ, Bool, List, [], ◌∷◌, if◌then◌else◌, Option, Some, None, unwrap_or, bytes_eq, string_bytes}
-use Rattle.std.specs.BTreeMap.{get_by}
+use Rattle.std.specs.Prelude.{◌≡◌, ◌++◌, ◌+◌, ℕ, Bool, List, [], ◌∷◌, if◌then◌else◌, Option, Some, None, unwrap_or, bytes_eq}
+use Rattle.std.specs.declared.cmp.Ordering.{Ordering}
+use Rattle.std.specs.BTreeMap.{get}
 use Rattle.std.specs.Cmp.Lexicographic.{slice_cmp}
 use Rattle.std.specs.List.{list_any, slice_get}
 use Rattle.std.specs.Ordering.{nat_cmp}
-use Rattle.std.specs.Str.{encode_utf8_all}
 use Rattle.path_templates.specs.declared.place_index.PlaceIndex.{PlaceIndex}
 
--- the places that stand at a key, which is given by its characters
+-- the order of texts, by their characters
+abbrev pub text_order : List ℕ → List ℕ → Ordering
+text_order = slice_cmp nat_cmp
+
+-- the places that stand at a key
 abbrev pub places_at : PlaceIndex → List ℕ → List ℕ
-places_at index key =
-    unwrap_or (get_by (λ k. slice_cmp nat_cmp (encode_utf8_all key) (string_bytes k)) index.places) []
+places_at index key = unwrap_or (get text_order index.places key) []
 
 -- one more place at a key
 abbrev pub with_place : (List ℕ → List ℕ) → List ℕ → ℕ → List ℕ → List ℕ
@@ -18,7 +21,7 @@ with_place places key place q = if bytes_eq key q then places q ++ place ∷ [] 
 
 -- one more place before others, if it has a key
 abbrev pub if_keyed : List ℕ → List (List ℕ) → ℕ → List ℕ → List ℕ
-if_keyed q keys place places = if list_any (bytes_eq q) keys then place ∷ places else places
+if_keyed q keys place places = if list_any (λ key. bytes_eq key q) keys then place ∷ places else places
 
 -- the places of the things that have a key, by the keys of each thing, counted from a number on
 abbrev pub places_from : ℕ → List ℕ → List (List (List ℕ)) → List ℕ

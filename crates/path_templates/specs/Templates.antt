@@ -1,8 +1,9 @@
 -- Templates of paths: a slash alone, or segments that each stand behind a slash (OpenAPI 3.0.3, Paths Object and
 -- "Path Templating"). Wildcards are of this library. All lists are of characters.
-use Rattle.std.specs.Prelude.{◌==◌, ◌++◌, ℕ, Bool, true, false, not, ◌&&◌, ◌||◌, nat_le, List, [], ◌∷◌, Option, Some, None, bytes_eq, codes, if◌then◌else◌}
-use Rattle.std.specs.List.{filter_map, list_all, list_any}
+use Rattle.std.specs.Prelude.{◌≡◌, ◌==◌, ◌++◌, ℕ, Bool, true, false, not, ◌&&◌, ◌||◌, nat_le, List, [], ◌∷◌, Option, Some, None, bytes_eq, codes, if◌then◌else◌}
+use Rattle.std.specs.List.{filter_map, list_all}
 use Rattle.std.specs.Option.{option_map_or}
+use Rattle.schema_values.specs.SoundTest.{are_distinct}
 use Rattle.path_templates.specs.declared.segment.PathSegment.{PathSegment}
 use Rattle.path_templates.specs.declared.segment.PathSegment.TheVariants.{Literal, VarnameSegment, VarnameWildcard}
 
@@ -80,7 +81,7 @@ name_in (VarnameWildcard name) = Some name
 
 -- whether a segment is a variable of a name
 abbrev pub has_name : List ℕ → PathSegment → Bool
-has_name name segment = option_map_or (bytes_eq name) false (name_in segment)
+has_name name segment = option_map_or (bytes_eq name) (name_in segment) false
 
 -- the names of the variables, in order
 abbrev pub names_of : List PathSegment → List (List ℕ)
@@ -97,16 +98,6 @@ abbrev pub is_wildcard_last : List PathSegment → Bool
 is_wildcard_last [] = true
 is_wildcard_last (s ∷ []) = true
 is_wildcard_last (s ∷ t ∷ ss) = not (is_wildcard s) && is_wildcard_last (t ∷ ss)
-
--- whether a name, if there is one, is among others
-abbrev pub is_repeated : Option (List ℕ) → List (List ℕ) → Bool
-is_repeated None names = false
-is_repeated (Some name) names = list_any (bytes_eq name) names
-
--- no two of some names are one
-abbrev pub are_distinct : List (List ℕ) → Bool
-are_distinct [] = true
-are_distinct (name ∷ names) = not (is_repeated (Some name) names) && are_distinct names
 
 -- a wildcard is the last, and no two variables have one name
 abbrev pub are_arranged : List PathSegment → Bool

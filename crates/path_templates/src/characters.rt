@@ -1,5 +1,6 @@
 //! Characters in slices.
-ghost use Rattle.std.specs.Prelude.{◌≡◌, IfOk, length, list_all, take_while};
+ghost use Rattle.std.specs.Prelude.{◌≡◌, IfOk};
+ghost use Rattle.path_templates.specs.Segments.{name_length};
 ghost use Rattle.path_templates.specs.Templates.{begins_name, continues_name, is_literal};
 ghost use Rattle.path_templates.specs.Templates.{is_literal_character, is_variable_name};
 
@@ -44,16 +45,12 @@ fn continues_name(character: char) -> bool
 
 // How many characters at the front may stand in a name.
 pub(crate) fn name_length(characters: &[char]) -> usize
-    ensures { result ≡ length (take_while continues_name characters.now) }
+    ensures { result ≡ name_length characters.now }
 {
-    let mut length = 0;
-    for character in characters {
-        if !continues_name(*character) {
-            break;
-        }
-        length += 1;
-    }
-    length
+    characters
+        .iter()
+        .take_while(|character| continues_name(**character))
+        .count()
 }
 
 // Whether some characters are the name of a variable.
@@ -78,5 +75,8 @@ fn is_literal_character(character: char) -> bool
 pub(crate) fn is_literal(characters: &[char]) -> bool
     ensures { result ≡ is_literal characters.now }
 {
-    !characters.is_empty() && characters.iter().all(|character| is_literal_character(*character))
+    !characters.is_empty()
+        && characters
+            .iter()
+            .all(|character| is_literal_character(*character))
 }

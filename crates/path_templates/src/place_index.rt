@@ -1,9 +1,8 @@
 //! The places of things in a list, by their keys.
 ghost use Rattle.std.specs.Prelude.{◌≡◌, [], OnErr, OnOk, List as ListOf, ℕ};
-ghost use Rattle.std.specs.Str.{chars};
 ghost use Rattle.path_templates.specs.Places.{places_at, with_place};
 
-use schema_values::List;
+use schema_values::{List, Text};
 use std::alloc::{AllocError, Global};
 use std::collections::BTreeMap;
 
@@ -11,7 +10,7 @@ use std::collections::BTreeMap;
 /// time logarithmic in the number of keys.
 #[derive(Drop)]
 pub struct PlaceIndex {
-    places: BTreeMap<String, List<usize>>,
+    places: BTreeMap<Text, List<usize>>,
 }
 
 impl PlaceIndex {
@@ -25,8 +24,8 @@ impl PlaceIndex {
     }
 
     /// The places at a key, in the order in which they were added.
-    pub fn at(&self, key: &str) -> &[usize]
-        ensures { result.now ≡ places_at self.now (chars key.now) }
+    pub fn at(&self, key: &Text) -> &[usize]
+        ensures { result.now ≡ places_at self.now key.now }
     {
         match self.places.get(key) {
             Some(places) => places.as_slice(),
@@ -35,18 +34,18 @@ impl PlaceIndex {
     }
 
     /// Adds a place at a key. After want of memory each key has the places of before.
-    pub fn add(&mut self, alloc: Global, key: &str, place: usize) -> Result<(), AllocError>
+    pub fn add(&mut self, alloc: Global, key: Text, place: usize) -> Result<(), AllocError>
         ensures ok { OnOk result ((q : ListOf ℕ)
-            → places_at self.new q ≡ with_place (places_at self.old) (chars key.now) place q) }
+            → places_at self.new q ≡ with_place (places_at self.old) key place q) }
         ensures err { OnErr result ((q : ListOf ℕ)
             → places_at self.new q ≡ places_at self.old q) }
     {
-        match self.places.get_mut(key) {
+        match self.places.get_mut(&key) {
             Some(places) => places.push(place),
             None => {
                 let mut places = List::new(alloc);
                 places.push(place)?;
-                self.places.insert(String::from_str(alloc, key)?, places)?;
+                self.places.insert(key, places)?;
                 Ok(())
             }
         }

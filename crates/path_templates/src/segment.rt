@@ -33,7 +33,10 @@ impl PathSegment {
     pub fn has_name(&self, name: &Text) -> bool
         ensures { result ≡ has_name name.now self.now }
     {
-        self.variable_name() == Some(name)
+        match self.variable_name() {
+            Some(own) => name == own,
+            None => false,
+        }
     }
 
     /// Whether the segment stands for all that is left of a path.

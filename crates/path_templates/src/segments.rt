@@ -1,14 +1,15 @@
 //! Segments of paths, read piece by piece.
-ghost use Rattle.std.specs.Prelude.{◌≡◌, ◌∷◌, IfOk, MatchOption, List as ListOf, Option as OptionOf};
-ghost use Rattle.std.specs.Prelude.{Ok, Some, None};
-ghost use Rattle.path_templates.specs.Segments.{closed_by, pieces, segment_of, segments_in};
-ghost use Rattle.path_templates.specs.Segments.{segments_trimmed, variable_of};
-ghost use Rattle.path_templates.specs.Templates.{are_arranged, are_distinct, is_repeated};
-ghost use Rattle.path_templates.specs.Templates.{is_wildcard_last, name_in, names_of};
+ghost use Rattle.std.specs.Prelude.{◌≡◌, ◌&&◌, ◌∷◌, ◌<◌, IfOk, IfSome, length};
+ghost use Rattle.std.specs.Option.{option_copied};
+ghost use Rattle.schema_values.specs.SoundTest.{are_distinct};
+ghost use Rattle.path_templates.specs.Segments.{closed_by, if_arranged, literal_of, pieces};
+ghost use Rattle.path_templates.specs.Segments.{pieces_left, segment_of, segments_behind};
+ghost use Rattle.path_templates.specs.Segments.{segments_in, segments_trimmed, variable_of};
+ghost use Rattle.path_templates.specs.Templates.{are_arranged, is_wildcard_last, names_of};
 
 use crate::characters::{is_literal, is_variable_name, name_length, text_of};
 use crate::segment::PathSegment;
-use schema_values::{List, Text};
+use schema_values::List;
 use std::alloc::{AllocError, Global};
 
 // The segments of a path without a slash at its end, if it is a template.
@@ -19,16 +20,38 @@ pub(crate) fn segments_trimmed(
     ensures { IfOk result (λ found. found ≡ segments_trimmed path.now) }
 {
     match path.split_first() {
-        Some(('/', rest)) => {
-            if rest.is_empty() {
-                return Ok(Some(List::new(alloc)));
-            }
-            match segments_in(alloc, rest)? {
-                Some(segments) if are_arranged(segments.as_slice()) => Ok(Some(segments)),
-                _ => Ok(None),
+        Some((first, rest)) => {
+            if *first == '/' {
+                segments_behind(alloc, rest)
+            } else {
+                Ok(None)
             }
         }
-        _ => Ok(None),
+        None => Ok(None),
+    }
+}
+
+// The segments behind the first slash of a path, if it is a template.
+fn segments_behind(alloc: Global, text: &[char]) -> Result<Option<List<PathSegment>>, AllocError>
+    ensures { IfOk result (λ found. found ≡ segments_behind text.now) }
+{
+    if text.is_empty() {
+        return Ok(Some(List::new(alloc)));
+    }
+    match segments_in(alloc, text)? {
+        Some(segments) => Ok(if_arranged(segments)),
+        None => Ok(None),
+    }
+}
+
+// Some segments, if they may stand together.
+fn if_arranged(segments: List<PathSegment>) -> Option<List<PathSegment>>
+    ensures { result ≡ if_arranged segments }
+{
+    if are_arranged(segments.as_slice()) {
+        Some(segments)
+    } else {
+        None
     }
 }
 
@@ -38,7 +61,7 @@ fn segments_in(alloc: Global, text: &[char]) -> Result<Option<List<PathSegment>>
 {
     let mut segments = List::new(alloc);
     let mut left = Some(text);
-    while let Some(text) = left {
+    'pieces: while let Some(text) = left {
         let (piece, rest) = first_piece(text);
         match segment_of(alloc, piece)? {
             Some(segment) => segments.push(segment)?,
@@ -51,8 +74,8 @@ fn segments_in(alloc: Global, text: &[char]) -> Result<Option<List<PathSegment>>
 
 // What stands before the first slash, and what stands behind it, if there is one.
 fn first_piece(text: &[char]) -> (&[char], Option<&[char]>)
-    ensures { MatchOption result.1 (pieces text.now ≡ result.0.now ∷ [])
-        (λ rest. pieces text.now ≡ result.0.now ∷ pieces rest.now) }
+    ensures pieces { pieces text.now ≡ result.0.now ∷ pieces_left (option_copied result.1) }
+    ensures shorter { IfSome result.1 (λ rest. length rest.now < length text.now) }
 {
     match text.iter().position(|character| *character == '/') {
         Some(end) => (&text[..end], Some(&text[end + 1..])),
@@ -65,9 +88,25 @@ fn segment_of(alloc: Global, piece: &[char]) -> Result<Option<PathSegment>, Allo
     ensures { IfOk result (λ found. found ≡ segment_of piece.now) }
 {
     match piece.split_first() {
-        Some(('{', rest)) => variable_of(alloc, rest),
-        _ if is_literal(piece) => Ok(Some(PathSegment::Literal(text_of(alloc, piece)?))),
-        _ => Ok(None),
+        Some((first, rest)) => {
+            if *first == '{' {
+                variable_of(alloc, rest)
+            } else {
+                literal_of(alloc, piece)
+            }
+        }
+        None => Ok(None),
+    }
+}
+
+// The literal of a piece, if it is one.
+fn literal_of(alloc: Global, piece: &[char]) -> Result<Option<PathSegment>, AllocError>
+    ensures { IfOk result (λ found. found ≡ literal_of piece.now) }
+{
+    if is_literal(piece) {
+        Ok(Some(PathSegment::Literal(text_of(alloc, piece)?)))
+    } else {
+        Ok(None)
     }
 }
 
@@ -91,10 +130,12 @@ fn closed_by(
 ) -> Result<Option<PathSegment>, AllocError>
     ensures { IfOk result (λ found. found ≡ closed_by name.now ending.now) }
 {
-    match ending {
-        ['}'] => Ok(Some(PathSegment::VarnameSegment(text_of(alloc, name)?))),
-        [':', '.', '*', '}'] => Ok(Some(PathSegment::VarnameWildcard(text_of(alloc, name)?))),
-        _ => Ok(None),
+    if ending == ['}'].as_slice() {
+        Ok(Some(PathSegment::VarnameSegment(text_of(alloc, name)?)))
+    } else if ending == [':', '.', '*', '}'].as_slice() {
+        Ok(Some(PathSegment::VarnameWildcard(text_of(alloc, name)?)))
+    } else {
+        Ok(None)
     }
 }
 
@@ -119,18 +160,23 @@ fn is_wildcard_last(segments: &[PathSegment]) -> bool
 fn are_distinct(segments: &[PathSegment]) -> bool
     ensures { result ≡ are_distinct (names_of segments.now) }
 {
-    match segments.split_first() {
-        Some((first, rest)) => !is_repeated(first, rest) && are_distinct(rest),
-        None => true,
+    let mut left = segments;
+    'names: while let Some((first, rest)) = left.split_first() {
+        if !is_new(first, rest) {
+            return false;
+        }
+        left = rest;
     }
+    true
 }
 
-// Whether the name of a segment stands among others.
-fn is_repeated(segment: &PathSegment, others: &[PathSegment]) -> bool
-    ensures { result ≡ is_repeated (name_in segment.now) (names_of others.now) }
+// Whether no other segment has the name of a segment, if that has one.
+fn is_new(segment: &PathSegment, others: &[PathSegment]) -> bool
+    ensures { are_distinct (names_of (segment.now ∷ others.now))
+        ≡ (result && are_distinct (names_of others.now)) }
 {
     match segment.variable_name() {
-        Some(name) => others.iter().any(|other| other.has_name(name)),
-        None => false,
+        Some(name) => others.iter().all(|other| !other.has_name(name)),
+        None => true,
     }
 }

@@ -1,9 +1,9 @@
 //! Templates of paths.
-ghost use Rattle.std.specs.Prelude.{◌≡◌, ◌↔◌, IfOk, IfSome, IsTrue, is_some, option_map};
+ghost use Rattle.std.specs.Prelude.{◌≡◌, ◌↔◌, ◌++◌, IfOk, IsTrue, OnOk, map, option_map};
 ghost use Rattle.std.specs.Str.{chars};
 ghost use Rattle.path_templates.specs.Segments.{segments_of, wildcard_of};
-ghost use Rattle.path_templates.specs.Shapes.{HaveOneShape, shape_of};
-ghost use Rattle.path_templates.specs.Templates.{IsTemplateOf, names_of, trimmed};
+ghost use Rattle.path_templates.specs.Shapes.{nameless, shape_of};
+ghost use Rattle.path_templates.specs.Templates.{behind_slashes, names_of, trimmed};
 ghost use Rattle.path_templates.specs.Variables.{VariablesMatch};
 
 use crate::characters::characters;
@@ -37,27 +37,26 @@ pub struct Template {
 }
 
 impl Model for Template {
-    ghost use Rattle.std.specs.Prelude.{◌≡◌, List as ListOf, true};
+    ghost use Rattle.std.specs.Prelude.{List as ListOf};
     ghost use Rattle.path_templates.specs.declared.segment.PathSegment.{PathSegment as Segment};
-    ghost use Rattle.path_templates.specs.Templates.{are_segments};
 
     ghost Value = { ListOf Segment };
 
     ghost view = { λ template. template.segments };
-
-    ghost invariant = { λ template. are_segments template.segments ≡ true };
 }
 
 impl Template {
     /// The template of a path, where one slash at its end is dropped. `None` exactly where the path is
     /// no template.
     pub fn parse(alloc: Global, path: &Text) -> Result<Option<Template>, AllocError>
-        ensures segments { IfOk result (λ found. found ≡ segments_of path.now) }
-        ensures spelled { IfOk result (IfSome (IsTemplateOf path.now)) }
+        ensures { IfOk result (λ found. found ≡ segments_of path.now) }
     {
         let characters = characters(alloc, path)?;
         let segments = segments_trimmed(alloc, trimmed(characters.as_slice()))?;
-        Ok(segments.map(|segments| Template { segments }))
+        match segments {
+            Some(segments) => Ok(Some(Template { segments })),
+            None => Ok(None),
+        }
     }
 
     /// The segments, in order.
@@ -84,7 +83,10 @@ impl Template {
     pub fn wildcard(&self) -> Option<&Text>
         ensures { option_map (λ name. name.now) result ≡ wildcard_of self.now }
     {
-        self.segments().iter().find(|segment| segment.is_wildcard())?.variable_name()
+        self.segments()
+            .iter()
+            .find(|segment| segment.is_wildcard())?
+            .variable_name()
     }
 
     /// The text of the template, where each variable is replaced by the sign `{}`.
@@ -94,10 +96,8 @@ impl Template {
         let mut shape = Text::new(alloc);
         if self.segments.is_empty() {
             shape.push_ascii("/")?;
-        }
-        for segment in self.segments() {
-            shape.push_ascii("/")?;
-            segment.push_nameless(&mut shape)?;
+        } else {
+            push_shape(self.segments(), &mut shape)?;
         }
         Ok(shape)
     }
@@ -120,6 +120,18 @@ impl Template {
         }
         Ok(Template { segments })
     }
+}
+
+// Puts the texts of segments at the end of another, each behind a slash, with a sign in place of a variable.
+fn push_shape(segments: &[PathSegment], shape: &mut Text) -> Result<(), AllocError>
+    ensures { OnOk result
+        (shape.new ≡ shape.old ++ behind_slashes (map nameless segments.now)) }
+{
+    for segment in segments {
+        shape.push_ascii("/")?;
+        segment.push_nameless(shape)?;
+    }
+    Ok(())
 }
 
 // Some characters without a slash at the end; a slash alone stays.
