@@ -52,8 +52,28 @@ declaration_code = code_by
     × (List (List ℕ) × (Option (List ℕ) × (Option (List ℕ) × (Option ℕ × HandlerShape)))))))))))
     (coded× text_code (coded× text_code (coded× text_code (coded× kinds.the_row.coded (coded× range_code (coded× coded_bool (coded× coded_bool
     (coded× (coded_list text_code) (coded× (coded_option text_code) (coded× (coded_option text_code) (coded× (coded_option coded_ℕ) shapes.the_row.coded)))))))))))
-    (λ d. (d.operation_id, (d.method, (d.path, (d.body_content_type, (d.versions, (d.visible, (d.deprecated,
-    (d.tags, (d.summary, (d.description, (d.body_limit, d.shape))))))))))))
+    (λ d. (
+      d.operation_id,
+      (
+        d.method,
+        (
+          d.path,
+          (
+            d.body_content_type,
+            (
+              d.versions,
+              (
+                d.visible,
+                (
+                  d.deprecated,
+                  (d.tags, (d.summary, (d.description, (d.body_limit, d.shape)))),
+                ),
+              ),
+            ),
+          ),
+        ),
+      ),
+    ))
     (λ p. record {
       operation_id = p.0;
       method = p.1.0;

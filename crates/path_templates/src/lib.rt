@@ -10,4 +10,4 @@ mod variables;
 
 pub use place_index::PlaceIndex;
 pub use segment::PathSegment;
-pub use template::{Template, without_trailing_slash};
+pub use template::{Template, same_template, without_trailing_slash};

@@ -1,5 +1,5 @@
 //! Templates of paths.
-ghost use Rattle.std.specs.Prelude.{◌≡◌, ◌↔◌, ◌++◌, IfOk, IsTrue, OnOk, map, option_map};
+ghost use Rattle.std.specs.Prelude.{◌≡◌, ◌↔◌, ◌++◌, IfOk, IsTrue, OnOk, bytes_eq, map, option_map};
 ghost use Rattle.std.specs.Str.{chars};
 ghost use Rattle.path_templates.specs.Segments.{segments_of, wildcard_of};
 ghost use Rattle.path_templates.specs.Shapes.{nameless, shape_of};
@@ -26,6 +26,19 @@ pub fn without_trailing_slash(path: &Text) -> &str
         Some(front) => front,
         None => path,
     }
+}
+
+/// Whether two paths are one template, where one slash at the end of each is dropped.
+pub fn same_template(path: &Text, other: &Text) -> bool
+    ensures { result ≡ bytes_eq (trimmed path.now) (trimmed other.now) }
+{
+    same_text(without_trailing_slash(path), without_trailing_slash(other))
+}
+
+fn same_text(text: &str, other: &str) -> bool
+    ensures { result ≡ bytes_eq (chars text.now) (chars other.now) }
+{
+    text == other
 }
 
 /// The template of a path: a slash alone, or segments that each stand behind a slash. A segment is a

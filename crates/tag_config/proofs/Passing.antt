@@ -1,5 +1,5 @@
 -- The descriptor of configurations passes its checks beside a table without definitions.
-use Rattle.std.proofs.Common.{◌≡◌, ◌≢◌, ⊤, ℕ, Bool, true, false, List, [], ◌∷◌, map, Option, Some, None, refl, sym, ap, subst, ◌∙◌, ◌⊎◌, inl, inr, arith, codes}
+use Rattle.std.proofs.Common.{◌≡◌, ◌≢◌, ℕ, Bool, true, false, List, [], ◌∷◌, map, Option, Some, None, refl, sym, ap, subst, ◌∙◌, ◌⊎◌, inl, inr, arith, codes}
 use Rattle.std.specs.Prelude.{Contains, bytes_eq}
 use Rattle.std.specs.List.{AllByRecursion}
 use Rattle.std.proofs.lemmas.Bool.{cases_Bool}
@@ -119,7 +119,7 @@ policy_is = descs.outs-Enumeration policy_names
 policy_clean : IsClean policy_desc
 policy_clean =
     clean_by policy_desc policy_level policy_is
-    (right_by policy_desc policy_level policy_is ((differ (codes "Any") (codes "AtLeastOne") refl, (differ (codes "Any") (codes "ExactlyOne") refl, tt)), ((differ (codes "AtLeastOne") (codes "ExactlyOne") refl, tt), (tt, tt))) refl refl (λ name q. cc q) (λ x q t. cc q) (λ tag vs q. cc q) (λ ds q. cc q) no_fields)
+    (right_by policy_desc policy_level policy_is (((differ (codes "Any") (codes "AtLeastOne") refl, (differ (codes "Any") (codes "ExactlyOne") refl, tt)), ((differ (codes "AtLeastOne") (codes "ExactlyOne") refl, tt), (tt, tt))), tt) refl refl (λ name q. cc q) (λ x q t. cc q) (λ tag vs q. cc q) (λ ds q. cc q) no_fields)
     (λ c. c)
   where
     no_fields : (f : Field) → IsFieldOf policy_desc f → IsBadField [] f → ⊥
@@ -247,11 +247,11 @@ configuration_passes json = passes_of _ (configuration_clean (name_by policy_fie
 pub new_passes : DescPasses [] (configuration_desc policy_field.new tags_field.new)
 new_passes = passes_of _ (configuration_clean policy_field.new tags_field.new ((differ (codes "allow_other_tags") (codes "policy") refl, (differ (codes "allow_other_tags") (codes "tags") refl, tt)), ((differ (codes "policy") (codes "tags") refl, tt), (tt, tt))))
 
-pub configuration_tabled : (json : Json) → IsTableOf [] (configuration_desc (name_by policy_field json) (name_by tags_field json)) []
-configuration_tabled json = record { holds = λ e c. absurd (nothing e c); table_passes = empty_passes; desc_passes = configuration_passes json }
+pub empty_table : (d : Desc) → DescPasses [] d → IsTableOf [] d []
+empty_table d passes = record { holds = λ e c. absurd (nothing e c); table_passes = empty_passes; desc_passes = passes }
 
 pub new_tabled : IsTableOf [] (configuration_desc policy_field.new tags_field.new) []
-new_tabled = record { holds = λ e c. absurd (nothing e c); table_passes = empty_passes; desc_passes = new_passes }
+new_tabled = empty_table _ new_passes
 
 pub new_reaches_no_untagged : ReachesNoUntagged [] (configuration_desc policy_field.new tags_field.new)
 new_reaches_no_untagged = record {

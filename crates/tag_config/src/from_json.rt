@@ -5,6 +5,8 @@ ghost use Rattle.schema_values.specs.Sound.{IsSound};
 ghost use Rattle.descriptors.specs.declared.desc.Desc.TheVariants as descs;
 ghost use Rattle.descriptors.specs.declared.tree.Tree.TheVariants as trees;
 ghost use Rattle.typed_values.specs.Answer.{IfFault, IsFaultOf};
+ghost use Rattle.typed_values.specs.Checks.{DescPasses};
+ghost use Rattle.typed_values.specs.Denotes.{JsonDenotes, told};
 ghost use Rattle.typed_values.specs.Faults.{at_root, fault_of};
 ghost use Rattle.typed_values.specs.declared.fault.FaultKind.TheVariants as kinds;
 ghost use Rattle.api_types.specs.Heads.{required};
@@ -46,9 +48,26 @@ impl TagConfig {
         }
         let policy = name_by(json, "policy", "endpoint_tag_policy");
         let tags = name_by(json, "tags", "tag_definitions");
-        let desc = configuration_desc(alloc, policy, tags)?;
-        let tree = decode_json(alloc, &DescTable::new(alloc), &desc, json)?;
-        Ok(configuration_of(alloc, &tree)?)
+        decoded(alloc, policy, tags, json)
+    }
+}
+
+// The configuration of an object whose two fields are named so.
+fn decoded(alloc: Global, policy: &str, tags: &str, json: &Json) -> Result<TagConfig, DecodeError>
+    requires sound { IsSound json.now }
+    requires policy { IsTrue (all_ascii policy.now) }
+    requires tags { IsTrue (all_ascii tags.now) }
+    requires passes { DescPasses [] (configuration_desc policy.now tags.now) }
+    ensures denotes { IfOk result (λ config. JsonDenotes [] (configuration_desc policy.now tags.now)
+        json.now (configuration_tree config)) }
+    ensures fault { IfErr result (λ error. IfFault error (IsFaultOf
+        (told [] (configuration_desc policy.now tags.now) json.now
+        (configuration_desc policy.now tags.now)))) }
+{
+    let desc = configuration_desc(alloc, policy, tags)?;
+    match decode_json(alloc, &DescTable::new(alloc), &desc, json) {
+        Ok(tree) => Ok(configuration_of(alloc, &tree)?),
+        Err(error) => Err(error),
     }
 }
 
@@ -76,7 +95,10 @@ fn stands(json: &Json, name: &str) -> bool
     requires { IsTrue (all_ascii name.now) }
     ensures { result ≡ stands name.now json.now }
 {
-    json.get(name).is_some()
+    match json.get(name) {
+        Some(_value) => true,
+        None => false,
+    }
 }
 
 // The fault of a field that stands by both of its names.
@@ -101,10 +123,13 @@ pub(crate) fn configuration_desc(
     requires tags { IsTrue (all_ascii tags.now) }
     ensures { IfOk result (λ desc. desc ≡ configuration_desc policy.now tags.now) }
 {
+    let allow_other_tags = field(alloc, "allow_other_tags", Desc::Bool)?;
+    let policy = field(alloc, policy, EndpointTagPolicy::descriptor(alloc)?)?;
+    let tags = field(alloc, tags, tags_desc(alloc)?)?;
     let mut fields = List::new(alloc);
-    fields.push(field(alloc, "allow_other_tags", Desc::Bool)?)?;
-    fields.push(field(alloc, policy, EndpointTagPolicy::descriptor(alloc)?)?)?;
-    fields.push(field(alloc, tags, tags_desc(alloc)?)?)?;
+    fields.push(allow_other_tags)?;
+    fields.push(policy)?;
+    fields.push(tags)?;
     Ok(Desc::Struct {
         fields,
         deny_unknown: false,
