@@ -1,5 +1,5 @@
--- Which arguments are of which slots.
-use Rattle.std.specs.Prelude.{ℕ, ◌≤◌, pos, ⊤, List, [], ◌∷◌}
+-- Which arguments are of which slots, and what a handler does to its arguments.
+use Rattle.std.specs.Prelude.{◌≡◌, ℕ, zero, suc, ◌≤◌, pos, ⊤, List, [], ◌∷◌}
 use Rattle.descriptors.specs.declared.desc.Desc.{Desc}
 use Rattle.descriptors.specs.declared.table.Definition.{Definition}
 use Rattle.descriptors.specs.declared.tree.Tree.{Tree, out-Tree}
@@ -13,8 +13,8 @@ use Rattle.handler_shapes.specs.declared.arguments.Arg.TheVariants.{Tree as OfTr
 
 -- a scan of the first page, or the selector of a later one
 abbrev pub PageFits : List Definition → Desc → List Definition → Desc → TreeOf Tree → Type 0
-PageFits table scan selector_table selector (Tree-F.Variant 0 tree) = Fits table scan tree
-PageFits table scan selector_table selector (Tree-F.Variant 1 tree) = Fits selector_table selector tree
+PageFits table scan selector_table selector (Tree-F.Variant zero tree) = Fits table scan tree
+PageFits table scan selector_table selector (Tree-F.Variant (suc zero) tree) = Fits selector_table selector tree
 PageFits table scan selector_table selector _ = ⊥
 
 -- how many items a page has at most: from 1 to 2^32-1
@@ -51,3 +51,17 @@ ArgsFit table [] [] = ⊤
 ArgsFit table [] (arg ∷ args) = ⊥
 ArgsFit table (slot ∷ slots) [] = ⊥
 ArgsFit table (slot ∷ slots) (arg ∷ args) = ArgFits table slot arg × ArgsFit table slots args
+
+-- a tree and bytes stay; a stream may be read
+abbrev pub ArgStays : Arg → Arg → Type 0
+ArgStays (OfTree before) after = after ≡ OfTree before
+ArgStays (Raw before) after = after ≡ Raw before
+ArgStays (Stream before) (Stream after) = ⊤
+ArgStays (Stream before) _ = ⊥
+
+-- each argument stays
+abbrev pub ArgsStay : List Arg → List Arg → Type 0
+ArgsStay [] [] = ⊤
+ArgsStay [] (after ∷ afters) = ⊥
+ArgsStay (before ∷ befores) [] = ⊥
+ArgsStay (before ∷ befores) (after ∷ afters) = ArgStays before after × ArgsStay befores afters

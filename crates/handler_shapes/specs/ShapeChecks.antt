@@ -12,9 +12,9 @@ use Rattle.handler_shapes.specs.declared.shape.ContentShape.TheVariants.{Json, E
 use Rattle.handler_shapes.specs.declared.shape.HandlerShape.{HandlerShape}
 
 -- a selector passes with its own table
-pub record SelectorPasses (table : List Definition) (selector : Desc) : Type 0 where
-  pub table : TablePasses table
-  pub selector : DescPasses table selector
+pub record SelectorPasses (definitions : List Definition) (desc : Desc) : Type 0 where
+  pub table : TablePasses definitions
+  pub selector : DescPasses definitions desc
 
 -- each descriptor of a slot passes
 abbrev pub SlotPasses : List Definition → Slot → Type 0

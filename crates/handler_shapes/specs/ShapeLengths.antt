@@ -11,9 +11,9 @@ use Rattle.handler_shapes.specs.declared.shape.ContentShape.TheVariants.{Json, E
 use Rattle.handler_shapes.specs.declared.shape.HandlerShape.{HandlerShape}
 
 -- each length of a selector and of its own table is below 2^32
-pub record SelectorHasShortLengths (table : List Definition) (selector : Desc) : Type 0 where
-  pub table : TableHasShortLengths table
-  pub selector : HasShortLengths selector
+pub record SelectorHasShortLengths (definitions : List Definition) (desc : Desc) : Type 0 where
+  pub table : TableHasShortLengths definitions
+  pub selector : HasShortLengths desc
 
 -- each length of each descriptor of a slot is below 2^32
 abbrev pub SlotHasShortLengths : Slot → Type 0

@@ -1,6 +1,6 @@
 //! What handlers are given of a request.
 
-use crate::streaming::StreamingBody;
+use body_reading::StreamingBody;
 use schema_values::List;
 use typed_values::Tree;
 

@@ -6,11 +6,9 @@ mod checks;
 mod scalars;
 mod shape;
 mod slot;
-mod streaming;
 
 pub use arguments::{Arg, ArgList};
 pub use checks::{shape_passes, slot_passes};
 pub use scalars::is_scalar;
 pub use shape::{ApiEndpointErrorResponse, ApiEndpointResponse, ContentShape, HandlerShape};
 pub use slot::Slot;
-pub use streaming::StreamingBody;

@@ -20,8 +20,8 @@ pub fn is_scalar(table: &DescTable, desc: &Desc) -> bool
         Desc::Text { .. } => true,
         Desc::Enumeration { .. } => true,
         Desc::Option(inner) => is_scalar(table, inner.get()),
-        Desc::Ref(name) => match table.find(name) {
-            Some(definition) => is_scalar(table, definition),
+        Desc::Ref(name) => match table.entry_named(name.as_str()) {
+            Some(definition) => is_scalar(table, &definition.desc),
             None => false,
         },
         _ => false,

@@ -1,7 +1,8 @@
 -- The request on the wire that a request and the bytes of its body are.
 use Rattle.std.specs.Prelude.{ℕ, List, [], map, unwrap_or}
+use Rattle.std.proofs.Common.{inl}
 use Rattle.std.specs.Str.{chars}
-use Rattle.std.specs.BTreeMap.{BTreeMap}
+use Rattle.std_collections.specs.BTreeMap.{BTreeMap}
 use Rattle.std_collections.specs.Layout.BTreeMap.{btree_map}
 use Rattle.header_lists.specs.HeaderLists.{Line}
 use Rattle.http_uri.specs.Uri.{uri_query}

@@ -28,7 +28,7 @@ use Rattle.written_schemas.proofs.Costs.{cost_after, cost_by, cost}
 use Rattle.written_schemas.proofs.Enumerations.{enumerated_is}
 use Rattle.written_schemas.proofs.Forms.{drawn_row}
 use Rattle.written_schemas.proofs.Notes.{noted, before_members}
-use Rattle.written_texts.specs.ScalarTypes.{IsScalarType, a_truth, a_character, a_number, a_text, a_name, an_option, a_reference}
+use Rattle.handler_shapes.specs.ScalarTypes.{IsScalarType, a_truth, a_character, a_number, a_text, a_name, an_option, a_reference}
 use Rattle.written_texts.proofs.NameTexts.{plain_names, described_names}
 use Rattle.written_texts.proofs.ScalarTexts.{truth_text, number_text, words_text, character_text}
 use Rattle.written_texts.proofs.SchemaSteps.{one_more, reference_step, wrapped_step}

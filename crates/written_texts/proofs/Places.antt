@@ -29,7 +29,7 @@ use Rattle.flat_maps.specs.Pairs.{last_values, are_several, is_doubled, pairs_fi
 use Rattle.flat_maps.specs.Texts.{text_told}
 use Rattle.written_texts.specs.FieldParameters.{is_required, AllRequired}
 use Rattle.written_texts.specs.HeaderTexts.{line_told, header_told}
-use Rattle.written_texts.specs.ScalarTypes.{IsScalarType, a_truth, a_character, a_number, a_text, a_name, an_option, a_reference}
+use Rattle.handler_shapes.specs.ScalarTypes.{IsScalarType, a_truth, a_character, a_number, a_text, a_name, an_option, a_reference}
 use Rattle.written_texts.proofs.FieldTexts.{told_or_not, field_holds, ok_fields, ok_doubled, all_alike, all_both}
 
 module _ (table : List Definition) where

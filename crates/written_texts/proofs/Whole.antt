@@ -21,7 +21,7 @@ use Rattle.written_schemas.proofs.Notes.{noted}
 use Rattle.written_schemas.proofs.Rooms.{cost_bounded}
 use Rattle.written_schemas.proofs.Sizes.{bare, bare_fits}
 use Rattle.written_texts.specs.Agrees.{AdmitsTexts}
-use Rattle.written_texts.specs.ScalarTypes.{IsScalarType, a_truth, a_character, a_number, a_text, a_name, an_option, a_reference}
+use Rattle.handler_shapes.specs.ScalarTypes.{IsScalarType, a_truth, a_character, a_number, a_text, a_name, an_option, a_reference}
 use Rattle.written_texts.proofs.Agreement.{agree_at}
 use Rattle.written_texts.proofs.WrittenParts.{written_part}
 

@@ -8,7 +8,7 @@ use Rattle.descriptors.specs.declared.table.Definition.{Definition}
 use Rattle.typed_values.specs.Checks.{TablePasses, DescPasses}
 use Rattle.flat_maps.specs.Flat.{resolved, flat_fields}
 use Rattle.written_schemas.specs.Reached.{DefinesReached}
-use Rattle.written_texts.specs.ScalarTypes.{IsScalarType}
+use Rattle.handler_shapes.specs.ScalarTypes.{IsScalarType}
 
 -- a struct of these fields that takes unknown names, or a reference that leads to one; each field is scalar, and table and
 -- descriptor pass their checks

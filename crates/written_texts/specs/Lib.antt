@@ -1,4 +1,3 @@
-pub mod ScalarTypes
 pub mod Agrees
 pub mod FieldParameters
 pub mod HeaderTexts

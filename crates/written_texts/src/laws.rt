@@ -25,7 +25,7 @@ ghost use Rattle.written_texts.specs.FieldParameters.{query_parameters, header_p
 ghost use Rattle.written_texts.specs.FlatStructs.{IsFlatStruct, DefinesFields};
 ghost use Rattle.written_texts.specs.HeaderTexts.{HeadersDenote};
 ghost use Rattle.written_texts.specs.PageParameters.{HasLimit, NoneNamed, PageParametersHold};
-ghost use Rattle.written_texts.specs.ScalarTypes.{IsScalarType};
+ghost use Rattle.handler_shapes.specs.ScalarTypes.{IsScalarType};
 
 /// The schema of a scalar type admits exactly the texts that denote a tree; so it does under a
 /// title or a description, and so does the schema that stands in a header or in a query. Of types

@@ -1,0 +1,46 @@
+-- Named headers that are inserted one by one, and what is told of the first that is no header line.
+use Rattle.std.proofs.Common.{◌≡◌, ℕ, List, [], ◌∷◌, ◌++◌, sym, ◌∙◌, ap, refl}
+use Rattle.std.proofs.lemmas.List.{append_assoc, append-nil}
+use Rattle.std.proofs.lemmas.List.Elements.{All-push}
+use Rattle.std.specs.Prelude.{All}
+use Rattle.flat_maps.specs.TextMaps.{TextEntry}
+use Rattle.header_lists.specs.HeaderLists.{Line}
+use Rattle.api_respond.specs.NamedHeaders.{AreHeaderLines, IfRefusal, IsFirstRefused, IsHeaderEntry, IsRefusal, line_of, with_named}
+use Rattle.api_respond.specs.declared.named_headers.Unwritten.{Unwritten}
+use Rattle.api_respond.specs.declared.named_headers.Unwritten.TheVariants.{Refused, OutOfMemory}
+
+-- the entries before the rest are header lines, and the rest is still to be inserted among the lines
+pub record AreInserted (entries rest : List TextEntry) (before lines : List Line) : Type 0 where
+  pub seen : List TextEntry
+  pub place : entries ≡ seen ++ rest
+  pub valid : AreHeaderLines seen
+  pub all : with_named entries before ≡ with_named rest lines
+
+pub none_inserted : (entries : List TextEntry) (lines : List Line) → AreInserted entries entries lines lines
+none_inserted entries lines = record { seen = []; place = refl; valid = _; all = refl }
+
+module _ (entries rest later : List TextEntry) (before lines : List Line) (entry : TextEntry) (next : rest ≡ entry ∷ later) (done : AreInserted entries rest before lines) where
+  placed : entries ≡ done.seen ++ entry ∷ later
+  placed = done.place ∙ ap (λ es. done.seen ++ es) next
+
+  pub one_inserted : (more : List Line) → more ≡ with_named (entry ∷ []) lines → IsHeaderEntry entry → AreInserted entries later before more
+  one_inserted more is valid = record {
+    seen = done.seen ++ entry ∷ [];
+    place = placed ∙ sym (append_assoc done.seen (entry ∷ []) later);
+    valid = All-push IsHeaderEntry done.seen entry done.valid valid;
+    all = done.all ∙ ap (λ es. with_named es lines) next ∙ ap (with_named later) (sym is);
+  }
+
+  pub first_refused : (message : List ℕ) → IsRefusal entry message → IsFirstRefused entries message
+  first_refused message refused = record { before = done.seen; entry = entry; behind = later; place = placed; valid = done.valid; refused = refused }
+
+pub all_inserted : (entries rest : List TextEntry) (before lines : List Line) → rest ≡ [] → AreInserted entries rest before lines → (lines ≡ with_named entries before) × AreHeaderLines entries
+all_inserted entries rest before lines none done = (
+  sym (done.all ∙ ap (λ es. with_named es lines) none),
+  rw (done.place ∙ ap (λ es. done.seen ++ es) none ∙ append-nil done.seen) done.valid,
+)
+
+-- what follows from what is told
+pub told_more : (Fact Other : List ℕ → Type 0) → ((message : List ℕ) → Fact message → Other message) → (e : Unwritten) → IfRefusal e Fact → IfRefusal e Other
+told_more Fact Other more (Refused message) h = more message h
+told_more Fact Other more OutOfMemory h = tt

@@ -1,0 +1,5 @@
+pub mod Contexts
+pub mod Replies
+pub mod NamedHeaders
+pub mod Responses
+pub mod Encodes

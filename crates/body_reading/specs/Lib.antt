@@ -1,0 +1,5 @@
+pub mod Flaws
+pub mod Gathered
+pub mod Streams
+pub mod Texts
+pub mod Whole
