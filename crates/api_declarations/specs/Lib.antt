@@ -1,0 +1,4 @@
+pub mod Values
+pub mod Codes
+pub mod Serving
+pub mod Keys

@@ -1,0 +1,4 @@
+-- What proofs of the crates above take from here: lemmas over the words of specs/.
+
+-- an index of places by keys
+pub use Rattle.path_templates.proofs.IndexLemmas.{index-push, index-keyless, index-kept, found_by_index, found_here, found_later}

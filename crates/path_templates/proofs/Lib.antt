@@ -1,0 +1,6 @@
+pub mod Pieces
+pub mod Slashes
+pub mod Texts
+pub mod Arranged
+pub mod IndexLemmas
+pub mod CallerLemmas

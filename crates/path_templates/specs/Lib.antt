@@ -1,0 +1,5 @@
+pub mod Templates
+pub mod Segments
+pub mod Shapes
+pub mod Variables
+pub mod Places

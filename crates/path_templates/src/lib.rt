@@ -1,0 +1,13 @@
+//! Templates of paths, and places of things by texts.
+#![tactic(auto)]
+
+mod characters;
+mod place_index;
+mod segment;
+mod segments;
+mod template;
+mod variables;
+
+pub use place_index::PlaceIndex;
+pub use segment::PathSegment;
+pub use template::{Template, same_template, without_trailing_slash};

@@ -1,0 +1,158 @@
+//! Templates of paths.
+ghost use Rattle.std.specs.Prelude.{◌≡◌, ◌↔◌, ◌++◌, IfOk, IsTrue, OnOk, bytes_eq, map, option_map};
+ghost use Rattle.std.specs.Str.{chars};
+ghost use Rattle.path_templates.specs.Segments.{segments_of, wildcard_of};
+ghost use Rattle.path_templates.specs.Shapes.{nameless, shape_of};
+ghost use Rattle.path_templates.specs.Templates.{behind_slashes, names_of, trimmed};
+ghost use Rattle.path_templates.specs.Variables.{VariablesMatch};
+
+use crate::characters::characters;
+use crate::segment::PathSegment;
+use crate::segments::segments_trimmed;
+use crate::variables::{all_given, all_named};
+use schema_values::{List, Text, VariableSet};
+use std::alloc::{AllocError, Global};
+use std::marker::Model;
+
+/// The path without one slash at its end; a slash alone stays.
+pub fn without_trailing_slash(path: &Text) -> &str
+    ensures { chars result.now ≡ trimmed path.now }
+{
+    let path = path.as_str();
+    if path == "/" {
+        return path;
+    }
+    match path.strip_suffix('/') {
+        Some(front) => front,
+        None => path,
+    }
+}
+
+/// Whether two paths are one template, where one slash at the end of each is dropped.
+pub fn same_template(path: &Text, other: &Text) -> bool
+    ensures { result ≡ bytes_eq (trimmed path.now) (trimmed other.now) }
+{
+    same_text(without_trailing_slash(path), without_trailing_slash(other))
+}
+
+fn same_text(text: &str, other: &str) -> bool
+    ensures { result ≡ bytes_eq (chars text.now) (chars other.now) }
+{
+    text == other
+}
+
+/// The template of a path: a slash alone, or segments that each stand behind a slash. A segment is a
+/// literal, a variable `{name}`, or as the last one a wildcard `{name:.*}`. Contracts see the list of
+/// its segments.
+#[derive(Drop)]
+pub struct Template {
+    segments: List<PathSegment>,
+}
+
+impl Model for Template {
+    ghost use Rattle.std.specs.Prelude.{List as ListOf};
+    ghost use Rattle.path_templates.specs.declared.segment.PathSegment.{PathSegment as Segment};
+
+    ghost Value = { ListOf Segment };
+
+    ghost view = { λ template. template.segments };
+}
+
+impl Template {
+    /// The template of a path, where one slash at its end is dropped. `None` exactly where the path is
+    /// no template.
+    pub fn parse(alloc: Global, path: &Text) -> Result<Option<Template>, AllocError>
+        ensures { IfOk result (λ found. found ≡ segments_of path.now) }
+    {
+        let characters = characters(alloc, path)?;
+        let segments = segments_trimmed(alloc, trimmed(characters.as_slice()))?;
+        match segments {
+            Some(segments) => Ok(Some(Template { segments })),
+            None => Ok(None),
+        }
+    }
+
+    /// The segments, in order.
+    pub fn segments(&self) -> &[PathSegment]
+        ensures { result.now ≡ self.now }
+    {
+        self.segments.as_slice()
+    }
+
+    /// The names of the variables, in order. No two are one.
+    pub fn variable_names(&self, alloc: Global) -> Result<List<Text>, AllocError>
+        ensures { IfOk result (λ names. names ≡ names_of self.now) }
+    {
+        let mut names = List::new(alloc);
+        for segment in self.segments() {
+            if let Some(name) = segment.variable_name() {
+                names.push(name.copy(alloc)?)?;
+            }
+        }
+        Ok(names)
+    }
+
+    /// The name of the wildcard, if there is one.
+    pub fn wildcard(&self) -> Option<&Text>
+        ensures { option_map (λ name. name.now) result ≡ wildcard_of self.now }
+    {
+        self.segments()
+            .iter()
+            .find(|segment| segment.is_wildcard())?
+            .variable_name()
+    }
+
+    /// The text of the template, where each variable is replaced by the sign `{}`.
+    pub fn shape(&self, alloc: Global) -> Result<Text, AllocError>
+        ensures { IfOk result (λ shape. shape ≡ shape_of self.now) }
+    {
+        let mut shape = Text::new(alloc);
+        if self.segments.is_empty() {
+            shape.push_ascii("/")?;
+        } else {
+            push_shape(self.segments(), &mut shape)?;
+        }
+        Ok(shape)
+    }
+
+    /// Whether the variables of a request are those of the template: exactly its names, one text for a
+    /// variable, and components for a wildcard.
+    pub fn variables_match(&self, variables: &VariableSet) -> bool
+        ensures { IsTrue result ↔ VariablesMatch self.now variables.now.entries }
+    {
+        all_given(self.segments(), variables) && all_named(self.segments(), variables)
+    }
+
+    /// A template equal to this one.
+    pub fn copy(&self, alloc: Global) -> Result<Template, AllocError>
+        ensures { IfOk result (λ copy. copy ≡ self.now) }
+    {
+        let mut segments = List::new(alloc);
+        for segment in self.segments() {
+            segments.push(segment.copy(alloc)?)?;
+        }
+        Ok(Template { segments })
+    }
+}
+
+// Puts the texts of segments at the end of another, each behind a slash, with a sign in place of a variable.
+fn push_shape(segments: &[PathSegment], shape: &mut Text) -> Result<(), AllocError>
+    ensures { OnOk result
+        (shape.new ≡ shape.old ++ behind_slashes (map nameless segments.now)) }
+{
+    for segment in segments {
+        shape.push_ascii("/")?;
+        segment.push_nameless(shape)?;
+    }
+    Ok(())
+}
+
+// Some characters without a slash at the end; a slash alone stays.
+fn trimmed(path: &[char]) -> &[char]
+    ensures { result.now ≡ trimmed path.now }
+{
+    match path.split_last() {
+        Some(('/', front)) if !front.is_empty() => front,
+        _ => path,
+    }
+}

@@ -1,0 +1,4 @@
+pub mod Policies
+pub mod Passing
+pub mod Trees
+pub mod Told
