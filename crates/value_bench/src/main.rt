@@ -1,13 +1,16 @@
 //! Decodes a JSON body under a descriptor and encodes its tree again, or fills a store with so many
-//! keys as the body says and pages through it, or decodes a query of so many pairs, to be measured.
+//! keys as the body says and pages through it, or decodes a query of so many pairs, or reads a body
+//! of so many frames, to be measured.
 #![tactic(auto)]
 
 ghost use Rattle.schema_values.specs.Sound.{IsSound};
 
+mod frames;
 mod pairs;
 mod stores;
 mod types;
 
+use crate::frames::bytes_dumped;
 use crate::pairs::fields_met;
 use crate::stores::pairs_met;
 use crate::types::{definitions, descriptor};
@@ -41,8 +44,8 @@ fn count_of(alloc: Global, body: &[u8]) -> Result<u32, AllocError> {
 }
 
 /// How many were met, as an answer.
-fn counted(alloc: Global, met: usize) -> Result<Answer, AllocError> {
-    Ok(Answer::Written(Json::Int(met as i128).compact(alloc)?))
+fn counted(alloc: Global, met: u64) -> Result<Answer, AllocError> {
+    Ok(Answer::Written(Json::Int(met.into()).compact(alloc)?))
 }
 
 fn decoded(alloc: Global, table: &DescTable, desc: &Desc, json: &Json) -> Result<Answer, AllocError>
@@ -63,10 +66,13 @@ fn decoded(alloc: Global, table: &DescTable, desc: &Desc, json: &Json) -> Result
 
 fn answered(alloc: Global, word: &str, body: &[u8]) -> Result<Answer, AllocError> {
     if word == "store" {
-        return counted(alloc, pairs_met(alloc, count_of(alloc, body)?)?);
+        return counted(alloc, pairs_met(alloc, count_of(alloc, body)?)? as u64);
     }
     if word == "pairs" {
-        return counted(alloc, fields_met(alloc, count_of(alloc, body)?)?);
+        return counted(alloc, fields_met(alloc, count_of(alloc, body)?)? as u64);
+    }
+    if word == "frames" {
+        return counted(alloc, bytes_dumped(alloc, count_of(alloc, body)?)?);
     }
     let table = definitions(alloc)?;
     let Some(desc) = descriptor(alloc, word)? else {
@@ -101,7 +107,7 @@ fn tell(rt: &HostRuntime, answer: &Answer) -> io::Result<u8> {
             Ok(1)
         }
         Answer::NoDescriptor => {
-            eprintln!(rt; "value_bench list|folder|store|pairs")?;
+            eprintln!(rt; "value_bench list|folder|store|pairs|frames")?;
             Ok(2)
         }
     }
