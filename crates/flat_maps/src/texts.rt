@@ -39,12 +39,7 @@ pub fn decode_text(
 }
 
 /// The same, with a fault on its way out.
-pub fn tree_of_text(
-    alloc: Global,
-    table: &DescTable,
-    desc: &Desc,
-    text: &str,
-) -> Result<Tree, Stop>
+pub fn tree_of_text(alloc: Global, table: &DescTable, desc: &Desc, text: &str) -> Result<Tree, Stop>
     requires table { TablePasses table.now }
     requires desc { DescPasses table.now desc.now }
     ensures { Tells result (text_told table.now (chars text.now) desc.now) }
