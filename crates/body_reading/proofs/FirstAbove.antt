@@ -1,6 +1,6 @@
 -- The least number of first frames whose content passes a limit.
-use Rattle.std.proofs.Common.{◌≡◌, ℕ, ◌+◌, ◌-◌, ◌<◌, ◌≤◌, zero, suc, inl, inr, List, [], ◌∷◌, ◌++◌, length, take, drop}
-use Rattle.std.proofs.Common.{arith, sym, ◌∙◌, ap, refl, true, false}
+use Rattle.std.proofs.Common.{◌≡◌, ℕ, ◌+◌, ◌<◌, ◌≤◌, zero, suc, inl, inr, List, [], ◌∷◌, ◌++◌, length, take, drop}
+use Rattle.std.proofs.Common.{arith, ◌∙◌, ap, refl, true, false}
 use Rattle.std.specs.Prelude.{◌⊎◌, Some, None, nat_lt}
 use Rattle.std.specs.List.{find}
 use Rattle.std.proofs.lemmas.Bool.Decides.{nat_tests}
@@ -65,10 +65,10 @@ pub passes_or_not : (limit before : ℕ) (frames : List Frame) → before ≤ li
 passes_or_not limit before [] small = inl (omega arith)
 passes_or_not limit before (f ∷ fs) small =
     elim (below_or limit (before + length (data_of f))) [
-      inl above ↦ inr (passes_first limit before f fs small above)
-    | inr low ↦ elim (passes_or_not limit (before + length (data_of f)) fs low) [
-        inl all ↦ inl (let size = length-append (data_of f) (all_data fs) in omega (arith, size))
-      | inr p ↦ inr (passes_later limit before f fs p)
+      | inl above ↦ inr (passes_first limit before f fs small above)
+      | inr low ↦ elim (passes_or_not limit (before + length (data_of f)) fs low) [
+        | inl all ↦ inl (let size = length-append (data_of f) (all_data fs) in omega (arith, size))
+        | inr p ↦ inr (passes_later limit before f fs p)
       ]
     ]
 
@@ -96,7 +96,7 @@ find-some limit before (g ∷ gs) f more low high =
     let below : nat_lt limit (before + length (data_of g)) ≡ false = grind (arith, nat_tests, lower) in
     let higher : limit < before + length (data_of g) + length (all_data gs) + length (data_of f) = omega (arith, size) in
     let same : before + length (data_of g) + length (all_data gs) + length (data_of f)
-        ≡ before + length (all_data (g ∷ gs)) + length (data_of f) = omega (arith, size) in
+    ≡ before + length (all_data (g ∷ gs)) + length (data_of f) = omega (arith, size) in
     rw below (find-some limit (before + length (data_of g)) gs f more lower higher ∙ ap Some same)
 
 -- the first frames up to one that stands behind others

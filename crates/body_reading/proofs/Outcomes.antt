@@ -12,8 +12,8 @@ use Rattle.http_bodies.specs.Frames.{data_of, all_data}
 use Rattle.http_bodies.specs.Sources.{IsAtEnd}
 use Rattle.body_reading.specs.declared.whole.BodyError.{BodyError}
 use Rattle.body_reading.specs.declared.whole.BodyError.TheVariants as body
-use Rattle.body_reading.specs.Whole.{HasCause, IsCutShort, IsFirstAbove, IsTooLarge, Reads, sums, whole}
-use Rattle.body_reading.proofs.FirstAbove.{PassesAt, StandsBehind, below_or, data_length-more, find-none, find-some}
+use Rattle.body_reading.specs.Whole.{HasCause, IsCutShort, IsFirstAbove, Reads, sums, whole}
+use Rattle.body_reading.proofs.FirstAbove.{PassesAt, below_or, data_length-more, find-none, find-some}
 use Rattle.body_reading.proofs.FirstAbove.{first_above, passes_or_not, stands_behind, take_front}
 
 -- a body within limit and budget
@@ -35,7 +35,7 @@ whole_large limit budget came f more few low high =
     let front : take (budget + 1) (came ++ f ∷ more) ≡ came ++ f ∷ take (budget - length came) more
     = ap (λ n. take n (came ++ f ∷ more)) count ∙ take-append-add came (f ∷ more) (suc (budget - length came)) in
     let found : find (nat_lt limit) (sums 0 (take (budget + 1) (came ++ f ∷ more)))
-        ≡ Some (0 + length (all_data came) + length (data_of f))
+    ≡ Some (0 + length (all_data came) + length (data_of f))
     = rw front (find-some limit 0 came f (take (budget - length came) more) (omega arith) (omega arith)) in
     let size : min (0 + length (all_data came) + length (data_of f)) (2 ^ 64 - 1) ≡ data_size (came ++ f ∷ [])
     = omega (arith, data_length-more came f) in
@@ -111,8 +111,8 @@ small_cause : (limit budget : ℕ) (frames : List Frame) → length (all_data (t
     → (result : Result (List ℕ) BodyError) × HasCause limit budget frames result
 small_cause limit budget frames small =
     elim (below_or budget (length frames)) [
-      inl many ↦ (Err (body.FrameBudget (budget + 1)), record { count_is = refl; many = many; small = small })
-    | inr few ↦ (
+      | inl many ↦ (Err (body.FrameBudget (budget + 1)), record { count_is = refl; many = many; small = small })
+      | inr few ↦ (
         Ok (all_data frames),
         record {
           content_is = refl;
@@ -126,8 +126,8 @@ some_cause : (limit budget : ℕ) (frames : List Frame)
     → (result : Result (List ℕ) BodyError) × HasCause limit budget frames result
 some_cause limit budget frames =
     elim (passes_or_not limit 0 (take (budget + 1) frames) (omega arith)) [
-      inl small ↦ small_cause limit budget frames (omega arith)
-    | inr p ↦ large_cause limit budget frames p
+      | inl small ↦ small_cause limit budget frames (omega arith)
+      | inr p ↦ large_cause limit budget frames p
     ]
 
 -- the answer that frames call for has its cause in them
@@ -187,10 +187,10 @@ reads_whole limit budget None after result reads = tt
 reads_whole limit budget (Some frames) None result reads = absurd reads.taken
 reads_whole limit budget (Some frames) (Some rest) result reads =
     elim reads.cause [
-      inl cut ↦ inl cut
-    | inr cause ↦ inr (
-        cause_whole limit budget (reads.came ++ rest) result
-            (cause_in_all limit budget reads.came rest result cause (λ content e. none_left rest result content reads.ended e))
-        ∙ ap (whole limit budget) (sym reads.taken)
-      )
+      | inl cut ↦ inl cut
+      | inr cause ↦ inr (
+          cause_whole limit budget (reads.came ++ rest) result
+          (cause_in_all limit budget reads.came rest result cause (λ content e. none_left rest result content reads.ended e))
+          ∙ ap (whole limit budget) (sym reads.taken)
+          )
     ]

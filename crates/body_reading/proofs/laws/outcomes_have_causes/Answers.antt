@@ -6,6 +6,6 @@ use Rattle.body_reading.proofs.laws.outcomes_have_causes.Goals as goal
 
 pub returns : goal.returns
 returns c limit budget frames result = (
-    λ is. subst (λ (r : Result (List ℕ) BodyError). HasCause limit budget frames r) (sym is) (whole_cause limit budget frames),
-    cause_whole limit budget frames result,
-  )
+  λ is. subst (λ (r : Result (List ℕ) BodyError). HasCause limit budget frames r) (sym is) (whole_cause limit budget frames),
+  cause_whole limit budget frames result,
+)
