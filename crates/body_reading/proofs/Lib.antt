@@ -1,3 +1,4 @@
+pub mod CallerLemmas
 mod FirstAbove
 mod Gathering
 mod Outcomes

@@ -12,8 +12,8 @@ use Rattle.http_bodies.specs.Frames.{data_of, all_data}
 use Rattle.http_bodies.specs.Sources.{IsAtEnd}
 use Rattle.body_reading.specs.declared.whole.BodyError.{BodyError}
 use Rattle.body_reading.specs.declared.whole.BodyError.TheVariants as body
-use Rattle.body_reading.specs.Whole.{HasCause, IsCutShort, IsFirstAbove, IsTooLarge, Reads, sums, whole}
-use Rattle.body_reading.proofs.FirstAbove.{PassesAt, StandsBehind, below_or, data_length-more, find-none, find-some}
+use Rattle.body_reading.specs.Whole.{HasCause, IsCutShort, IsFirstAbove, Reads, sums, whole}
+use Rattle.body_reading.proofs.FirstAbove.{PassesAt, below_or, data_length-more, find-none, find-some}
 use Rattle.body_reading.proofs.FirstAbove.{first_above, passes_or_not, stands_behind, take_front}
 
 -- a body within limit and budget

@@ -1,18 +1,17 @@
 -- Trailers that are passed over, and what comes behind them.
-use Rattle.std.proofs.Common.{◌≡◌, ℕ, ◌+◌, ◌-◌, ◌<◌, ◌≤◌, zero, suc, List, [], ◌∷◌, ◌++◌, length, drop, take}
-use Rattle.std.proofs.Common.{arith, sym, ◌∙◌, ap, refl, subst, Bool, true, false, append_assoc}
-use Rattle.std.specs.Prelude.{Option, Some, None, Result, Ok, Err, nat_lt, if◌then◌else◌}
+use Rattle.std.proofs.Common.{◌≡◌, ℕ, ◌+◌, ◌-◌, ◌<◌, zero, suc, List, [], ◌∷◌, ◌++◌, length, drop, take}
+use Rattle.std.proofs.Common.{arith, sym, ◌∙◌, ap, refl, subst, true, append_assoc}
+use Rattle.std.specs.Prelude.{Option, Result, Ok, Err, IfOk, OnOk, nat_lt}
 use Rattle.std.proofs.lemmas.Bool.Decides.{nat_tests}
 use Rattle.std.proofs.lemmas.List.{length-append}
 use Rattle.header_lists.specs.HeaderLists.{Line}
 use Rattle.http_bodies.proofs.CallerLemmas.{all_data-more}
 use Rattle.http_bodies.specs.declared.frame.Frame.{Frame}
 use Rattle.http_bodies.specs.declared.frame.Frame.TheVariants.{Bytes, Trailers}
-use Rattle.http_bodies.specs.Bodies.{BodyState, can_fail_of, faults_of, frames_of, state_of}
-use Rattle.http_bodies.specs.Frames.{all_data, data_of}
+use Rattle.http_bodies.specs.Bodies.{can_fail_of, faults_of, frames_of}
+use Rattle.http_bodies.specs.Frames.{all_data}
 use Rattle.body_reading.specs.declared.flaw.BodyFlaw.{BodyFlaw}
-use Rattle.body_reading.specs.declared.flaw.BodyFlaw.TheVariants as flaw
-use Rattle.body_reading.specs.Streams.{Advances, InOrder, SameLimits, StreamState, contents, next_in, next_of, room_of, with_content}
+use Rattle.body_reading.specs.Streams.{Advances, SameLimits, StreamState, contents, next_in, next_of, room_of, with_content}
 
 -- as many frames as may yet come, and one more, tell what comes next
 pub first_enough : (cap sum room : ℕ) (frames : List Frame)
@@ -101,44 +100,6 @@ passes_more old now after lines p t room one =
       same = t.same ∙ p.same;
     }
 
--- a trailer came for which there was no room
-pub passed_over : (old now after : StreamState) (lines : List Line) → Passes old now
-    → TakesFirst now after (Trailers lines) → now.budget ≤ now.frames → next_of old ≡ Err flaw.FrameBudget
-passed_over old now after lines p t full =
-    let none : nat_lt 0 (room_of now) ≡ false = grind (arith, nat_tests) in
-    let over : next_of now ≡ Err flaw.FrameBudget = rw (t.gives, none) refl in
-    sym p.next ∙ over
-
--- behind a frame that came, the rest is the same
-pub rest_behind : (old now : StreamState) (frame : Frame) (left : List Frame) → Passes old now
-    → frames_of now.body ≡ frame ∷ left → drop (room_of now) left ≡ drop (room_of old + 1) (frames_of old.body)
-rest_behind old now frame left p gives =
-    let more : room_of now + 1 ≡ suc (room_of now) = omega arith in
-    let behind : drop (room_of now + 1) (frames_of now.body) ≡ drop (room_of now) left = rw (more, gives) refl in
-    sym behind ∙ p.rest
-
--- no frame was left
-pub passed_end : (old now : StreamState) → Passes old now → frames_of now.body ≡ [] → next_of old ≡ Ok None
-passed_end old now p none =
-    let ends : next_of now ≡ Ok None = rw none refl in
-    sym p.next ∙ ends
-
-pub ends_in_order : (old now : StreamState) (after : List Frame) → Passes old now → frames_of now.body ≡ [] → after ≡ frames_of now.body
-    → InOrder (frames_of old.body) after None
-ends_in_order old now after p none same = (sym p.contents_are ∙ ap contents none, same ∙ none)
-
--- what comes next is told by a frame with content alone
-pub next_is_content : (old now : StreamState) (content : List ℕ) (left : List Frame) → Passes old now
-    → frames_of now.body ≡ Bytes content ∷ left
-    → next_in now.cap now.sum (room_of now) (Bytes content ∷ []) ≡ next_of old
-next_is_content old now content left p gives =
-    let next : next_of now ≡ next_in now.cap now.sum (room_of now) (Bytes content ∷ []) = rw gives refl in
-    sym next ∙ p.next
-
-pub content_in_order : (old now : StreamState) (content : List ℕ) (left : List Frame) → Passes old now
-    → frames_of now.body ≡ Bytes content ∷ left → InOrder (frames_of old.body) left (Some content)
-content_in_order old now content left p gives = sym p.contents_are ∙ ap contents gives
-
 -- a frame with content more came, and is counted
 pub advances_more : (old now mid : StreamState) (content : List ℕ) → Passes old now
     → TakesFirst now mid (Bytes content) → mid.frames ≡ now.frames → Advances old (with_content mid content)
@@ -155,13 +116,10 @@ advances_more old now mid content p t uncounted =
       sum = omega (arith, size, length-append (all_data p.advances.came) content);
     }
 
-content_no_fault : (cap : ℕ) (content : List ℕ) (large some : Bool)
-    → (if large then Err (flaw.TooLarge cap) else if some then Ok (Some content) else Err flaw.FrameBudget) ≡ Err flaw.Fault → ⊥
-content_no_fault cap content true some e = cc e
-content_no_fault cap content false true e = cc e
-content_no_fault cap content false false e = cc e
-
--- a frame with content that came tells no fault
-pub next_no_fault : (cap sum room : ℕ) (content : List ℕ) → next_in cap sum room (Bytes content ∷ []) ≡ Err flaw.Fault → ⊥
-next_no_fault cap sum room content e =
-    content_no_fault cap content (nat_lt cap (sum + length content)) (nat_lt 0 room) e
+-- a frame with content that is given is counted
+pub judged_advances : (old now mid new : StreamState) (content : List ℕ) (result : Result (Option (List ℕ)) BodyFlaw)
+    → Passes old now → TakesFirst now mid (Bytes content) → mid.frames ≡ now.frames
+    → OnOk result (new ≡ with_content mid content) → IfOk result (λ next. Advances old new)
+judged_advances old now mid new content (Ok next) p t uncounted counted =
+    subst (λ (s : StreamState). Advances old s) (sym counted) (advances_more old now mid content p t uncounted)
+judged_advances old now mid new content (Err wrong) p t uncounted counted = tt

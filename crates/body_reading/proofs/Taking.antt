@@ -1,10 +1,10 @@
 -- Frames that are taken, and faults that are counted, from one call to the next.
-use Rattle.std.proofs.Common.{◌≡◌, ◌≤◌, ℕ, List, [], ◌∷◌, ◌++◌, arith, sym, ap, ◌∙◌, append_assoc, refl, subst, true}
+use Rattle.std.proofs.Common.{◌≡◌, ◌≤◌, List, [], ◌++◌, sym, ap, ◌∙◌, append_assoc, refl, subst}
 use Rattle.std.specs.Prelude.{Option, Some, None}
 use Rattle.schema_values.specs.Causes.{HasRisen}
 use Rattle.http_bodies.specs.declared.frame.Frame.{Frame}
 use Rattle.http_bodies.specs.Frames.{SourceState}
-use Rattle.http_bodies.specs.Sources.{GoesOn, HasFailed, IsAtEnd, TakesFrames}
+use Rattle.http_bodies.specs.Sources.{GoesOn, HasFailed, TakesFrames}
 
 -- no frame was taken
 pub takes_none : (left : Option (List Frame)) → TakesFrames left [] left

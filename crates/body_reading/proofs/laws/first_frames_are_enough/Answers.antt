@@ -1,4 +1,4 @@
-use Rattle.std.proofs.Common.{add-one, ◌≡◌, ◌+◌, ap, subst, suc, sym, ℕ, take}
+use Rattle.std.proofs.Common.{add-one}
 use Rattle.body_reading.proofs.Passing.{first_enough}
 use Rattle.body_reading.proofs.laws.first_frames_are_enough.Goals as goal
 

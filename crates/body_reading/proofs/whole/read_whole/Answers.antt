@@ -1,4 +1,5 @@
-use Rattle.std.proofs.Common.{◌≤◌, Err, Ok, arith, refl, rules}
+use Rattle.std.proofs.Common.{◌≤◌, Ok, arith, refl, rules}
+use Rattle.std.proofs.lemmas.Result.{err_from_is_err_and}
 use Rattle.body_reading.proofs.Outcomes.{reads_whole}
 use Rattle.body_reading.proofs.Reading.{reading_ends, reading_large, reading_more, reading_over, reading_stops}
 use Rattle.body_reading.proofs.whole.read_whole.Goals as goal
@@ -6,7 +7,8 @@ use Rattle.body_reading.proofs.whole.read_whole.Goals as goal
 pub returns-in_default-clause-outcome : goal.returns-in_default-clause-outcome
 returns-in_default-clause-outcome g c =
     let gives = rw c.in_default.is at c.in_ok-frame.ensures.gives in
-    reads_whole _ _ _ _ _
+    reads_whole c.args.limit c.args.budget (g.S.FrameSource.state c.args.source.now).left
+    (g.S.FrameSource.state c.next_frame.new.self).left (Ok c.from_vec.result)
     (rw c.from_vec.ensures
     (reading_ends (g.S.FrameSource.state c.args.source.now) (g.S.FrameSource.state c.loop-count.source)
     (g.S.FrameSource.state c.next_frame.new.self) c.args.limit c.args.budget c.loop-count.content.items c.loop-count.count
@@ -32,7 +34,13 @@ pub returns-then-sum-limit-clause-outcome : goal.returns-then-sum-limit-clause-o
 returns-then-sum-limit-clause-outcome g c = reads_whole _ _ _ _ _ (returns-then-sum-limit-clause-came g c)
 
 pub returns-in_err-append-clause-came : goal.returns-in_err-append-clause-came
-returns-in_err-append-clause-came g c = ?
+returns-in_err-append-clause-came g c =
+    let gives = rw c.in-Some.is at c.in_ok-frame.ensures.gives in
+    let p = err_from_is_err_and c.from_residual-in_err-append.result c.from_residual-in_err-append.ensures.1 in
+    rw (p.1, p.2)
+    (reading_stops (g.S.FrameSource.state c.args.source.now) (g.S.FrameSource.state c.loop-count.source)
+    (g.S.FrameSource.state c.next_frame.new.self) c.args.limit c.args.budget c.loop-count.content.items c.loop-count.count
+    c.in-Some.frame c.loop-count.invariant gives (omega arith))
 
 pub loop-count-preserved : goal.loop-count-preserved
 loop-count-preserved g c =
