@@ -97,14 +97,17 @@ module _ (terms : Terms) (request : WireRequest) (body : BodyState) (passes : Ta
 
   args_fit : (slots : List Slot) → AllByRecursion (SlotPasses terms.table) slots → (args : List Arg) → args_by (slot_told terms request body) slots ≡ Ok args → ArgsFit terms.table slots args
   args_fit [] right args e = let same : [] ≡ args = cc e in subst (ArgsFit terms.table []) same tt
-  args_fit (slot ∷ slots) right args e = by_one (slot_told terms request body slot) refl (args_by (slot_told terms request body) slots) refl e
+  args_fit (slot ∷ slots) right args e =
+      by_one (slot_told terms request body slot) refl (args_by (slot_told terms request body) slots) refl (λ more q. args_fit slots right.1 more q) e
     where
-      by_one : (one : GivenArg) → slot_told terms request body slot ≡ one → (rest : GivenArgs) → args_by (slot_told terms request body) slots ≡ rest → before_args one rest ≡ Ok args → ArgsFit terms.table (slot ∷ slots) args
-      by_one (Ok arg) p (Ok more) q e =
+      by_one : (one : GivenArg) → slot_told terms request body slot ≡ one → (rest : GivenArgs) → args_by (slot_told terms request body) slots ≡ rest
+          → ((more : List Arg) → args_by (slot_told terms request body) slots ≡ Ok more → ArgsFit terms.table slots more)
+          → before_args one rest ≡ Ok args → ArgsFit terms.table (slot ∷ slots) args
+      by_one (Ok arg) p (Ok more) q later e =
           let same : arg ∷ more ≡ args = cc e in
-          subst (ArgsFit terms.table (slot ∷ slots)) same (arg_fits slot right.0 arg p, args_fit slots right.1 more q)
-      by_one (Ok arg) p (Err error) q e = absurd (cc e)
-      by_one (Err error) p rest q e = absurd (cc e)
+          subst (ArgsFit terms.table (slot ∷ slots)) same (arg_fits slot right.0 arg p, later more q)
+      by_one (Ok arg) p (Err error) q later e = absurd (cc e)
+      by_one (Err error) p rest q later e = absurd (cc e)
 
 -- all arguments
 pub denoted_fit : (terms : Terms) (slots : List Slot) (request : WireRequest) (body : BodyState) → TablePasses terms.table → SlotsPass terms.table slots → (args : List Arg) → Denotes terms slots request body args → ArgsFit terms.table slots args

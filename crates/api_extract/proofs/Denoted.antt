@@ -81,12 +81,12 @@ module _ (terms : Terms) (request : Request) (body : BodyState) where
   args_tell : (slots : List Slot) → IsTelling (args_by given slots) → args_by given slots ≡ args_by told slots
   args_tell [] h = refl
   args_tell (slot ∷ slots) h =
-      by_one (given slot) h
+      by_one (given slot) (λ k. args_tell slots k) h
       ∙ ap (λ (one : GivenArg). before_args one (args_by told slots)) (slot_tells slot (one_tells (given slot) (args_by given slots) h))
     where
-      by_one : (one : GivenArg) → IsTelling (before_args one (args_by given slots)) → before_args one (args_by given slots) ≡ before_args one (args_by told slots)
-      by_one (Ok arg) k = ap (arg_before arg) (args_tell slots (rest_tells arg (args_by given slots) k))
-      by_one (Err error) k = refl
+      by_one : (one : GivenArg) → (IsTelling (args_by given slots) → args_by given slots ≡ args_by told slots) → IsTelling (before_args one (args_by given slots)) → before_args one (args_by given slots) ≡ before_args one (args_by told slots)
+      by_one (Ok arg) later k = ap (arg_before arg) (later (rest_tells arg (args_by given slots) k))
+      by_one (Err error) later k = refl
 
   -- arguments that come of the frames are those that are denoted
   pub come_denoted : (slots : List Slot) (args : List Arg) → extracted terms slots request body ≡ Ok args → args_told terms slots (wire_of request (all_data (frames_of body))) body ≡ Ok args

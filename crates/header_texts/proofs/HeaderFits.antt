@@ -56,13 +56,15 @@ module _ (table : List Definition) (lines : List HeaderLine) where
 
   same_rest : (i : ℕ) (fs : List Field) (ts : List Tree) → all_told (λ i f. by_presence f (header_told table lines f)) i fs ≡ Ok ts → all_told (λ i f. by_presence f (looked_up table (shown_names lines) f)) i fs ≡ Ok ts
   same_rest i [] ts e = e
-  same_rest i (f ∷ fs) ts e = by_told (by_presence f (header_told table lines f)) refl (all_told (λ i f. by_presence f (header_told table lines f)) (i + 1) fs) refl e
+  same_rest i (f ∷ fs) ts e =
+      by_told (by_presence f (header_told table lines f)) refl (all_told (λ i f. by_presence f (header_told table lines f)) (i + 1) fs) refl (λ us q. same_rest (i + 1) fs us q) e
     where
       by_told : (one : Told) → by_presence f (header_told table lines f) ≡ one → (rest : Result (List Tree) Trouble) → all_told (λ i f. by_presence f (header_told table lines f)) (i + 1) fs ≡ rest
+          → ((us : List Tree) → all_told (λ i f. by_presence f (header_told table lines f)) (i + 1) fs ≡ Ok us → all_told (λ i f. by_presence f (looked_up table (shown_names lines) f)) (i + 1) fs ≡ Ok us)
           → and_then one rest ≡ Ok ts → all_told (λ i f. by_presence f (looked_up table (shown_names lines) f)) i (f ∷ fs) ≡ Ok ts
-      by_told (Ok t) p (Ok us) q e = ap₂ and_then (same_field f t p) (same_rest (i + 1) fs us q) ∙ e
-      by_told (Ok t) p (Err k) q e = absurd (cc e)
-      by_told (Err k) p rest q e = absurd (cc e)
+      by_told (Ok t) p (Ok us) q later e = ap₂ and_then (same_field f t p) (later us q) ∙ e
+      by_told (Ok t) p (Err k) q later e = absurd (cc e)
+      by_told (Err k) p rest q later e = absurd (cc e)
 
   same_fields : (fs : List Field) (t : Tree) → fields_told (header_told table lines) fs ≡ Ok t → fields_told (looked_up table (shown_names lines)) fs ≡ Ok t
   same_fields fs t e = by_all (all_told (λ i f. by_presence f (header_told table lines f)) 0 fs) refl e

@@ -15,7 +15,7 @@ pub returns-in_err-tree : goal.returns-in_err-tree
 returns-in_err-tree c =
     let fs = c.args.fields.now in
     let f : ℕ → Field → Told = λ i x. by_presence x (header_told c.args.table.now (map wire_line c.args.lines.now) x) in
-    let p = err_from_is_err_and c.from_residual-in_err-tree.result c.from_residual-in_err-tree.ensures.1 in
+    let p = err_from_is_err_and c.from_residual.result c.from_residual.ensures.1 in
     rw (p.1, p.2) (all_err f (all_told f 0 fs) fs c.loop-field.field-index c.loop-field.trees c.loop-field.invariant c.field-item.result (omega arith) c.field-item.is (as_tree Parts) (λ k. refl) c.in_err-tree.field-0.0 c.in_err-tree.ensures)
 
 pub loop-field-preserved : goal.loop-field-preserved
