@@ -11,10 +11,10 @@ use Rattle.path_templates.specs.declared.segment.PathSegment.TheVariants.{Litera
 -- no segment but the last is a wildcard where none of those before it is
 pub wildcard_last : (front : List PathSegment) (s : PathSegment) → is_wildcard_last (front ++ s ∷ []) ≡ not (list_any is_wildcard front)
 wildcard_last [] s = refl
-wildcard_last (t ∷ []) s = elim (cases_Bool (is_wildcard t)) [ inl yes ↦ rw yes refl | inr other ↦ rw other refl ]
+wildcard_last (t ∷ []) s = elim (cases_Bool (is_wildcard t)) [ inl here ↦ rw here refl | inr other ↦ rw other refl ]
 wildcard_last (t ∷ u ∷ front) s =
     let rest = wildcard_last (u ∷ front) s in
-    elim (cases_Bool (is_wildcard t)) [ inl yes ↦ rw yes refl | inr other ↦ rw (other, rest) refl ]
+    elim (cases_Bool (is_wildcard t)) [ inl here ↦ rw here refl | inr other ↦ rw (other, rest) refl ]
 
 -- a name is new where no other segment has it
 any_named : (name : List ℕ) (others : List PathSegment) → list_all (λ other. not (bytes_eq name other)) (names_of others) ≡ list_all (λ other. not (has_name name other)) others

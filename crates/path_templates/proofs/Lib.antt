@@ -2,5 +2,6 @@ pub mod Pieces
 pub mod Slashes
 pub mod Texts
 pub mod Arranged
+pub mod Values
 pub mod IndexLemmas
 pub mod CallerLemmas

@@ -1,5 +1,6 @@
 -- The pieces of a text, at its first slash.
-use Rattle.std.proofs.Common.{◌≡◌, ◌==◌, ℕ, suc, ◌+◌, ◌<◌, ◌≤◌, Bool, true, false, not, List, [], ◌∷◌, length, take, drop, Option, Some, None, refl, sym, ap, ◌∙◌, inl, inr, arith}
+use Rattle.std.proofs.Common.{◌≡◌, ◌==◌, ℕ, suc, ◌+◌, ◌-◌, length-drop, ◌<◌, ◌≤◌, Bool, true, false, not, List, [], ◌∷◌, length, take, drop, Option, Some, None, refl, sym, ap, ◌∙◌, inl, inr, arith}
+use Rattle.std.proofs.Math.Seq.{take-length}
 use Rattle.std.specs.Prelude.{nat_lt, position}
 use Rattle.std.specs.List.{position_or_len}
 use Rattle.std.proofs.lemmas.Bool.{cases_Bool}
@@ -50,3 +51,7 @@ cut_nowhere text e = elim (cases_Bool (nat_lt (end text) (length text))) [
   | inl inside ↦ let some : Some (end text) ≡ None = sym (rw inside refl) ∙ e in absurd (cc some)
   | inr beyond ↦ let past : length text ≤ end text = grind (arith, nat_tests) in whole text past
 ]
+
+-- all of what is behind a place
+pub rest_whole : (n : ℕ) (text : List ℕ) → take (length text - n) (drop n text) ≡ drop n text
+rest_whole n text = let e : length text - n ≡ length (drop n text) = grind (arith, length-drop) in rw e (take-length (drop n text))

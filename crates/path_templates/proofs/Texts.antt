@@ -1,5 +1,5 @@
 -- Texts by their bytes and by their characters.
-use Rattle.std.proofs.Common.{◌≡◌, ◌≢◌, ℕ, List, [], ◌∷◌, ◌++◌, IsUtf8, append_assoc, ap, arith, chars, refl, sym, ◌∙◌}
+use Rattle.std.proofs.Common.{◌≡◌, ◌≢◌, ℕ, List, [], ◌∷◌, ◌++◌, IsUtf8, append-nil, append_assoc, ap, arith, chars, refl, sym, ◌∙◌}
 use Rattle.std.proofs.Math.Utf8.{encode, encodes}
 use Rattle.std.proofs.lemmas.Bool.Decides.{same_from_decides}
 use Rattle.std.proofs.lemmas.Slice.Eq.{bytes_eq-Decides}
@@ -22,7 +22,7 @@ pub slash_alone : chars (47 ∷ []) ≡ 47 ∷ []
 slash_alone = chars-IsAscii (47 ∷ []) (IsAscii-from_test (47 ∷ []) refl)
 
 slash_encoded : (cs : List ℕ) → encodes (cs ++ 47 ∷ []) ≡ encodes cs ++ 47 ∷ []
-slash_encoded [] = encode_ascii 47 (omega arith)
+slash_encoded [] = append-nil (encode 47) ∙ encode_ascii 47 (omega arith)
 slash_encoded (c ∷ cs) = ap (λ rest. encode c ++ rest) (slash_encoded cs) ∙ sym (append_assoc (encode c) (encodes cs) (47 ∷ []))
 
 -- what stands before a slash at the end, if anything does

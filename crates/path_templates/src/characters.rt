@@ -1,5 +1,7 @@
 //! Characters in slices.
 ghost use Rattle.std.specs.Prelude.{◌≡◌, IfOk};
+ghost use Rattle.std.specs.List.{list_all};
+ghost use Rattle.std.specs.Str.{chars};
 ghost use Rattle.path_templates.specs.Segments.{name_length};
 ghost use Rattle.path_templates.specs.Templates.{begins_name, continues_name, is_literal};
 ghost use Rattle.path_templates.specs.Templates.{is_literal_character, is_variable_name};
@@ -8,11 +10,11 @@ use schema_values::Text;
 use std::alloc::{AllocError, Global};
 
 // The characters of a text.
-pub(crate) fn characters(alloc: Global, text: &Text) -> Result<Vec<char>, AllocError>
-    ensures { IfOk result (λ characters. characters.items ≡ text.now) }
+pub(crate) fn characters(alloc: Global, text: &str) -> Result<Vec<char>, AllocError>
+    ensures { IfOk result (λ characters. characters.items ≡ chars text.now) }
 {
     let mut characters = Vec::new(alloc);
-    for character in text.as_str().chars() {
+    for character in text.chars() {
         characters.push(character)?;
     }
     Ok(characters)
@@ -58,11 +60,25 @@ pub(crate) fn is_variable_name(characters: &[char]) -> bool
     ensures { result ≡ is_variable_name characters.now }
 {
     match characters.split_first() {
-        Some((first, rest)) => {
-            begins_name(*first) && rest.iter().all(|character| continues_name(*character))
-        }
+        Some((first, rest)) => { begins_name(*first) && all_continue(rest) }
         None => false,
     }
+}
+
+fn all_continue(characters: &[char]) -> bool
+    ensures { result ≡ list_all continues_name characters.now }
+{
+    characters
+        .iter()
+        .all(|character| continues_name(*character))
+}
+
+fn all_literal(characters: &[char]) -> bool
+    ensures { result ≡ list_all is_literal_character characters.now }
+{
+    characters
+        .iter()
+        .all(|character| is_literal_character(*character))
 }
 
 fn is_literal_character(character: char) -> bool

@@ -1,15 +1,18 @@
 //! Segments of paths, read piece by piece.
-ghost use Rattle.std.specs.Prelude.{◌≡◌, ◌&&◌, ◌∷◌, ◌<◌, IfOk, IfSome, length};
+ghost use Rattle.std.specs.Prelude.{◌≡◌, ◌==◌, ◌&&◌, ◌∷◌, ◌<◌, IfOk, IfSome, length, not};
+ghost use Rattle.std.specs.Prelude.{position};
+ghost use Rattle.std.specs.List.{list_all, list_any};
 ghost use Rattle.std.specs.Option.{option_copied};
 ghost use Rattle.schema_values.specs.SoundTest.{are_distinct};
 ghost use Rattle.path_templates.specs.Segments.{closed_by, if_arranged, literal_of, pieces};
 ghost use Rattle.path_templates.specs.Segments.{pieces_left, segment_of, segments_behind};
 ghost use Rattle.path_templates.specs.Segments.{segments_in, segments_trimmed, variable_of};
-ghost use Rattle.path_templates.specs.Templates.{are_arranged, is_wildcard_last, names_of};
+ghost use Rattle.path_templates.specs.Templates.{are_arranged, has_name, is_wildcard};
+ghost use Rattle.path_templates.specs.Templates.{is_wildcard_last, names_of, slash};
 
 use crate::characters::{is_literal, is_variable_name, name_length, text_of};
 use crate::segment::PathSegment;
-use schema_values::List;
+use schema_values::{List, Text};
 use std::alloc::{AllocError, Global};
 
 // The segments of a path without a slash at its end, if it is a template.
@@ -77,10 +80,17 @@ fn first_piece(text: &[char]) -> (&[char], Option<&[char]>)
     ensures pieces { pieces text.now ≡ result.0.now ∷ pieces_left (option_copied result.1) }
     ensures shorter { IfSome result.1 (λ rest. length rest.now < length text.now) }
 {
-    match text.iter().position(|character| *character == '/') {
+    match first_slash(text) {
         Some(end) => (&text[..end], Some(&text[end + 1..])),
         None => (text, None),
     }
+}
+
+// Where the first slash stands.
+fn first_slash(text: &[char]) -> Option<usize>
+    ensures { result ≡ position (λ c. c == slash) text.now }
+{
+    text.iter().position(|character| *character == '/')
 }
 
 // The segment of a piece, if it is one.
@@ -151,9 +161,15 @@ fn is_wildcard_last(segments: &[PathSegment]) -> bool
     ensures { result ≡ is_wildcard_last segments.now }
 {
     match segments.split_last() {
-        Some((_, front)) => !front.iter().any(|segment| segment.is_wildcard()),
+        Some((_, front)) => !has_wildcard(front),
         None => true,
     }
+}
+
+fn has_wildcard(segments: &[PathSegment]) -> bool
+    ensures { result ≡ list_any is_wildcard segments.now }
+{
+    segments.iter().any(|segment| segment.is_wildcard())
 }
 
 // Whether no two variables have one name.
@@ -176,7 +192,14 @@ fn is_new(segment: &PathSegment, others: &[PathSegment]) -> bool
         ≡ (result && are_distinct (names_of others.now)) }
 {
     match segment.variable_name() {
-        Some(name) => others.iter().all(|other| !other.has_name(name)),
+        Some(name) => lack_name(others, name),
         None => true,
     }
+}
+
+// Whether no segment is a variable of this name.
+fn lack_name(segments: &[PathSegment], name: &Text) -> bool
+    ensures { result ≡ list_all (λ segment. not (has_name name.now segment)) segments.now }
+{
+    segments.iter().all(|segment| !segment.has_name(name))
 }

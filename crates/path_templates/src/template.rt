@@ -1,9 +1,10 @@
 //! Templates of paths.
-ghost use Rattle.std.specs.Prelude.{◌≡◌, ◌↔◌, ◌++◌, IfOk, IsTrue, OnOk, bytes_eq, map, option_map};
+ghost use Rattle.std.specs.Prelude.{◌≡◌, ◌↔◌, ◌++◌, IfOk, IsTrue, OnOk, bytes_eq, find, map};
+ghost use Rattle.std.specs.Prelude.{option_map};
 ghost use Rattle.std.specs.Str.{chars};
 ghost use Rattle.path_templates.specs.Segments.{segments_of, wildcard_of};
 ghost use Rattle.path_templates.specs.Shapes.{nameless, shape_of};
-ghost use Rattle.path_templates.specs.Templates.{behind_slashes, names_of, trimmed};
+ghost use Rattle.path_templates.specs.Templates.{behind_slashes, is_wildcard, names_of, trimmed};
 ghost use Rattle.path_templates.specs.Variables.{VariablesMatch};
 
 use crate::characters::characters;
@@ -18,13 +19,13 @@ use std::marker::Model;
 pub fn without_trailing_slash(path: &Text) -> &str
     ensures { chars result.now ≡ trimmed path.now }
 {
-    let path = path.as_str();
-    if path == "/" {
-        return path;
+    if path.equals_str("/") {
+        return path.as_str();
     }
-    match path.strip_suffix('/') {
+    let text = path.as_str();
+    match text.strip_suffix('/') {
         Some(front) => front,
-        None => path,
+        None => text,
     }
 }
 
@@ -64,9 +65,8 @@ impl Template {
     pub fn parse(alloc: Global, path: &Text) -> Result<Option<Template>, AllocError>
         ensures { IfOk result (λ found. found ≡ segments_of path.now) }
     {
-        let characters = characters(alloc, path)?;
-        let segments = segments_trimmed(alloc, trimmed(characters.as_slice()))?;
-        match segments {
+        let characters = characters(alloc, without_trailing_slash(path))?;
+        match segments_trimmed(alloc, characters.as_slice())? {
             Some(segments) => Ok(Some(Template { segments })),
             None => Ok(None),
         }
@@ -96,10 +96,10 @@ impl Template {
     pub fn wildcard(&self) -> Option<&Text>
         ensures { option_map (λ name. name.now) result ≡ wildcard_of self.now }
     {
-        self.segments()
-            .iter()
-            .find(|segment| segment.is_wildcard())?
-            .variable_name()
+        match first_wildcard(self.segments()) {
+            Some(segment) => segment.variable_name(),
+            None => None,
+        }
     }
 
     /// The text of the template, where each variable is replaced by the sign `{}`.
@@ -147,12 +147,14 @@ fn push_shape(segments: &[PathSegment], shape: &mut Text) -> Result<(), AllocErr
     Ok(())
 }
 
-// Some characters without a slash at the end; a slash alone stays.
-fn trimmed(path: &[char]) -> &[char]
-    ensures { result.now ≡ trimmed path.now }
+// The first wildcard among segments.
+fn first_wildcard(segments: &[PathSegment]) -> Option<&PathSegment>
+    ensures { option_map (λ segment. segment.now) result ≡ find is_wildcard segments.now }
 {
-    match path.split_last() {
-        Some(('/', front)) if !front.is_empty() => front,
-        _ => path,
+    for segment in segments {
+        if segment.is_wildcard() {
+            return Some(segment);
+        }
     }
+    None
 }

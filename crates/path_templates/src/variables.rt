@@ -49,7 +49,7 @@ fn are_components(value: Option<&VariableValue>) -> bool
 pub(crate) fn all_named(segments: &[PathSegment], variables: &VariableSet) -> bool
     ensures { result ≡ list_all (λ variable. is_named segments.now variable.0) variables.now.entries }
 {
-    for (name, _) in variables.iter() {
+    for (name, _value) in variables.iter() {
         if !is_named(segments, name) {
             return false;
         }

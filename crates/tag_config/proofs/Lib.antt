@@ -2,3 +2,4 @@ pub mod Policies
 pub mod Passing
 pub mod Trees
 pub mod Told
+pub mod ReadBack

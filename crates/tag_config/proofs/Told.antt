@@ -10,7 +10,7 @@ use Rattle.tag_config.specs.Configurations.{Configuration, DenotesConfiguration,
 
 module _ (json : Json) (policy tags : List ℕ) (policy_is : policy ≡ name_by policy_field json) (tags_are : tags ≡ name_by tags_field json)
     (one_policy : is_doubled policy_field json ≡ false) (one_tags : is_doubled tags_field json ≡ false) where
-  told_so : configuration_told json ≡ told [] (configuration_desc policy tags) json (configuration_desc policy tags)
+  pub told_so : configuration_told json ≡ told [] (configuration_desc policy tags) json (configuration_desc policy tags)
   told_so = rw (one_policy, one_tags, policy_is, tags_are) refl
 
   pub denoted : (r : Result Configuration DecodeError) → IfOk r (λ config. JsonDenotes [] (configuration_desc policy tags) json (configuration_tree config)) → IfOk r (DenotesConfiguration json)

@@ -1,10 +1,10 @@
 //! Configurations as JSON.
 ghost use Rattle.std.specs.Prelude.{◌≡◌, [], IfOk};
 ghost use Rattle.schema_values.specs.Sound.{IsSound};
-ghost use Rattle.typed_values.specs.Denotes.{JsonDenotes};
 ghost use Rattle.api_types.specs.Types.{FitsEach};
-ghost use Rattle.tag_config.specs.Configurations.{configuration_desc, configuration_json};
-ghost use Rattle.tag_config.specs.Configurations.{configuration_tree, policy_field, tags_field};
+ghost use Rattle.tag_config.specs.Configurations.{DenotesConfiguration, configuration_desc};
+ghost use Rattle.tag_config.specs.Configurations.{configuration_json, configuration_tree, policy_field};
+ghost use Rattle.tag_config.specs.Configurations.{tags_field};
 
 use crate::config::TagConfig;
 use crate::from_json::configuration_desc;
@@ -18,9 +18,7 @@ impl TagConfig {
     pub fn to_json(&self, alloc: Global) -> Result<Json, AllocError>
         ensures json { IfOk result (λ json. json ≡ configuration_json self.now) }
         ensures sound { IfOk result IsSound }
-        ensures denotes { IfOk result (λ json. JsonDenotes []
-            (configuration_desc policy_field.new tags_field.new) json
-            (configuration_tree self.now)) }
+        ensures reads_back { IfOk result (λ json. DenotesConfiguration json self.now) }
     {
         let desc = configuration_desc(alloc, "policy", "tags")?;
         self.each_fits();

@@ -1,6 +1,6 @@
 use Rattle.std.proofs.Common.{◌≡◌, ◌++◌, ◌+◌, ℕ, List, Option, Some, None, length}
 use Rattle.std.specs.Option.{option_copied}
-use Rattle.std.specs.Prelude.{option_map, option_map_or}
+use Rattle.std.specs.Prelude.{option_map}
 use Rattle.path_templates.specs.Segments.{pieces, pieces_left, segments_in}
 use Rattle.path_templates.proofs.segments.segments_in.Given as goal
 
@@ -10,7 +10,7 @@ invariant-pieces l =
     segments_in (pieces l.text) ≡ option_map (λ ss. l.segments ++ ss) (segments_in (pieces_left (option_copied l.left)))
 
 -- how much is left
-left_length : Option (List ℕ) → ℕ
+abbrev pub left_length : Option (List ℕ) → ℕ
 left_length None = 0
 left_length (Some text) = length text + 1
 
