@@ -14,7 +14,7 @@ returns c =
     let same = bytes_eq-Decides bytes name in
     same_test c.eq_ignore_ascii_case.result (bytes_eq bytes name) (bytes ≡ name) test.0 test.1 same.0 same.1
     ∙ ap (λ (line : List ℕ). bytes_eq (lower line) name) (
-      c.as_bytes.ensures.value
-      ∙ sym (encodes-chars c.as_str-line_name.result.now c.as_str-line_name.utf8)
-      ∙ ap (λ (line : List ℕ). encode_utf8_all (chars line)) c.as_str-line_name.ensures.value
+    c.as_bytes.ensures.value
+    ∙ sym (encodes-chars c.as_str-line_name.result.now c.as_str-line_name.utf8)
+    ∙ ap (λ (line : List ℕ). encode_utf8_all (chars line)) c.as_str-line_name.ensures.value
     )
