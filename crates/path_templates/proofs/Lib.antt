@@ -1,5 +1,6 @@
 pub mod Pieces
 pub mod Slashes
+pub mod Encoded
 pub mod Texts
 pub mod Arranged
 pub mod Values

@@ -91,8 +91,8 @@ fn is_literal_character(character: char) -> bool
 pub(crate) fn is_literal(characters: &[char]) -> bool
     ensures { result ≡ is_literal characters.now }
 {
-    !characters.is_empty()
-        && characters
-            .iter()
-            .all(|character| is_literal_character(*character))
+    match characters.split_first() {
+        Some((first, rest)) => is_literal_character(*first) && all_literal(rest),
+        None => false,
+    }
 }

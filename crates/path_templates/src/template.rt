@@ -19,13 +19,19 @@ use std::marker::Model;
 pub fn without_trailing_slash(path: &Text) -> &str
     ensures { chars result.now ≡ trimmed path.now }
 {
-    if path.equals_str("/") {
-        return path.as_str();
+    without_slash(path.as_str())
+}
+
+// The same of bytes.
+fn without_slash(path: &str) -> &str
+    ensures { result.now ≡ trimmed path.now }
+{
+    if path == "/" {
+        return path;
     }
-    let text = path.as_str();
-    match text.strip_suffix('/') {
+    match path.strip_suffix('/') {
         Some(front) => front,
-        None => text,
+        None => path,
     }
 }
 

@@ -7,6 +7,7 @@ ghost use Rattle.descriptors.specs.declared.tree.Tree.TheVariants as trees;
 ghost use Rattle.typed_values.specs.Answer.{IfFault, IsFaultOf};
 ghost use Rattle.typed_values.specs.Checks.{DescPasses};
 ghost use Rattle.typed_values.specs.Denotes.{JsonDenotes, told};
+ghost use Rattle.typed_values.specs.Fits.{Fits};
 ghost use Rattle.typed_values.specs.Faults.{at_root, fault_of};
 ghost use Rattle.typed_values.specs.declared.fault.FaultKind.TheVariants as kinds;
 ghost use Rattle.api_types.specs.Heads.{required};
@@ -64,11 +65,27 @@ fn decoded(alloc: Global, policy: &str, tags: &str, json: &Json) -> Result<TagCo
         (told [] (configuration_desc policy.now tags.now) json.now
         (configuration_desc policy.now tags.now)))) }
 {
-    let desc = configuration_desc(alloc, policy, tags)?;
-    match decode_json(alloc, &DescTable::new(alloc), &desc, json) {
+    match tree_of(alloc, policy, tags, json) {
         Ok(tree) => Ok(configuration_of(alloc, &tree)?),
         Err(error) => Err(error),
     }
+}
+
+// The tree of an object whose two fields are named so.
+fn tree_of(alloc: Global, policy: &str, tags: &str, json: &Json) -> Result<Tree, DecodeError>
+    requires sound { IsSound json.now }
+    requires policy { IsTrue (all_ascii policy.now) }
+    requires tags { IsTrue (all_ascii tags.now) }
+    requires passes { DescPasses [] (configuration_desc policy.now tags.now) }
+    ensures denotes { IfOk result
+        (JsonDenotes [] (configuration_desc policy.now tags.now) json.now) }
+    ensures fits { IfOk result (Fits [] (configuration_desc policy.now tags.now)) }
+    ensures fault { IfErr result (λ error. IfFault error (IsFaultOf
+        (told [] (configuration_desc policy.now tags.now) json.now
+        (configuration_desc policy.now tags.now)))) }
+{
+    let desc = configuration_desc(alloc, policy, tags)?;
+    decode_json(alloc, &DescTable::new(alloc), &desc, json)
 }
 
 // Whether a field stands by both of its names.
@@ -123,13 +140,10 @@ pub(crate) fn configuration_desc(
     requires tags { IsTrue (all_ascii tags.now) }
     ensures { IfOk result (λ desc. desc ≡ configuration_desc policy.now tags.now) }
 {
-    let allow_other_tags = field(alloc, "allow_other_tags", Desc::Bool)?;
-    let policy = field(alloc, policy, EndpointTagPolicy::descriptor(alloc)?)?;
-    let tags = field(alloc, tags, tags_desc(alloc)?)?;
     let mut fields = List::new(alloc);
-    fields.push(allow_other_tags)?;
-    fields.push(policy)?;
-    fields.push(tags)?;
+    fields.push(field(alloc, "allow_other_tags", Desc::Bool)?)?;
+    fields.push(field(alloc, policy, EndpointTagPolicy::descriptor(alloc)?)?)?;
+    fields.push(field(alloc, tags, tags_desc(alloc)?)?)?;
     Ok(Desc::Struct {
         fields,
         deny_unknown: false,
