@@ -6,7 +6,7 @@ ghost use Rattle.typed_values.specs.Encoding.{json_of_tree};
 ghost use Rattle.typed_values.specs.Fits.{Fits};
 ghost use Rattle.http_status.specs.Responses.{id_line, json_line};
 ghost use Rattle.api_respond.specs.Replies.{ErrorFits, OwnFits};
-ghost use Rattle.api_respond.specs.Responses.{compact_body, failure_response, own_body, own_response};
+ghost use Rattle.api_respond.specs.Responses.{compact_body, failure_response, own_body};
 
 use crate::reply::ErrorReply;
 use handler_shapes::{ApiEndpointErrorResponse, HandlerShape};

@@ -1,5 +1,5 @@
 -- Lengths have 32 bits in all descriptors of a shape, as their type gives in the code.
-use Rattle.std.specs.Prelude.{⊤, List, Option, All, IfSome}
+use Rattle.std.specs.Prelude.{⊤, List, All, IfSome}
 use Rattle.descriptors.specs.declared.desc.Desc.{Desc}
 use Rattle.descriptors.specs.declared.table.Definition.{Definition}
 use Rattle.typed_values.specs.Lengths.{HasShortLengths, TableHasShortLengths}
