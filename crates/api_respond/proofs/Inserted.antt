@@ -1,8 +1,8 @@
 -- Named headers that are inserted one by one, and what is told of the first that is no header line.
-use Rattle.std.proofs.Common.{◌≡◌, ℕ, List, [], ◌∷◌, ◌++◌, sym, ◌∙◌, ap, refl}
+use Rattle.std.proofs.Common.{◌≡◌, ℕ, List, [], ◌∷◌, ◌++◌, sym, ◌∙◌, ap, subst, rules}
 use Rattle.std.proofs.lemmas.List.{append_assoc, append-nil}
 use Rattle.std.proofs.lemmas.List.Elements.{All-push}
-use Rattle.std.specs.Prelude.{All}
+use Rattle.std.specs.Prelude.{All, IfErr, IsErrAnd, Result, Ok, Err}
 use Rattle.flat_maps.specs.TextMaps.{TextEntry}
 use Rattle.header_lists.specs.HeaderLists.{Line}
 use Rattle.api_respond.specs.NamedHeaders.{AreHeaderLines, IfRefusal, IsFirstRefused, IsHeaderEntry, IsRefusal, line_of, with_named}
@@ -16,8 +16,11 @@ pub record AreInserted (entries rest : List TextEntry) (before lines : List Line
   pub valid : AreHeaderLines seen
   pub all : with_named entries before ≡ with_named rest lines
 
-pub none_inserted : (entries : List TextEntry) (lines : List Line) → AreInserted entries entries lines lines
-none_inserted entries lines = record { seen = []; place = refl; valid = _; all = refl }
+pub none_inserted : (entries rest : List TextEntry) (lines : List Line) → rest ≡ entries → AreInserted entries rest lines lines
+none_inserted entries rest lines is = record { seen = []; place = sym is; valid = none; all = ap (λ es. with_named es lines) (sym is) }
+  where
+    none : AreHeaderLines []
+    none = search rules
 
 module _ (entries rest later : List TextEntry) (before lines : List Line) (entry : TextEntry) (next : rest ≡ entry ∷ later) (done : AreInserted entries rest before lines) where
   placed : entries ≡ done.seen ++ entry ∷ later
@@ -44,3 +47,9 @@ all_inserted entries rest before lines none done = (
 pub told_more : (Fact Other : List ℕ → Type 0) → ((message : List ℕ) → Fact message → Other message) → (e : Unwritten) → IfRefusal e Fact → IfRefusal e Other
 told_more Fact Other more (Refused message) h = more message h
 told_more Fact Other more OutOfMemory h = tt
+
+-- the same of an error that is handed out
+pub told_out : {T : Type 0} (result : Result T Unwritten) (e : Unwritten) (Fact Other : List ℕ → Type 0) → IsErrAnd result (λ y. y ≡ e)
+    → ((message : List ℕ) → Fact message → Other message) → IfRefusal e Fact → IfErr result (λ y. IfRefusal y Other)
+told_out (Ok value) e Fact Other is more h = absurd is
+told_out (Err y) e Fact Other is more h = told_more Fact Other more y (subst (λ x. IfRefusal x Fact) (sym is) h)

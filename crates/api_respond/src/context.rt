@@ -1,5 +1,6 @@
 //! What a handler is told of a request besides its arguments.
-ghost use Rattle.std.specs.Prelude.{◌≡◌, IfOk, unwrap_or};
+ghost use Rattle.std.specs.Prelude.{◌≡◌, IfOk, min, unwrap_or};
+ghost use Rattle.std.specs.NonZero.{non_zero_u32_get};
 ghost use Rattle.api_respond.specs.Contexts.{item_count};
 
 use http_status::RequestId;
@@ -67,10 +68,10 @@ impl RequestContext {
     /// How many items a page has at most, where the client gives this limit: no more than the server's
     /// maximum, and the server's default where the client gives none. It takes no memory.
     pub fn page_limit(&self, limit: Option<NonZeroU32>) -> NonZeroU32
-        ensures { result ≡ item_count self.now.config limit }
+        ensures { non_zero_u32_get result ≡ item_count self.now.config limit }
     {
         match limit {
-            Some(limit) => limit.min(self.config.page_max_nitems),
+            Some(limit) => lesser(limit, self.config.page_max_nitems),
             None => self.config.page_default_nitems,
         }
     }
@@ -97,5 +98,15 @@ impl RequestContext {
             endpoint: self.endpoint.copy(alloc)?,
             request: self.request.copy(alloc)?,
         })
+    }
+}
+
+fn lesser(count: NonZeroU32, other: NonZeroU32) -> NonZeroU32
+    ensures { non_zero_u32_get result ≡ min (non_zero_u32_get count) (non_zero_u32_get other) }
+{
+    if count.get() < other.get() {
+        count
+    } else {
+        other
     }
 }

@@ -36,9 +36,7 @@ pub fn encode_reply(
 {
     match reply {
         Reply::Success(success) => encode_success(alloc, handler, success, request_id),
-        Reply::Failure(error) => {
-            encode_error(alloc, handler.shape(), error.copy(alloc)?, request_id)
-        }
+        Reply::Failure(error) => encode_error(alloc, handler.shape(), error, request_id),
     }
 }
 
@@ -60,7 +58,7 @@ fn encode_success(
         Err(Unwritten::Refused(message)) => {
             let error = HttpError::for_internal_error(alloc, message)?;
             let refusal = handler.refuse(alloc, error)?;
-            encode_error(alloc, shape, refusal, request_id)
+            encode_error(alloc, shape, &refusal, request_id)
         }
         Err(Unwritten::OutOfMemory) => Err(AllocError),
     }

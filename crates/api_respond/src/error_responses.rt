@@ -6,7 +6,7 @@ ghost use Rattle.typed_values.specs.Encoding.{json_of_tree};
 ghost use Rattle.typed_values.specs.Fits.{Fits};
 ghost use Rattle.http_status.specs.Responses.{id_line, json_line};
 ghost use Rattle.api_respond.specs.Replies.{ErrorFits, OwnFits};
-ghost use Rattle.api_respond.specs.Responses.{compact_body, failure_response, own_body, own_response};
+ghost use Rattle.api_respond.specs.Responses.{compact_body, failure_response, own_body};
 
 use crate::reply::ErrorReply;
 use handler_shapes::{ApiEndpointErrorResponse, HandlerShape};
@@ -23,22 +23,23 @@ use typed_values::{Desc, DescTable, Tree, encode_json};
 pub fn encode_error(
     alloc: Global,
     shape: &HandlerShape,
-    error: ErrorReply,
+    error: &ErrorReply,
     request_id: &RequestId,
 ) -> Result<Response, AllocError>
     requires shape { ShapePasses shape.now }
-    requires error { ErrorFits shape.now error }
-    ensures { IfOk result (λ response. response ≡ failure_response shape.now error request_id.now) }
+    requires error { ErrorFits shape.now error.now }
+    ensures { IfOk result (λ response.
+        response ≡ failure_response shape.now error.now request_id.now) }
 {
     match error {
-        ErrorReply::Http(error) => error.into_response(alloc, request_id),
+        ErrorReply::Http(error) => error.copy(alloc)?.into_response(alloc, request_id),
         ErrorReply::Own {
             status,
             body,
             message: _,
         } => Ok(Response {
             headers: own_lines(alloc, request_id)?,
-            body: own_body(alloc, &shape.table, &shape.error, &body)?,
+            body: own_body(alloc, &shape.table, &shape.error, body)?,
             status: status.as_status(),
         }),
     }

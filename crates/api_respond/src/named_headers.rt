@@ -1,8 +1,11 @@
 //! The header lines of successes.
-ghost use Rattle.std.specs.Prelude.{◌≡◌, [], ◌∷◌, ◌++◌, codes, IfErr, IfOk, IsTrue, OnOk};
+ghost use Rattle.std.specs.Prelude.{◌≡◌, ℕ, List, [], ◌∷◌, ◌++◌, codes, IfErr, IfOk, IsTrue, OnOk};
+ghost use Rattle.std.specs.Str.{encode_utf8_all};
 ghost use Rattle.schema_values.specs.Ascii.{all_ascii};
 ghost use Rattle.flat_maps.specs.MapErrors.{AnswersAs};
+ghost use Rattle.http_header.specs.FieldName.{IsFieldName};
 ghost use Rattle.http_header.specs.FieldValue.{is_visible_text};
+ghost use Rattle.http_header.specs.Token.{lowercase};
 ghost use Rattle.http_status.specs.ErrorLines.{header_line};
 ghost use Rattle.handler_shapes.specs.ShapeChecks.{HeadersPass};
 ghost use Rattle.typed_values.specs.Checks.{TablePasses};
@@ -101,8 +104,8 @@ pub(crate) fn insert_named(
 {
     let mut all = lines;
     for (name, text) in named.iter() {
-        let (name, value) = header_line(alloc, name, text)?;
-        all.insert(name, value)?;
+        let (field, value) = header_line(alloc, name, text)?;
+        all.insert(field, value)?;
     }
     Ok(all)
 }
@@ -117,15 +120,25 @@ fn header_line(
     ensures valid { OnOk result (IsHeaderEntry (name.now, text.now)) }
     ensures refused { IfErr result (λ e. IfRefusal e (IsRefusal (name.now, text.now))) }
 {
-    let field = match HeaderName::from_bytes(alloc, name.as_bytes()) {
-        Ok(field) => field,
-        Err(HeaderNameError::Invalid) => return Err(told(alloc, "bad header name: ", name)),
-        Err(HeaderNameError::OutOfMemory) => return Err(Unwritten::OutOfMemory),
-    };
+    let field = field_name(alloc, name)?;
     match HeaderValue::from_bytes(alloc, text.as_bytes()) {
         Ok(value) => Ok((field, value)),
         Err(HeaderValueError::Invalid) => Err(told(alloc, "bad header value: ", name)),
         Err(HeaderValueError::OutOfMemory) => Err(Unwritten::OutOfMemory),
+    }
+}
+
+// The name of a header field, in lower case.
+fn field_name(alloc: Global, name: &Text) -> Result<HeaderName, Unwritten>
+    ensures name { IfOk result (λ field. field ≡ lowercase (encode_utf8_all name.now)) }
+    ensures valid { OnOk result (IsFieldName (encode_utf8_all name.now)) }
+    ensures refused { (text : List ℕ)
+        → IfErr result (λ e. IfRefusal e (IsRefusal (name.now, text))) }
+{
+    match HeaderName::from_bytes(alloc, name.as_bytes()) {
+        Ok(field) => Ok(field),
+        Err(HeaderNameError::Invalid) => Err(told(alloc, "bad header name: ", name)),
+        Err(HeaderNameError::OutOfMemory) => Err(Unwritten::OutOfMemory),
     }
 }
 
