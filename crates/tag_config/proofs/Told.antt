@@ -26,7 +26,7 @@ module _ (json : Json) (policy tags : List ℕ) (policy_is : policy ≡ name_by 
   fault_told (Err e) h = fault_same e h
 
   none_at : (e : DecodeError) → IfFault e (IsFaultOf (told [] (configuration_desc policy tags) json (configuration_desc policy tags))) → IfFault e (λ _. (config : Configuration) → ¬ DenotesConfiguration json config)
-  none_at (Fault fault) h config d = let q = sym (told_so ∙ h.1) ∙ d in cc q
+  none_at (Fault fault) h = λ config d. let q = sym (told_so ∙ h.1) ∙ d in cc q
   none_at OutOfMemory h = h
 
   pub none_denoted : (r : Result Configuration DecodeError) → IfErr r (λ e. IfFault e (IsFaultOf (told [] (configuration_desc policy tags) json (configuration_desc policy tags)))) → IfErr r (λ e. IfFault e (λ _. (config : Configuration) → ¬ DenotesConfiguration json config))
