@@ -1,5 +1,6 @@
 -- The code of a declaration: that of the tuple of its fields.
 use Rattle.std.specs.Prelude.{◌≡◌, ◌⊎◌, ℕ, Bool, List, Option, Some, None, refl}
+use Rattle.std.proofs.Common.{inl, inr}
 use Rattle.std.specs.Coded.{Coded, code_by, coded×, coded⊎, coded_bool, coded_list, coded_option, coded_ℕ}
 use Rattle.semver.specs.Parse.{Parts}
 use Rattle.api_versions.specs.Ranges.{VersionRange, all, from, from_until, until}
@@ -19,22 +20,25 @@ version_code = code_by (ℕ × (ℕ × (ℕ × (List ℕ × List ℕ)))) (coded�
     (λ v. (v.0, (v.1, (v.2, (v.3, v.4))))) (λ p. (p.0, p.1.0, p.1.1.0, p.1.1.1.0, p.1.1.1.1)) (λ _. refl)
 
 -- a range is stored as the bounds that its form has
-abbrev RangeParts : Type 0
+abbrev pub RangeParts : Type 0
 RangeParts = Option Parts ⊎ ((Parts × Parts) ⊎ Parts)
 
-abbrev parts_of_range : VersionRange → RangeParts
+-- the bounds
+abbrev pub parts_of_range : VersionRange → RangeParts
 parts_of_range all = inl None
 parts_of_range (from earliest) = inl (Some earliest)
 parts_of_range (from_until earliest end) = inr (inl (earliest, end))
 parts_of_range (until end) = inr (inr end)
 
-abbrev range_of_parts : RangeParts → VersionRange
+-- the range of the bounds
+abbrev pub range_of_parts : RangeParts → VersionRange
 range_of_parts (inl None) = all
 range_of_parts (inl (Some earliest)) = from earliest
 range_of_parts (inr (inl bounds)) = from_until bounds.0 bounds.1
 range_of_parts (inr (inr end)) = until end
 
-stored_back : (range : VersionRange) → range_of_parts (parts_of_range range) ≡ range
+-- the range of its parts is the range
+pub stored_back : (range : VersionRange) → range_of_parts (parts_of_range range) ≡ range
 stored_back all = refl
 stored_back (from earliest) = refl
 stored_back (from_until earliest end) = refl

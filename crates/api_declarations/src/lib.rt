@@ -5,8 +5,10 @@ mod declaration;
 mod declared;
 mod laws;
 mod lookup;
+mod serving;
 
 pub use declaration::Declaration;
 pub use declared::Declared;
 pub use laws::{holds_decides, serves_decides};
 pub use lookup::{endpoint_at, endpoint_for};
+pub use serving::holds;

@@ -6,25 +6,12 @@ ghost use Rattle.path_templates.specs.Places.{IsIndexOf, first_at, found_or};
 ghost use Rattle.api_declarations.specs.Serving.{endpoint_for, serves};
 ghost use Rattle.path_templates.specs.Templates.{trimmed};
 
-use crate::declaration::Declaration;
 use crate::declared::Declared;
 use http::Method;
-use path_templates::{PlaceIndex, same_template, without_trailing_slash};
+use path_templates::{PlaceIndex, without_trailing_slash};
 use schema_values::Text;
 use semver::Version;
 use std::alloc::{AllocError, Global};
-
-impl Declaration<'_> {
-    /// Whether the endpoint serves a method and a template at a version. One slash at the end of a
-    /// template is dropped.
-    pub fn serves(&self, version: &Version, method: &Method, template: &Text) -> bool
-        ensures { result ≡ serves (parts_of version.now) method.now template.now self.now }
-    {
-        self.method.as_str() == method.as_str()
-            && same_template(self.path, template)
-            && self.versions.matches(Some(version))
-    }
-}
 
 /// The first endpoint of a method and a template at a version, in time linear in their number.
 pub fn endpoint_for<'s, E: Declared>(

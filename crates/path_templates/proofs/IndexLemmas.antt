@@ -1,12 +1,12 @@
 -- An index of places by keys: one more place, and the first thing that is found by it.
-use Rattle.std.proofs.Common.{◌≡◌, ℕ, ◌+◌, ◌<◌, ◌||◌, drop, get_or, add-one, drop-cons, Bool, true, false, List, [], ◌∷◌, ◌++◌, length, map, Option, Some, None, refl, sym, ap, subst, ◌∙◌, append_assoc, length-append, inl, inr, arith}
+use Rattle.std.proofs.Common.{◌≡◌, ℕ, ◌+◌, ◌<◌, drop, get_or, add-one, drop-cons, Bool, true, false, List, [], ◌∷◌, ◌++◌, length, map, Option, Some, None, refl, sym, ap, subst, ◌∙◌, append_assoc, length-append, inl, inr, arith}
 use Rattle.std.specs.Prelude.{bytes_eq, find, if◌then◌else◌, unwrap_or}
 use Rattle.std.specs.BTreeMap.{is_at}
 use Rattle.std.specs.List.{list_any, slice_get}
 use Rattle.std.proofs.lemmas.Bool.{cases_Bool}
 use Rattle.std.proofs.lemmas.Map.Text.{is_eq-slice_cmp}
 use Rattle.std.proofs.lemmas.Slice.Eq.{bytes_eq-Decides}
-use Rattle.path_templates.specs.Places.{IsIndexOf, first_at, found_or, if_keyed, places_at, places_from, text_order, with_place}
+use Rattle.path_templates.specs.Places.{IsIndexOf, first_at, found_or, places_at, places_from, text_order, with_place}
 use Rattle.path_templates.specs.declared.place_index.PlaceIndex.{PlaceIndex}
 
 -- what stands at each key, where something was put at one

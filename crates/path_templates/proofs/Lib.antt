@@ -4,5 +4,6 @@ pub mod Encoded
 pub mod Texts
 pub mod Arranged
 pub mod Values
+pub mod Spelled
 pub mod IndexLemmas
 pub mod CallerLemmas

@@ -2,12 +2,14 @@
 #![tactic(auto)]
 
 mod characters;
+mod laws;
 mod place_index;
 mod segment;
 mod segments;
 mod template;
 mod variables;
 
+pub use laws::templates_are_spelled;
 pub use place_index::PlaceIndex;
 pub use segment::PathSegment;
 pub use template::{Template, same_template, without_trailing_slash};

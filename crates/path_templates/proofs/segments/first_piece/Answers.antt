@@ -1,4 +1,4 @@
-use Rattle.std.proofs.Common.{◌≡◌, ◌+◌, ◌-◌, ap, drop, length, sym, take, ◌∙◌, ◌∷◌}
+use Rattle.std.proofs.Common.{◌+◌, ap, sym, take, ◌∙◌, ◌∷◌}
 use Rattle.path_templates.specs.Segments.{pieces}
 use Rattle.path_templates.proofs.Pieces.{cut_at, cut_nowhere, rest_whole}
 use Rattle.path_templates.proofs.segments.first_piece.Goals as goal

@@ -1,0 +1,37 @@
+//! Whether an endpoint serves a request.
+ghost use Rattle.std.specs.Prelude.{◌≡◌, bytes_eq};
+ghost use Rattle.semver.specs.Identifiers.{parts_of};
+ghost use Rattle.api_versions.specs.Shown.{range_of};
+ghost use Rattle.api_declarations.specs.Serving.{holds, serves};
+
+use crate::declaration::Declaration;
+use api_versions::ApiEndpointVersions;
+use http::Method;
+use path_templates::same_template;
+use schema_values::Text;
+use semver::Version;
+
+/// Whether a range holds a version.
+pub fn holds(versions: &ApiEndpointVersions, version: &Version) -> bool
+    ensures { result ≡ holds (range_of versions.now) (parts_of version.now) }
+{
+    versions.matches(Some(version))
+}
+
+fn same_method(method: &Method, other: &Method) -> bool
+    ensures { result ≡ bytes_eq method.now other.now }
+{
+    method.as_str() == other.as_str()
+}
+
+impl Declaration<'_> {
+    /// Whether the endpoint serves a method and a template at a version. One slash at the end of a
+    /// template is dropped.
+    pub fn serves(&self, version: &Version, method: &Method, template: &Text) -> bool
+        ensures { result ≡ serves (parts_of version.now) method.now template.now self.now }
+    {
+        same_method(self.method, method)
+            && same_template(self.path, template)
+            && holds(self.versions, version)
+    }
+}
