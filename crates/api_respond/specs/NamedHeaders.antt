@@ -38,7 +38,8 @@ with_named (entry ∷ entries) lines = with_named entries (inserted (line_of ent
 
 -- what is told of a name that is no header field's, or whose text is no value of one
 pub data IsRefusal (entry : TextEntry) (message : List ℕ) : Type 0 where
-  bad_name : ¬ (IsFieldName (encode_utf8_all entry.0)) → message ≡ codes "bad header name: " ++ entry.0 → IsRefusal entry message
+  bad_name : ¬ (IsFieldName (encode_utf8_all entry.0))
+      → message ≡ codes "bad header name: " ++ entry.0 → IsRefusal entry message
   bad_value : IsFieldName (encode_utf8_all entry.0) → ¬ (IsFieldValue (encode_utf8_all entry.1))
       → message ≡ codes "bad header value: " ++ entry.0 → IsRefusal entry message
 

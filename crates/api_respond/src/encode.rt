@@ -1,8 +1,9 @@
 //! The responses that replies are sent as.
 ghost use Rattle.std.specs.Prelude.{◌≡◌, IfErr, IfOk, OnErr};
+ghost use Rattle.http_status.specs.Errors.{internal_error};
 ghost use Rattle.handler_shapes.specs.ShapeChecks.{ContentPasses, ResponsePasses, ShapePasses};
 ghost use Rattle.typed_values.specs.Checks.{TablePasses};
-ghost use Rattle.api_respond.specs.Encodes.{AreSent, Encodes, SuccessEncodes, WhyUnsent};
+ghost use Rattle.api_respond.specs.Encodes.{AreSent, Encodes, RefusalEncodes, SuccessEncodes, WhyUnsent};
 ghost use Rattle.api_respond.specs.NamedHeaders.{IfRefusal};
 ghost use Rattle.api_respond.specs.Replies.{ContentFits, JsonFits, ReplyFits, SuccessFits};
 ghost use Rattle.api_respond.specs.Responses.{content_body, content_left, json_content, success_left};
@@ -14,6 +15,7 @@ use crate::reply::{Content, Reply, SuccessReply};
 use flat_maps::MapError;
 use handler_shapes::{ApiEndpointResponse, ContentShape, HandlerShape};
 use http_status::{Body, HeaderList, HttpError, RequestId, Response};
+use schema_values::Text;
 use std::alloc::{AllocError, Global};
 use std::mem;
 use typed_values::{DescTable, Tree};
@@ -40,6 +42,22 @@ pub fn encode_reply(
     }
 }
 
+/// The response that a handler's refusal of an error is sent as, to the request of this id. Fails only for
+/// want of memory.
+pub fn encode_refusal(
+    alloc: Global,
+    handler: &dyn RouteHandler,
+    error: HttpError,
+    request_id: &RequestId,
+) -> Result<Response, AllocError>
+    requires { ShapePasses (shape_of handler.now) }
+    ensures { IfOk result (RefusalEncodes
+        (shape_of handler.now) (turns handler.now) error request_id.now) }
+{
+    let refusal = handler.refuse(alloc, error)?;
+    encode_error(alloc, handler.shape(), &refusal, request_id)
+}
+
 fn encode_success(
     alloc: Global,
     handler: &dyn RouteHandler,
@@ -55,13 +73,24 @@ fn encode_success(
     let shape = handler.shape();
     match success_lines(alloc, &shape.table, &shape.response, success) {
         Ok(headers) => send(alloc, shape, success, headers),
-        Err(Unwritten::Refused(message)) => {
-            let error = HttpError::for_internal_error(alloc, message)?;
-            let refusal = handler.refuse(alloc, error)?;
-            encode_error(alloc, shape, &refusal, request_id)
-        }
+        Err(Unwritten::Refused(message)) => encode_unsent(alloc, handler, message, request_id),
         Err(Unwritten::OutOfMemory) => Err(AllocError),
     }
+}
+
+// The response that tells that a success is not sent, and why.
+fn encode_unsent(
+    alloc: Global,
+    handler: &dyn RouteHandler,
+    message: Text,
+    request_id: &RequestId,
+) -> Result<Response, AllocError>
+    requires { ShapePasses (shape_of handler.now) }
+    ensures { IfOk result (RefusalEncodes
+        (shape_of handler.now) (turns handler.now) (internal_error message) request_id.now) }
+{
+    let error = HttpError::for_internal_error(alloc, message)?;
+    encode_refusal(alloc, handler, error, request_id)
 }
 
 // The header lines of a success: that of its content, the named ones and the others.

@@ -9,7 +9,7 @@ mod named_headers;
 mod reply;
 
 pub use context::{RequestContext, RequestEndpointMetadata};
-pub use encode::encode_reply;
+pub use encode::{encode_refusal, encode_reply};
 pub use error_responses::encode_error;
 pub use handler::RouteHandler;
 pub use reply::{Content, ErrorReply, Reply, SuccessReply};

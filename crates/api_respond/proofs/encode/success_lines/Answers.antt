@@ -4,7 +4,7 @@ use Rattle.api_respond.proofs.encode.success_lines.Goals as goal
 
 pub returns-in-Err-Refused-clause-refused : goal.returns-in-Err-Refused-clause-refused
 returns-in-Err-Refused-clause-refused c =
-    told_more _ (WhyUnsent c.args.table.now c.args.response.now c.args.success.now) (λ message is. no_map _ c.in-Err-Refused.ensures is) c.told.result c.told.ensures
+    told_more _ (WhyUnsent c.args.table.now c.args.response.now c.args.success.now) (λ message is. no_map c.in-Err-Refused.text (rw c.in-Err-Refused.field-0-is at c.in-Err-Refused.ensures) is) c.told.result c.told.ensures
 
 pub returns-in_err-lines-clause-refused : goal.returns-in_err-lines-clause-refused
 returns-in_err-lines-clause-refused c =
