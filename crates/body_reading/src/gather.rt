@@ -1,9 +1,10 @@
 //! Frames of any source, gathered in memory.
-ghost use Rattle.std.specs.Prelude.{◌≡◌, ◌-◌, ◌^◌, ◌<◌, [], ◌∷◌, IfOk};
+ghost use Rattle.std.specs.Prelude.{◌≡◌, ◌+◌, ◌-◌, ◌^◌, ◌<◌, [], ◌∷◌, IfOk};
 ghost use Rattle.http_bodies.specs.Bodies.{failing};
 ghost use Rattle.http_bodies.specs.Memory.{fresh_frames};
 ghost use Rattle.http_bodies.specs.Sources.{GoesOn};
 ghost use Rattle.body_reading.specs.Gathered.{GathersInto};
+ghost use Rattle.body_reading.specs.Whole.{TakesAtMost};
 
 use http_bodies::{Body, Frame, FrameError, FrameSource, MemoryFrames, SafeFrames};
 use schema_values::List;
@@ -22,6 +23,9 @@ pub fn gather_frames<S: FrameSource>(
     // The frames that came, with the end behind them, or a call that failed.
     ensures gathered { IfOk result (λ body.
         GathersInto budget (S.state source.old) (S.state source.new) body) }
+
+    // However it ends, at most one frame more than the budget was taken.
+    ensures most { TakesAtMost (budget + 1) (S.state source.old).left (S.state source.new).left }
     ensures goes_on { GoesOn (S.state source.old) (S.state source.new) }
 {
     let mut frames = List::new(alloc);
