@@ -1,7 +1,7 @@
 -- Trailers that are passed over, and what comes behind them.
-use Rattle.std.proofs.Common.{◌≡◌, ℕ, ◌+◌, ◌-◌, ◌<◌, zero, suc, List, [], ◌∷◌, ◌++◌, length, drop, take}
+use Rattle.std.proofs.Common.{◌≡◌, ℕ, ◌+◌, ◌-◌, ◌<◌, ◌≤◌, zero, suc, List, [], ◌∷◌, ◌++◌, length, drop, take}
 use Rattle.std.proofs.Common.{arith, sym, ◌∙◌, ap, refl, subst, true, append_assoc}
-use Rattle.std.specs.Prelude.{Option, Result, Ok, Err, IfOk, OnOk, nat_lt}
+use Rattle.std.specs.Prelude.{Option, Some, Result, Ok, Err, IfOk, OnOk, OnErr, nat_lt}
 use Rattle.std.proofs.lemmas.Bool.Decides.{nat_tests}
 use Rattle.std.proofs.lemmas.List.{length-append}
 use Rattle.header_lists.specs.HeaderLists.{Line}
@@ -12,6 +12,7 @@ use Rattle.http_bodies.specs.Bodies.{can_fail_of, faults_of, frames_of}
 use Rattle.http_bodies.specs.Frames.{all_data}
 use Rattle.body_reading.specs.declared.flaw.BodyFlaw.{BodyFlaw}
 use Rattle.body_reading.specs.Streams.{Advances, SameLimits, StreamState, contents, next_in, next_of, room_of, with_content}
+use Rattle.body_reading.specs.Whole.{TakesAtMost}
 
 -- as many frames as may yet come, and one more, tell what comes next
 pub first_enough : (cap sum room : ℕ) (frames : List Frame)
@@ -29,6 +30,7 @@ pub record Passes (old now : StreamState) : Type 0 where
   pub next : next_of now ≡ next_of old
   pub contents_are : contents (frames_of now.body) ≡ contents (frames_of old.body)
   pub advances : Advances old now
+  pub few : length advances.came ≤ room_of old
   pub rest : drop (room_of now + 1) (frames_of now.body) ≡ drop (room_of old + 1) (frames_of old.body)
   pub limits : SameLimits old now
   pub sum : now.sum ≡ old.sum
@@ -41,6 +43,7 @@ passes_none old = record {
   next = refl;
   contents_are = refl;
   advances = record { came = []; taken = refl; frames = omega arith; sum = omega arith };
+  few = omega arith;
   rest = refl;
   limits = record { cap = refl; budget = refl };
   sum = refl;
@@ -92,6 +95,7 @@ passes_more old now after lines p t room one =
         frames = omega (arith, length-append p.advances.came (Trailers lines ∷ []));
         sum = omega (arith, size, length-append (all_data p.advances.came) []);
       };
+      few = let few = p.few in omega (arith, length-append p.advances.came (Trailers lines ∷ []));
       rest = rest_passed now after lines t room one ∙ p.rest;
       limits = record { cap = t.limits.cap ∙ p.limits.cap; budget = t.limits.budget ∙ p.limits.budget };
       sum = t.sum ∙ p.sum;
@@ -123,3 +127,32 @@ pub judged_advances : (old now mid new : StreamState) (content : List ℕ) (resu
 judged_advances old now mid new content (Ok next) p t uncounted counted =
     subst (λ (s : StreamState). Advances old s) (sym counted) (advances_more old now mid content p t uncounted)
 judged_advances old now mid new content (Err wrong) p t uncounted counted = tt
+
+-- behind trailers, at most one frame more was taken
+pub passes_taken : (old now new : StreamState) (more : List Frame) → Passes old now
+    → frames_of now.body ≡ more ++ frames_of new.body → length more ≤ 1 → new.budget ≡ now.budget
+    → now.frames ≤ new.frames
+    → TakesAtMost (room_of old + 1 - room_of new) (Some (frames_of old.body)) (Some (frames_of new.body))
+passes_taken old now new more p taken one budget later =
+    let counted = p.advances.frames in
+    let few = p.few in
+    let same = p.limits.budget in
+    record {
+      came = p.advances.came ++ more;
+      taken = p.advances.taken ∙ ap (λ (xs : List Frame). p.advances.came ++ xs) taken
+          ∙ sym (append_assoc p.advances.came more (frames_of new.body));
+      most = omega (arith, length-append p.advances.came more);
+    }
+
+-- a frame with content was taken, whether it is given or not
+pub judged_taken : (old now mid new : StreamState) (content : List ℕ) (result : Result (Option (List ℕ)) BodyFlaw)
+    → Passes old now → TakesFirst now mid (Bytes content) → mid.frames ≡ now.frames
+    → OnOk result (new ≡ with_content mid content) → OnErr result (new ≡ mid)
+    → TakesAtMost (room_of old + 1 - room_of new) (Some (frames_of old.body)) (Some (frames_of new.body))
+judged_taken old now mid new content (Ok next) p t uncounted counted kept =
+    subst (λ (s : StreamState). TakesAtMost (room_of old + 1 - room_of s) (Some (frames_of old.body)) (Some (frames_of s.body)))
+    (sym counted)
+    (passes_taken old now (with_content mid content) (Bytes content ∷ []) p t.gives (omega arith) t.limits.budget (omega arith))
+judged_taken old now mid new content (Err wrong) p t uncounted counted kept =
+    subst (λ (s : StreamState). TakesAtMost (room_of old + 1 - room_of s) (Some (frames_of old.body)) (Some (frames_of s.body)))
+    (sym kept) (passes_taken old now mid (Bytes content ∷ []) p t.gives (omega arith) t.limits.budget (omega arith))

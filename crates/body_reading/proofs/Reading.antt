@@ -4,14 +4,12 @@ use Rattle.std.specs.Prelude.{◌⊎◌, Option, Some, None, Ok, Err}
 use Rattle.std.proofs.lemmas.List.{length-append, take_all}
 use Rattle.http_bodies.proofs.CallerLemmas.{all_data-more}
 use Rattle.http_bodies.specs.declared.frame.Frame.{Frame}
-use Rattle.http_bodies.specs.declared.frame.FrameError.{FrameError}
-use Rattle.http_bodies.specs.declared.frame.FrameError.TheVariants as frame
 use Rattle.http_bodies.specs.Dumping.{data_size}
 use Rattle.http_bodies.specs.Frames.{SourceState, data_of, all_data}
 use Rattle.http_bodies.specs.Sources.{GivesFrame, GoesOn, IsAtEnd, TakesFrames}
 use Rattle.body_reading.specs.declared.whole.BodyError.{BodyError}
 use Rattle.body_reading.specs.declared.whole.BodyError.TheVariants as body
-use Rattle.body_reading.specs.Whole.{HasCause, IsCutShort, Reads, TakesAtMost, TakesRoom, body_error_of}
+use Rattle.body_reading.specs.Whole.{HasCause, IsCutShort, Reads, TakesAtMost, TakesRoom}
 use Rattle.body_reading.proofs.FirstAbove.{data_length-more, first_above, take_front}
 use Rattle.body_reading.proofs.Taking.{takes_both}
 
@@ -53,25 +51,6 @@ reading_ends start now after limit budget content count d gives more =
       cause = inr (record { content_is = d.content_is; small = d.small; few = omega arith });
       ended = subst (λ (left : Option (List Frame)). IsAtEnd left) (sym gives.1) gives.0;
       dumped = inr (inl (subst (λ (left : Option (List Frame)). IsAtEnd left) (sym gives.1) gives.0));
-    }
-
-cut_short : (error : FrameError) → IsCutShort (Err (body_error_of error))
-cut_short frame.Failed = tt
-cut_short frame.OutOfMemory = tt
-
--- a call gave no frame
-pub reading_fails : (start now after : SourceState) (limit budget : ℕ) (content : List ℕ) (count : ℕ) (error : FrameError)
-    → IsReading start now limit content count → after.left ≡ now.left → count < budget + 1
-    → Reads limit budget start.left after.left (Err (body_error_of error))
-reading_fails start now after limit budget content count error d kept more =
-    let counted = d.counted in
-    record {
-      came = d.came;
-      taken = subst (λ (left : Option (List Frame)). TakesFrames start.left d.came left) (sym kept) d.taken;
-      most = omega arith;
-      cause = inl (cut_short error);
-      ended = tt;
-      dumped = inl (cut_short error);
     }
 
 -- memory ran out behind a frame

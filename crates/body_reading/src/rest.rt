@@ -1,5 +1,5 @@
 //! The rest of a body, which is thrown away.
-ghost use Rattle.std.specs.Prelude.{◌≡◌, ◌-◌, ◌^◌, ◌<◌, IsErrOf, OnOk};
+ghost use Rattle.std.specs.Prelude.{◌≡◌, IsErrOf, OnOk};
 ghost use Rattle.http_bodies.specs.Sources.{GoesOn, HasFailed};
 ghost use Rattle.body_reading.specs.Whole.{TakesAtMost, TakesRoom};
 

@@ -1,5 +1,5 @@
 //! Bodies that a handler reads content by content.
-ghost use Rattle.std.specs.Prelude.{◌≡◌, ◌+◌, ◌<◌, ◌≤◌, ◌↔◌, ◌⊎◌, [], ◌∷◌, true, false, drop};
+ghost use Rattle.std.specs.Prelude.{◌≡◌, ◌+◌, ◌-◌, ◌<◌, ◌≤◌, ◌↔◌, ◌⊎◌, [], ◌∷◌, true, false, drop};
 ghost use Rattle.std.specs.Prelude.{if◌then◌else◌, nat_lt, length, IfOk, IfSome};
 ghost use Rattle.std.specs.Prelude.{IsErrOf, IsErr, OnErr, OnOk, is_err};
 ghost use Rattle.http_bodies.specs.Bodies.{faults_of, frames_of, never_failing, state_of};
@@ -7,10 +7,11 @@ ghost use Rattle.http_bodies.specs.Frames.{content_frames};
 ghost use Rattle.http_bodies.specs.Sources.{GoesOn, HasFailed};
 ghost use Rattle.http_bodies.specs.declared.frame.Frame.TheVariants.{Bytes};
 ghost use Rattle.body_reading.specs.Streams.{Advances, InOrder, IsAnswer, IsExcess, IsOver};
-ghost use Rattle.body_reading.specs.Streams.{SameLimits, answer_of, closed_stream, fresh_stream};
+ghost use Rattle.body_reading.specs.Streams.{SameLimits, answer_of, closed_stream, contents};
+ghost use Rattle.body_reading.specs.Streams.{fresh_stream};
 ghost use Rattle.body_reading.specs.Streams.{next_in, next_of, refusal_of, room_of, stream_fault};
 ghost use Rattle.body_reading.specs.Streams.{with_content};
-ghost use Rattle.body_reading.specs.Whole.{TakesRoom};
+ghost use Rattle.body_reading.specs.Whole.{TakesAtMost, TakesRoom};
 
 use crate::flaw::BodyFlaw;
 use crate::refusal::StreamRefusal;
@@ -68,7 +69,8 @@ impl StreamingBody {
     /// A reader of this content in one frame, or in none where it is empty. Its cap is the
     /// content's length, its budget one frame.
     pub fn from_bytes(content: List<u8>) -> StreamingBody
-        ensures { result ≡ fresh_stream (never_failing (content_frames content)) (length content) 1 }
+        ensures { result
+            ≡ fresh_stream (never_failing (content_frames content)) (length content) 1 }
     {
         let cap = content.len() as u64;
         StreamingBody::new(Body::with_content(content), cap, 1)
@@ -94,6 +96,14 @@ impl StreamingBody {
         ensures advances { IfOk result (λ _. Advances self.old self.new) }
         ensures rest { IsExcess result → frames_of self.new.body
             ≡ drop (room_of self.old + 1) (frames_of self.old.body) }
+
+        // An error where the next content is allowed loses none: only trailers were taken.
+        ensures lost { OnErr result (IfOk (next_of self.old) (λ _.
+            contents (frames_of self.new.body) ≡ contents (frames_of self.old.body))) }
+
+        // However it ends, at most one frame more than may yet come was taken.
+        ensures taken { TakesAtMost (room_of self.old + 1) (Some (frames_of self.old.body))
+            (Some (frames_of self.new.body)) }
 
         // A fault comes only where the count of faults rose, and a count that rose is told as that
         // fault, or as want of memory.
@@ -131,6 +141,11 @@ impl StreamingBody {
         ensures advances { IfOk result (λ _. Advances self.old self.new) }
         ensures rest { IsOver result → drop (room_of self.new) (frames_of self.new.body)
             ≡ drop (room_of self.old + 1) (frames_of self.old.body) }
+        ensures lost { IsErrOf result BodyFlaw.Fault
+            → contents (frames_of self.new.body) ≡ contents (frames_of self.old.body) }
+        ensures taken { TakesAtMost (room_of self.old + 1 - room_of self.new)
+            (Some (frames_of self.old.body)) (Some (frames_of self.new.body)) }
+        ensures room { room_of self.new ≤ room_of self.old }
         ensures fault { IsErrOf result BodyFlaw.Fault
             → HasFailed (state_of self.old.body) (state_of self.new.body) }
         ensures counts { ¬ IsErrOf result BodyFlaw.Fault
@@ -183,6 +198,10 @@ impl StreamingBody {
             ⊎ (result ≡ StreamRefusal.OutOfMemory) }
         ensures rest { IsExcess (Err result) → TakesRoom (room_of self.old)
             (Some (frames_of self.old.body)) (Some (frames_of self.new.body)) }
+        ensures taken { TakesAtMost (room_of self.old) (Some (frames_of self.old.body))
+            (Some (frames_of self.new.body)) }
+        ensures still { (flaw ≡ BodyFlaw.Fault)
+            → frames_of self.new.body ≡ frames_of self.old.body }
         ensures fault { result ≡ stream_fault → (flaw ≡ BodyFlaw.Fault)
             ⊎ HasFailed (state_of self.old.body) (state_of self.new.body) }
         ensures counts { ¬ (result ≡ stream_fault) → ¬ (result ≡ StreamRefusal.OutOfMemory)

@@ -1,5 +1,5 @@
 //! Bodies that are read whole.
-ghost use Rattle.std.specs.Prelude.{◌≡◌, ◌+◌, ◌-◌, ◌^◌, ◌<◌, ◌≤◌, ◌⊎◌, ◌++◌, IfSome, IsErrOf};
+ghost use Rattle.std.specs.Prelude.{◌≡◌, ◌+◌, ◌-◌, ◌^◌, ◌<◌, ◌⊎◌, ◌++◌, IfSome, IsErrOf};
 ghost use Rattle.std.specs.Prelude.{OnOk, Err, length};
 ghost use Rattle.http_bodies.specs.Frames.{data_of};
 ghost use Rattle.http_bodies.specs.Sources.{GoesOn, HasFailed};
