@@ -11,7 +11,8 @@ mime_of Json = codes "application/json"
 mime_of UrlEncoded = codes "application/x-www-form-urlencoded"
 mime_of MultipartFormData = codes "multipart/form-data"
 
--- the kind of a media type: one of these, or a type of JSON by its suffix (RFC 6839, section 3.1)
+-- the kind of a media type: one of these, or JSON for a subtype of `application/` whose whole text behind its first plus
+-- is `json`
 abbrev pub kind_of : List ℕ → Option ApiEndpointBodyContentType
 kind_of media =
     if bytes_eq media (codes "application/octet-stream") then Some Bytes

@@ -37,15 +37,12 @@ impl ApiEndpointBodyContentType {
     }
 
     /// The kind of a media type in lower case, without parameters: one of the four that `mime_type`
-    /// gives, or JSON for `application/` with a structured suffix `json` (RFC 6839, section 3.1);
-    /// `Unsupported` for any other. It takes no memory.
+    /// gives, or JSON for `application/` and a subtype whose whole text after its first `+` is
+    /// `json`; `Unsupported` for any other. It takes no memory.
     pub fn from_mime_type(mime_type: &str) -> Result<ApiEndpointBodyContentType, Unsupported>
         ensures { result_ok result ≡ kind_of mime_type.now }
     {
-        match kind_of(mime_type.as_bytes()) {
-            Some(kind) => Ok(kind),
-            None => Err(Unsupported),
-        }
+        kind_of(mime_type.as_bytes()).ok_or(Unsupported)
     }
 }
 

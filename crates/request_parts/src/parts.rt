@@ -8,8 +8,8 @@ use semver::Version;
 use std::alloc::{AllocError, Global};
 use std::marker::Model;
 
-/// A request without its body: what it asks for, its id and its head. Contracts see the parts of the
-/// version, and the variables as the list of their entries, in the order of the names.
+/// A request without its body: what it asks for, its id and its head. Contracts see the parts of
+/// the version, and the variables as the list of their entries, in the order of the names.
 #[derive(Drop)]
 pub struct RequestParts {
     /// The version of the API.
