@@ -1,5 +1,5 @@
 -- Which arguments are of which slots, and what a handler does to its arguments.
-use Rattle.std.specs.Prelude.{◌≡◌, ℕ, zero, suc, ◌≤◌, pos, ⊤, List, [], ◌∷◌}
+use Rattle.std.specs.Prelude.{◌≡◌, zero, suc, ◌≤◌, pos, ⊤, List, [], ◌∷◌}
 use Rattle.descriptors.specs.declared.desc.Desc.{Desc}
 use Rattle.descriptors.specs.declared.table.Definition.{Definition}
 use Rattle.descriptors.specs.declared.tree.Tree.{Tree, out-Tree}

@@ -3,8 +3,10 @@ ghost use Rattle.std.specs.Prelude.{◌↔◌, All, IfSome, IsTrue};
 ghost use Rattle.typed_values.specs.Checks.{TablePasses, DescPasses};
 ghost use Rattle.typed_values.specs.Lengths.{HasShortLengths};
 ghost use Rattle.handler_shapes.specs.ShapeChecks.{ContentPasses, ErrorPasses, HeadersPass};
-ghost use Rattle.handler_shapes.specs.ShapeChecks.{ResponsePasses, SelectorPasses, ShapePasses, SlotPasses, SlotsPass};
-ghost use Rattle.handler_shapes.specs.ShapeLengths.{ContentHasShortLengths, SelectorHasShortLengths};
+ghost use Rattle.handler_shapes.specs.ShapeChecks.{ResponsePasses, SelectorPasses, ShapePasses};
+ghost use Rattle.handler_shapes.specs.ShapeChecks.{SlotPasses, SlotsPass};
+ghost use Rattle.handler_shapes.specs.ShapeLengths.{ContentHasShortLengths};
+ghost use Rattle.handler_shapes.specs.ShapeLengths.{SelectorHasShortLengths};
 ghost use Rattle.handler_shapes.specs.ShapeLengths.{ResponseHasShortLengths, ShapeHasShortLengths};
 ghost use Rattle.handler_shapes.specs.ShapeLengths.{SlotHasShortLengths};
 
@@ -24,25 +26,22 @@ pub fn shape_passes(shape: &HandlerShape) -> bool
         && error_passes(&shape.table, &shape.error)
 }
 
-/// Whether the descriptors of a slot pass their checks in the table of a shape, that of a selector in its
-/// own table. Takes no memory.
+/// Whether the descriptors of a slot pass their checks in the table of a shape, that of a selector
+/// in its own table. Takes no memory.
 pub fn slot_passes(table: &DescTable, slot: &Slot) -> bool
     requires { TablePasses table.now }
     ensures pass { IsTrue result ↔ SlotPasses table.now slot.now }
     ensures lengths { IsTrue result → SlotHasShortLengths slot.now }
 {
     match slot {
-        Slot::Path(desc) => desc_passes(table, desc),
-        Slot::Query(desc) => desc_passes(table, desc),
-        Slot::Header(desc) => desc_passes(table, desc),
+        Slot::Path(desc) | Slot::Query(desc) | Slot::Header(desc) => desc_passes(table, desc),
         Slot::PagedQuery {
             scan,
             selector,
             selector_table,
         } => desc_passes(table, scan) && selector_passes(selector_table, selector),
         Slot::TypedBody(desc, _) => desc_passes(table, desc),
-        Slot::RawBody => true,
-        Slot::StreamBody => true,
+        Slot::RawBody | Slot::StreamBody => true,
     }
 }
 

@@ -1,14 +1,13 @@
-//! What handlers take and give, as data: slots and arguments, and the shapes of responses and errors.
+//! What handlers take and give, as data: slots and arguments, and the shapes of responses and
+//! errors.
 #![tactic(auto)]
 
 mod arguments;
 mod checks;
-mod scalars;
 mod shape;
 mod slot;
 
 pub use arguments::{Arg, ArgList};
 pub use checks::{shape_passes, slot_passes};
-pub use scalars::is_scalar;
 pub use shape::{ApiEndpointErrorResponse, ApiEndpointResponse, ContentShape, HandlerShape};
 pub use slot::Slot;

@@ -5,8 +5,8 @@ use schema_values::{List, Text};
 use std::alloc::{AllocError, Global};
 use typed_values::{Desc, DescTable};
 
-/// What a handler takes of a request. Descriptors are read in the table of the handler's shape, but for
-/// that of a selector, which has a table of its own.
+/// What a handler takes of a request. Descriptors are read in the table of the handler's shape, but
+/// for that of a selector, which has a table of its own.
 #[derive(Drop)]
 pub enum Slot {
     /// The variables of the path, as a struct.
@@ -15,8 +15,8 @@ pub enum Slot {
     Query(Desc),
     /// The header lines, as a struct.
     Header(Desc),
-    /// A page of results: the first one, by a scan, or a later one, by the selector of a token; and how
-    /// many items it has at most.
+    /// A page of results: the first one, by a scan, or a later one, by the selector of a token; and
+    /// how many items it has at most.
     PagedQuery {
         /// The struct of a scan.
         scan: Desc,
@@ -64,7 +64,8 @@ fn copy_pages(
     selector: &Desc,
     selector_table: &DescTable,
 ) -> Result<Slot, AllocError>
-    ensures { IfOk result (λ copy. copy ≡ Slot.PagedQuery scan.now selector.now selector_table.now) }
+    ensures { IfOk result (λ copy.
+        copy ≡ Slot.PagedQuery scan.now selector.now selector_table.now) }
 {
     Ok(Slot::PagedQuery {
         selector_table: selector_table.copy(alloc)?,
