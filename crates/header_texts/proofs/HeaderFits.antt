@@ -19,14 +19,9 @@ use Rattle.typed_values.specs.Denotes.{Told, below, if_present, by_presence, and
 use Rattle.typed_values.specs.Faults.{Trouble}
 use Rattle.typed_values.specs.Fits.{Fits}
 use Rattle.flat_maps.specs.Flat.{resolved, fields_told, flat_fields, given_told, looked_up, under_struct, FlatDenotes}
-use Rattle.flat_maps.specs.Given.{Names}
 use Rattle.flat_maps.specs.Texts.{text_told}
 use Rattle.flat_maps.proofs.CallerLemmas.{flat_fits}
-use Rattle.header_texts.specs.HeaderTexts.{line_told, header_told, HeadersDenote}
-
--- the shown value of the last line of a name
-abbrev shown_names : List HeaderLine → Names
-shown_names lines name = option_map String (option_and_then shown_text (last_line (encode_utf8_all name) lines))
+use Rattle.header_texts.specs.HeaderTexts.{line_told, header_told, shown_names, HeadersDenote}
 
 -- a value with a byte that is not shown gives no tree
 hidden_field : (p : Presence) (name : List ℕ) (t : Tree) → if_present p (below (Name name) (refused HeaderBytes)) ≡ Ok t → ⊥
@@ -73,7 +68,7 @@ module _ (table : List Definition) (lines : List HeaderLine) where
       by_all (Ok ts) q e = ap (as_tree Parts) (same_rest 0 fs ts q) ∙ e
       by_all (Err k) q e = absurd (cc e)
 
-  headers_flat : (d : Desc) (t : Tree) → HeadersDenote table d lines t → FlatDenotes table d (shown_names lines) t
+  pub headers_flat : (d : Desc) (t : Tree) → HeadersDenote table d lines t → FlatDenotes table d (shown_names lines) t
   headers_flat d t = by_fields (flat_fields (resolved table d))
     where
       by_fields : (o : Option (List Field)) → under_struct (fields_told (header_told table lines)) o ≡ Ok t → under_struct (fields_told (looked_up table (shown_names lines))) o ≡ Ok t

@@ -6,9 +6,10 @@ ghost use Rattle.typed_values.specs.Answer.{Tells, IfFault, IsFaultOf};
 ghost use Rattle.typed_values.specs.Checks.{TablePasses, DescPasses};
 ghost use Rattle.typed_values.specs.Denotes.{by_presence};
 ghost use Rattle.typed_values.specs.Fits.{Fits};
-ghost use Rattle.flat_maps.specs.Flat.{fields_told};
+ghost use Rattle.flat_maps.specs.Flat.{FlatDenotes, fields_told};
 ghost use Rattle.request_parts.specs.Wire.{wire_line};
-ghost use Rattle.header_texts.specs.HeaderTexts.{HeadersDenote, headers_told, header_told, line_told};
+ghost use Rattle.header_texts.specs.HeaderTexts.{HeadersDenote, headers_told, header_told};
+ghost use Rattle.header_texts.specs.HeaderTexts.{line_told, shown_names};
 
 use crate::lines::last_line;
 use descriptors::{Desc, DescTable, Field, Tree};
@@ -34,6 +35,8 @@ pub fn decode_headers(
     requires table { TablePasses table.now }
     requires desc { DescPasses table.now desc.now }
     ensures denotes { IfOk result (HeadersDenote table.now desc.now (map wire_line lines.now)) }
+    ensures flat { IfOk result
+        (FlatDenotes table.now desc.now (shown_names (map wire_line lines.now))) }
     ensures fits { IfOk result (Fits table.now desc.now) }
     ensures fault { IfErr result (λ error. IfFault error
         (IsFaultOf (headers_told table.now (map wire_line lines.now) desc.now))) }
