@@ -1,0 +1,16 @@
+pub mod Told
+pub mod ReadValues
+pub mod TokenLemmas
+pub mod NamedPairs
+pub mod SlotLists
+pub mod FrontSlots
+pub mod Denoted
+pub mod PageFits
+pub mod ArgFits
+pub mod Limits
+pub mod GivenAnswers
+pub mod NoFaults
+pub mod Joined
+pub mod Comes
+pub mod Contents
+pub mod ShownMedia

@@ -1,0 +1,117 @@
+use Rattle.std.proofs.Common.{◌≡◌, [], Some, None, Bor, refl, sym, ap, subst, arith}
+use Rattle.std.proofs.lemmas.Result.{IfOk-from_err, err_from_is_err_and}
+use Rattle.std.specs.Prelude.{is_err}
+use Rattle.std.specs.List.{list_any}
+use Rattle.std.specs.declared.result.Result.TheVariants.{Ok, Err}
+use Rattle.http_bodies.specs.Bodies.{never_failing}
+use Rattle.handler_shapes.specs.declared.slot.Slot.{Slot}
+use Rattle.api_extract.specs.Answers.{IsGiven}
+use Rattle.api_extract.specs.Denotes.{GivenArgs, args_by, terms}
+use Rattle.api_extract.specs.Extraction.{extracted, plainly_told, takes_stream}
+use Rattle.api_extract.proofs.Comes.{comes_fit}
+use Rattle.api_extract.proofs.Contents.{nothing_came}
+use Rattle.api_extract.proofs.Joined.{IsAnsweredBehind, all_come, front_comes, front_early, front_no_fault, given_early}
+use Rattle.api_extract.proofs.Joined.{given_in_front, told_in_front}
+use Rattle.api_extract.proofs.Joined.{last_asked, last_came, last_early, last_fault, last_unasked, no_stream}
+use Rattle.api_extract.proofs.sources.extract_from.Goals as goal
+
+-- a slot before the body gives an error
+pub returns-in_err-args : goal.returns-in_err-args
+returns-in_err-args g c =
+    let table = c.args.table.now in
+    let request = c.args.request.now in
+    let slots = c.args.slots.now in
+    let front = c.without_body.result.0.now in
+    let result = c.from_residual.result in
+    let p = err_from_is_err_and c.from_residual.result c.from_residual.ensures.1 in
+    let is : result ≡ Err c.in_err-args.field-0.0 = rw (p.1, p.2) refl in
+    let given : IsGiven result (args_by (plainly_told table request) front)
+    = subst (λ (r : GivenArgs). IsGiven r (args_by (plainly_told table request) front))
+    (sym is) c.in_err-args.ensures in
+    let error = ap is_err is in
+    let told = told_in_front
+    (λ (slot : Bor Slot). slot.now) table request slots c.as_slice.result.now front c.without_body.result.1
+    c.as_slice.ensures
+    c.without_body.ensures.shared c.without_body.ensures.joined c.without_body.ensures.last result error given in
+    let all = terms table c.args.content_type c.args.limit c.args.budget in
+    let comes = front_comes table request slots result told c.args.content_type c.args.limit c.args.budget in
+    record {
+      came =
+          nothing_came c.args.budget (list_any takes_stream slots) (g.S.FrameSource.state c.args.source.now)
+          (extracted all slots request) result comes
+          (λ streams. IfOk-from_err result (λ _. ⊥) error);
+      fits =
+          comes_fit all slots request (never_failing []) result
+          (comes (never_failing [])) c.requires.served.definitions c.requires.served.each;
+      early = front_early table request slots result told;
+      untouched = λ other e. refl;
+      unasked = λ e. refl;
+      asked = λ e. front_no_fault table request slots result told e;
+      fault = λ e. front_no_fault table request slots result told e;
+      goes_on = record { later = omega arith; same = refl };
+    }
+
+-- the answer of the slot that takes the body is pushed behind the others
+pub returns-in-Some : goal.returns-in-Some
+returns-in-Some g c =
+    let table = c.args.table.now in
+    let request = c.args.request.now in
+    let slots = c.args.slots.now in
+    let slot = c.in-Some.slot.now in
+    let last = c.source_argument.result in
+    let result = c.pushed.result in
+    let behind : IsAnsweredBehind table request slots slot last result = record {
+      args = c.in_ok-args.args;
+      front =
+          given_in_front
+          (λ (slot : Bor Slot). slot.now) table request slots c.as_slice.result.now c.without_body.result.0.now
+          c.without_body.result.1 c.as_slice.ensures
+          c.without_body.ensures.shared c.without_body.ensures.joined c.without_body.ensures.last c.in_ok-args.args
+          (Some c.in-Some.slot) c.in-Some.is c.in_ok-args.ensures;
+      pushed = c.pushed.ensures;
+    } in
+    let all = terms table c.args.content_type c.args.limit c.args.budget in
+    let came = last_came table request slots slot last result behind c.args.content_type c.args.limit c.args.budget
+    (g.S.FrameSource.state c.args.source.now)
+    (g.S.FrameSource.state c.source_argument.new.source) c.source_argument.ensures.came in
+    record {
+      came = came;
+      fits =
+          comes_fit all slots request came.body result came.answer c.requires.served.definitions c.requires.served.each;
+      early = λ other e. last_early table request slots slot last result behind other e;
+      untouched = λ other e. last_early table request slots slot last result behind other e;
+      unasked = λ e. last_unasked table request slots slot last result behind e;
+      asked = last_asked table request slots slot last result behind c.source_argument.ensures.asked;
+      fault = last_fault table request slots slot last result behind c.source_argument.ensures.fault;
+      goes_on = c.source_argument.ensures.goes_on;
+    }
+
+-- no slot takes the body
+pub returns-in-None : goal.returns-in-None
+returns-in-None g c =
+    let table = c.args.table.now in
+    let request = c.args.request.now in
+    let slots = c.args.slots.now in
+    let args = c.in_ok-args.args in
+    let front = given_in_front
+    (λ (slot : Bor Slot). slot.now) table request slots c.as_slice.result.now c.without_body.result.0.now
+    c.without_body.result.1 c.as_slice.ensures
+    c.without_body.ensures.shared c.without_body.ensures.joined c.without_body.ensures.last args None c.in-None.is
+    c.in_ok-args.ensures in
+    let all = terms table c.args.content_type c.args.limit c.args.budget in
+    let comes = all_come table request slots args front c.args.content_type c.args.limit c.args.budget in
+    record {
+      came =
+          nothing_came c.args.budget (list_any takes_stream slots) (g.S.FrameSource.state c.args.source.now)
+          (extracted all slots request) (Ok args) comes
+          (λ streams. no_stream table request slots args front streams);
+      fits =
+          comes_fit all slots request (never_failing []) (Ok args)
+          (comes (never_failing [])) c.requires.served.definitions c.requires.served.each;
+      early = λ other e. given_early table request slots [] args front other e;
+      untouched = λ other e. refl;
+      unasked = λ e. refl;
+      asked = λ e. absurd (cc e);
+      fault = λ e. absurd (cc e);
+      goes_on = record { later = omega arith; same = refl };
+    }

@@ -1,0 +1,53 @@
+//! What follows from the definitions. The functions do nothing: their clauses are for proofs.
+ghost use Rattle.std.specs.Prelude.{◌≡◌, ◌↔◌, ◌≤◌, ℕ, List, Ok, Some, length};
+ghost use Rattle.http_bodies.specs.Bodies.{BodyState, frames_of};
+ghost use Rattle.http_bodies.specs.Frames.{all_data};
+ghost use Rattle.schema_values.specs.declared.json_value.Json.{Json as JsonValue};
+ghost use Rattle.schema_values.specs.Reading.{Reads};
+ghost use Rattle.request_words.specs.declared.request.WireRequest.{WireRequest as Sent};
+ghost use Rattle.request_parts.specs.Requests.{Request};
+ghost use Rattle.request_parts.specs.Wire.{wire_of};
+ghost use Rattle.typed_values.specs.Checks.{TablePasses};
+ghost use Rattle.descriptors.specs.declared.desc.Desc.{Desc as Descriptor};
+ghost use Rattle.descriptors.specs.declared.table.Definition.{Definition as Entry};
+ghost use Rattle.descriptors.specs.declared.tree.Tree.{Tree as Value};
+ghost use Rattle.handler_shapes.specs.declared.arguments.Arg.{Arg as Argument};
+ghost use Rattle.handler_shapes.specs.declared.slot.Slot.{Slot as Taken};
+ghost use Rattle.handler_shapes.specs.Arguments.{ArgsFit};
+ghost use Rattle.handler_shapes.specs.ShapeChecks.{SlotsPass};
+ghost use Rattle.page_tokens.specs.Forms.{v1};
+ghost use Rattle.page_tokens.specs.Tokens.{TokenReads};
+ghost use Rattle.api_extract.specs.Denotes.{Denotes, Terms, args_told};
+ghost use Rattle.api_extract.specs.Extraction.{extracted};
+ghost use Rattle.api_extract.specs.PageQueries.{bytes_told};
+ghost use Rattle.api_extract.specs.Readings.{value_read};
+
+/// The arguments that a request denotes are of the slots.
+pub fn denoted_arguments_fit()
+    ensures { (terms : Terms) (slots : List Taken) (request : Sent) (body : BodyState)
+        (args : List Argument) → TablePasses terms.table → SlotsPass terms.table slots
+        → Denotes terms slots request body args → ArgsFit terms.table slots args }
+{}
+
+/// A request whose body is within the budget of frames and the limit gives what it denotes, or its
+/// refusal.
+pub fn requests_within_limits_are_read()
+    ensures { (terms : Terms) (slots : List Taken) (request : Request) (body : BodyState)
+        → length (frames_of body) ≤ terms.budget
+        → length (all_data (frames_of body)) ≤ terms.limit
+        → extracted terms slots request body
+        ≡ args_told terms slots (wire_of request (all_data (frames_of body))) body }
+{}
+
+/// The value that bytes read as is the one that they are read as by `Reads`.
+pub fn values_are_read()
+    ensures { (bytes : List ℕ) (json : JsonValue)
+        → (value_read bytes ≡ Some json) ↔ Reads bytes json }
+{}
+
+/// The tree that the bytes of a token denote is the one that the token reads as.
+pub fn tokens_are_read()
+    ensures { (table : List Entry) (selector : Descriptor) (token : List ℕ) (tree : Value)
+        → (bytes_told table selector token ≡ Ok tree)
+        ↔ TokenReads v1 table selector token tree }
+{}

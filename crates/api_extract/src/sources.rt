@@ -1,0 +1,75 @@
+//! The same of a source of frames of one's own.
+ghost use Rattle.std.specs.Prelude.{◌≡◌, ◌⊎◌, ◌-◌, ◌^◌, ◌<◌, IfOk, IsErrOf, IsOk, IsTrue, false};
+ghost use Rattle.std.specs.List.{list_any};
+ghost use Rattle.http_bodies.specs.Sources.{GoesOn, HasFailed};
+ghost use Rattle.handler_shapes.specs.Arguments.{ArgsFit};
+ghost use Rattle.api_extract.specs.declared.extract_error.ExtractError.{ExtractError as Extract};
+ghost use Rattle.api_extract.specs.Denotes.{terms};
+ghost use Rattle.api_extract.specs.Extraction.{AreServed, ComesOf, extracted, shared_told};
+ghost use Rattle.api_extract.specs.Extraction.{reads_body, takes_body, takes_stream};
+
+use crate::bodies::{Reading, source_argument};
+use crate::extract_error::ExtractError;
+use crate::shared::shared_arguments;
+use crate::slots::{pushed, without_body};
+use handler_shapes::{ArgList, Slot};
+use http_bodies::FrameSource;
+use request_parts::{ApiEndpointBodyContentType, RequestParts};
+use schema_values::List;
+use std::alloc::Global;
+use typed_values::DescTable;
+
+/// The arguments that a request denotes whose body comes of a source, as `extract` gives them. A
+/// slot for a stream is given the frames of the source, gathered in memory: at most one more than
+/// the budget, with a call that failed at its place.
+pub fn extract_from<S: FrameSource>(
+    alloc: Global,
+    slots: &List<Slot>,
+    table: &DescTable,
+    request: &RequestParts,
+    content_type: ApiEndpointBodyContentType,
+    source: &mut S,
+    limit: u64,
+    budget: u64,
+) -> Result<ArgList, ExtractError>
+    requires served { AreServed table.now slots.now }
+    requires budget { budget < 2 ^ 64 - 1 }
+
+    // The answer is what the request and the frames that came call for, unless a call on the
+    // source failed or memory ran out.
+    ensures came { ComesOf budget (list_any takes_stream slots.now) (S.state source.old)
+        (S.state source.new) (extracted (terms table.now content_type limit budget) slots.now
+        request.now) result }
+    ensures fits { IfOk result (ArgsFit table.now slots.now) }
+
+    // Where a path, a query or headers denote nothing, it is that refusal, and the source stays.
+    ensures early { (error : Extract) → shared_told table.now slots.now request.now ≡ Err error
+        → (result ≡ Err error) ⊎ (result ≡ Err ExtractError.OutOfMemory) }
+    ensures untouched { (error : Extract) → shared_told table.now slots.now request.now ≡ Err error
+        → source.new ≡ source.old }
+    ensures unasked { list_any takes_body slots.now ≡ false → source.new ≡ source.old }
+
+    // A fault comes only where a body is read, behind slots that are given their arguments, and
+    // the count of faults rose.
+    ensures asked { IsErrOf result ExtractError.BodyFault
+        → IsTrue (list_any reads_body slots.now)
+        × IsOk (shared_told table.now slots.now request.now) }
+    ensures fault { IsErrOf result ExtractError.BodyFault
+        → HasFailed (S.state source.old) (S.state source.new) }
+    ensures goes_on { GoesOn (S.state source.old) (S.state source.new) }
+{
+    let (shared, last) = without_body(slots.as_slice());
+    let args = shared_arguments(alloc, table, request, shared)?;
+    let reading = Reading {
+        content_type,
+        limit,
+        budget,
+    };
+    match last {
+        Some(slot) => pushed(
+            args,
+            source_argument(alloc, table, request, reading, slot, source),
+        ),
+        None => Ok(args),
+    }
+}
