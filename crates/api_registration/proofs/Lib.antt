@@ -1,0 +1,11 @@
+pub mod Firsts
+pub mod FirstTold
+pub mod Configured
+pub mod Chains
+pub mod Resolving
+pub mod ByIndex
+pub mod ServedShapes
+pub mod ShapeIndex
+pub mod DefinitionClashes
+pub mod ParameterNames
+pub mod CallerLemmas

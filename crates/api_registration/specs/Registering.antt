@@ -1,0 +1,133 @@
+-- When an endpoint may be registered behind others, and the first cause why it may not.
+use Rattle.std.specs.Prelude.{◌≡◌, ⊤, ℕ, List, [], ◌∷◌, ◌++◌, All, Option, MatchOption, codes}
+use Rattle.std.specs.Fmt.{decimal}
+use Rattle.api_declarations.specs.Values.{DeclarationValue}
+use Rattle.tag_config.specs.Configurations.{Configuration}
+use Rattle.api_registration.specs.Clashes.{ServesSame, DefinesOtherwise}
+use Rattle.api_registration.specs.Codes.{HasErrorAsSuccess, LacksErrorType}
+use Rattle.api_registration.specs.Firsts.{IsFirstOf}
+use Rattle.api_registration.specs.Parameters.{Parameter, name_of, parameters}
+use Rattle.api_registration.specs.ParameterTypes.{MayBeAbsent, IsNoScalar, IsScalarOrRest, IsNoStringList}
+use Rattle.api_registration.specs.ParameterTypes.{IsInBoth, IsDoubled, IsNoHeaderName}
+use Rattle.api_registration.specs.Paths.{HasBadTemplate, template_reason, HasBadMethod, HasVisibleWildcard}
+use Rattle.api_registration.specs.Paths.{path_wildcard, HasPathMismatch, mismatch_message, unconsumed, unspecified}
+use Rattle.api_registration.specs.Slots.{HasEarlyBody, HasBadForm, HasReadBodies, HasBadPagination}
+use Rattle.api_registration.specs.Tags.{LacksTag, LacksOnlyTag, HasUnknownTag}
+use Rattle.api_registration.specs.Types.{HasUnsupportedSchema, IsSupported}
+use Rattle.api_registration.specs.declared.cause.RegisterCause.{RegisterCause}
+use Rattle.api_registration.specs.declared.cause.RegisterCause.TheVariants as cause
+use Rattle.api_registration.specs.declared.error.ApiDescriptionRegisterError.{ApiDescriptionRegisterError}
+
+-- the causes in the order in which they are looked for
+abbrev pub causes : List RegisterCause
+causes =
+    cause.AtLeastOneTag
+    ∷ cause.ExactlyOneTag
+    ∷ cause.InvalidTag
+    ∷ cause.BadTemplate
+    ∷ cause.BadMethod
+    ∷ cause.PathMismatch
+    ∷ cause.PathNotRequired
+    ∷ cause.NotScalar
+    ∷ cause.NotStringList
+    ∷ cause.QueryAndPath
+    ∷ cause.DoubledParameter
+    ∷ cause.BadHeaderName
+    ∷ cause.VisibleWildcard
+    ∷ cause.UnsupportedSchema
+    ∷ cause.TwoBodies
+    ∷ cause.BadBodyForm
+    ∷ cause.BadPagination
+    ∷ cause.BadSuccessCode
+    ∷ cause.NoErrorSchema
+    ∷ cause.PathClash
+    ∷ cause.DefinitionClash
+    ∷ []
+
+-- what was tried is told by a message, or by none where it is not so
+abbrev pub IsTried : (List ℕ → Type 0) → Option (List ℕ) → Type 0
+IsTried Tells told = MatchOption told ((message : List ℕ) → ¬ Tells message) Tells
+
+-- a fact holds, and is told by a text
+abbrev pub Says : Type 0 → List ℕ → List ℕ → Type 0
+Says Fact text message = Fact × (message ≡ text)
+
+-- the first parameter of which something holds is told by a text of its name
+abbrev pub SaysFirst : List Parameter → (Parameter → Type 0) → (List ℕ → List ℕ) → List ℕ → Type 0
+SaysFirst ps Holds text message = (p : Parameter) × IsFirstOf Holds ps p × (message ≡ text (name_of p))
+
+-- a name in quotation marks between two texts
+abbrev pub quoted : List ℕ → List ℕ → List ℕ → List ℕ
+quoted before after name = before ++ codes "'" ++ name ++ codes "'" ++ after
+
+-- Where a cause stands against an endpoint behind those before it, and how it is told: one row for each cause.
+abbrev pub Tells : Configuration → List DeclarationValue → DeclarationValue → RegisterCause → List ℕ → Type 0
+Tells tags before e cause.AtLeastOneTag = Says (LacksTag tags e) (codes "At least one tag is required")
+Tells tags before e cause.ExactlyOneTag = Says (LacksOnlyTag tags e) (codes "Exactly one tag is required")
+Tells tags before e cause.InvalidTag =
+    λ message. (tag : List ℕ) × HasUnknownTag tags e tag × (message ≡ codes "Invalid tag: " ++ tag)
+Tells tags before e cause.BadTemplate = Says (HasBadTemplate e) (quoted (template_reason e.path) [] e.path)
+Tells tags before e cause.BadMethod = Says (HasBadMethod e) (codes "unexpected method `" ++ e.method ++ codes "`")
+Tells tags before e cause.PathMismatch = Says (HasPathMismatch e) (mismatch_message (unconsumed e) (unspecified e))
+Tells tags before e cause.PathNotRequired = SaysFirst (parameters e.shape) MayBeAbsent
+    (quoted (codes "path parameter ") (codes " must be required"))
+Tells tags before e cause.NotScalar = SaysFirst (parameters e.shape) (IsNoScalar e.shape.table (path_wildcard e.path))
+    (quoted (codes "for endpoint " ++ e.operation_id ++ codes " the parameter ") (codes " must have a scalar type"))
+Tells tags before e cause.NotStringList =
+    SaysFirst (parameters e.shape) (IsNoStringList e.shape.table (path_wildcard e.path))
+    (quoted (codes "the parameter ") (codes " must be an array of strings"))
+Tells tags before e cause.QueryAndPath = SaysFirst (parameters e.shape) (IsInBoth (parameters e.shape))
+    (quoted (codes "the parameter ") (codes " is specified for both query and path parameters"))
+Tells tags before e cause.DoubledParameter = SaysFirst (parameters e.shape) (IsDoubled (parameters e.shape))
+    (quoted (codes "the parameter ") (codes " is specified twice"))
+Tells tags before e cause.BadHeaderName = SaysFirst (parameters e.shape) IsNoHeaderName
+    (quoted (codes "the header ") (codes " is not a header name"))
+Tells tags before e cause.VisibleWildcard =
+    Says (HasVisibleWildcard e) (quoted (codes "a visible endpoint has a wildcard path: ") [] e.path)
+Tells tags before e cause.UnsupportedSchema = Says (HasUnsupportedSchema e) (codes "unsupported schema")
+Tells tags before e cause.TwoBodies = Says (HasEarlyBody e) (codes "more than one body parameter")
+Tells tags before e cause.BadBodyForm = Says (HasBadForm e) (codes "unsupported body form")
+Tells tags before e cause.BadPagination = Says (HasBadPagination e) (codes "unsupported pagination form")
+Tells tags before e cause.BadSuccessCode =
+    λ message. (code : ℕ) × HasErrorAsSuccess e code
+    × (message ≡ codes "success code " ++ decimal code ++ codes " is an error code")
+Tells tags before e cause.NoErrorSchema = Says (LacksErrorType e) (codes "the error type has no schema")
+Tells tags before e cause.PathClash =
+    λ message. (other : DeclarationValue) × IsFirstOf (ServesSame e) before other
+    × (message ≡ codes "endpoint " ++ other.operation_id ++ codes " already serves " ++ e.method ++ codes " " ++ e.path)
+Tells tags before e cause.DefinitionClash =
+    λ message. (other : DeclarationValue) × (clash : IsFirstOf (DefinesOtherwise e) before other)
+    × (message ≡ quoted (codes "definition ") (codes " differs from that of endpoint " ++ other.operation_id)
+    clash.holds.definition.name)
+
+-- a cause stands against an endpoint behind those before it
+abbrev pub Stands : Configuration → List DeclarationValue → DeclarationValue → RegisterCause → Type 0
+Stands tags before e cause = (message : List ℕ) × Tells tags before e cause message
+
+-- What holds of an endpoint against which a cause does not stand, where the cause is that a fact does not hold: the
+-- fact itself. For the other causes nothing more is said.
+abbrev pub Clears : DeclarationValue → RegisterCause → Type 0
+Clears e cause.NotScalar = All (IsScalarOrRest e.shape.table (path_wildcard e.path)) (parameters e.shape)
+Clears e cause.UnsupportedSchema = IsSupported e.shape
+Clears e cause.BadBodyForm = HasReadBodies e
+Clears e _ = ⊤
+
+-- no cause stands against an endpoint behind those before it, and each fact holds for want of which one would stand
+pub record MayRegister (tags : Configuration) (before : List DeclarationValue) (e : DeclarationValue) : Type 0 where
+  pub none : (cause : RegisterCause) → ¬ Stands tags before e cause
+  pub clear : (cause : RegisterCause) → Clears e cause
+
+-- a cause is the first that stands, and is told by a message
+pub record IsFirstTold (tags : Configuration) (before : List DeclarationValue) (e : DeclarationValue) (cause : RegisterCause) (message : List ℕ) : Type 0 where
+  pub first : IsFirstOf (Stands tags before e) causes cause
+  pub is_told : Tells tags before e cause message
+
+-- an error tells the first cause that stands against an endpoint behind those before it
+pub record RefusedBy (tags : Configuration) (before : List DeclarationValue) (e : DeclarationValue) (error : ApiDescriptionRegisterError) : Type 0 where
+  pub told : IsFirstTold tags before e error.cause error.message
+  pub operation_id : error.operation_id ≡ e.operation_id
+
+-- each endpoint may be registered behind those before it
+abbrev pub AreAccepted : Configuration → List DeclarationValue → List DeclarationValue → Type 0
+AreAccepted tags before [] = ⊤
+AreAccepted tags before (e ∷ es) = MayRegister tags before e × AreAccepted tags (before ++ e ∷ []) es

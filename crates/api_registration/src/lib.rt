@@ -1,0 +1,24 @@
+//! When an endpoint may be registered behind others, and the first cause why it may not.
+#![tactic(auto)]
+
+mod cause;
+mod clashes;
+mod codes;
+mod error;
+mod first;
+mod index;
+mod names;
+mod parameter;
+mod parameter_causes;
+mod paths;
+mod refusals;
+mod resolved;
+mod slots;
+mod tags;
+mod told;
+mod types;
+
+pub use cause::RegisterCause;
+pub use error::{ApiDescriptionBuildErrors, ApiDescriptionRegisterError};
+pub use index::add_shape;
+pub use refusals::first_cause;
