@@ -3,3 +3,4 @@ pub mod Passing
 pub mod Trees
 pub mod Told
 pub mod ReadBack
+pub mod OneConfiguration

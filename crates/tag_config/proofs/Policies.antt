@@ -15,5 +15,6 @@ policy_each i less = name_each policy_names i less
 pub policy_one : (t : Tree) → FitsOne [] policy_desc t → (i : ℕ) × (s : Tree) × (t ≡ trees.Variant i s)
 policy_one t one = name_one policy_names t one
 
-pub policy_at : (t : Tree) (i : ℕ) (s : Tree) → FitsOne [] policy_desc t → t ≡ trees.Variant i s → (i < 3) × (t ≡ trees.Variant i trees.Unit)
+pub policy_at : (t : Tree) (i : ℕ) (s : Tree) → FitsOne [] policy_desc t → t ≡ trees.Variant i s
+    → (i < 3) × (t ≡ trees.Variant i trees.Unit)
 policy_at t i s one e = name_at policy_names t i s one e

@@ -4,7 +4,7 @@ use Rattle.descriptors.specs.declared.desc.Desc.TheVariants as descs
 use Rattle.descriptors.specs.declared.tree.Tree.{Tree}
 use Rattle.descriptors.specs.declared.tree.Tree.TheVariants as trees
 use Rattle.api_types.specs.Heads.{required}
-use Rattle.api_types.specs.Structs.{FieldsFitEach, FieldsFitOne, Part}
+use Rattle.api_types.specs.Structs.{FieldsFitOne, Part}
 use Rattle.api_types.specs.StructTypes.{field_with}
 use Rattle.api_types.specs.Types.{FitsEach, FitsOne}
 use Rattle.api_types.proofs.CallerLemmas.{struct_at, struct_each, struct_one}
@@ -27,12 +27,16 @@ trees_fit policy tags (a ∷ b ∷ []) fit = fit.1.1
 trees_fit policy tags (a ∷ b ∷ c ∷ []) fit = (fit.0, fit.1.0, fit.1.1.0)
 trees_fit policy tags (a ∷ b ∷ c ∷ d ∷ ts) fit = fit.1.1.1
 
-pub fields_one : (policy tags : List ℕ) (t : Tree) → FitsOne [] (configuration_desc policy tags) t → (ts : List Tree) × (t ≡ trees.Fields ts)
+pub fields_one : (policy tags : List ℕ) (t : Tree) → FitsOne [] (configuration_desc policy tags) t
+    → (ts : List Tree) × (t ≡ trees.Fields ts)
 fields_one policy tags t one = struct_one (parts policy tags) false t one
 
-pub fields_at : (policy tags : List ℕ) (t : Tree) (ts : List Tree) → FitsOne [] (configuration_desc policy tags) t → t ≡ trees.Fields ts → TreesFit ts
+pub fields_at : (policy tags : List ℕ) (t : Tree) (ts : List Tree) → FitsOne [] (configuration_desc policy tags) t
+    → t ≡ trees.Fields ts → TreesFit ts
 fields_at policy tags t ts one e = trees_fit policy tags ts (struct_at (parts policy tags) false t ts one e)
 
-pub configuration_each : (policy tags : List ℕ) (a b c : Tree) → FitsEach [] descs.Bool a → FitsEach [] policy_desc b → FitsEach [] (descs.Map details_desc) c
+pub configuration_each : (policy tags : List ℕ) (a b c : Tree) → FitsEach [] descs.Bool a → FitsEach [] policy_desc b
+    → FitsEach [] (descs.Map details_desc) c
     → FitsEach [] (configuration_desc policy tags) (trees.Fields (a ∷ b ∷ c ∷ []))
-configuration_each policy tags a b c first second third = struct_each (parts policy tags) false (a ∷ b ∷ c ∷ []) (first, (second, (third, tt)))
+configuration_each policy tags a b c first second third =
+    struct_each (parts policy tags) false (a ∷ b ∷ c ∷ []) (first, (second, (third, tt)))

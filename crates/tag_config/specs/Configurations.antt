@@ -1,15 +1,15 @@
 -- Configurations of tags, and the JSON that denotes them.
-use Rattle.std.specs.Prelude.{◌≡◌, ◌&&◌, ℕ, Bool, true, false, List, [], ◌∷◌, Option, Some, None, Result, Ok, Err, codes, if◌then◌else◌, is_some, map}
+use Rattle.std.specs.Prelude.{◌≡◌, ◌&&◌, ℕ, Bool, false, List, [], ◌∷◌, Ok, codes, if◌then◌else◌, is_some, map}
 use Rattle.schema_values.specs.Get.{get_of}
 use Rattle.schema_values.specs.declared.json_value.Json.{Json}
 use Rattle.descriptors.specs.declared.desc.Desc.{Desc}
 use Rattle.descriptors.specs.declared.desc.Desc.TheVariants as descs
 use Rattle.descriptors.specs.declared.tree.Tree.{Tree}
 use Rattle.descriptors.specs.declared.tree.Tree.TheVariants as trees
-use Rattle.typed_values.specs.Denotes.{Told, told}
+use Rattle.typed_values.specs.Denotes.{Told, below, refused, told}
 use Rattle.typed_values.specs.Encoding.{json_of_tree}
-use Rattle.typed_values.specs.Faults.{at_root}
 use Rattle.typed_values.specs.declared.fault.FaultKind.TheVariants.{Doubled}
+use Rattle.typed_values.specs.declared.fault.Place.TheVariants.{Name}
 use Rattle.api_types.specs.Heads.{required}
 use Rattle.api_types.specs.Maps.{pair_of}
 use Rattle.api_types.specs.StructTypes.{field_with}
@@ -19,7 +19,8 @@ use Rattle.tag_config.specs.Policies.{policy_desc, policy_tree}
 use Rattle.tag_config.specs.declared.details.TagDetails.{TagDetails}
 use Rattle.tag_config.specs.declared.policy.EndpointTagPolicy.{EndpointTagPolicy}
 
--- whether endpoints may have other tags than those given, how many they have, and the tags with their details, in the order of their names
+-- whether endpoints may have other tags than those given, how many they have, and the tags with their details, in the
+-- order of their names
 pub record Configuration : Type 0 where
   pub allow_other_tags : Bool
   pub policy : EndpointTagPolicy
@@ -66,11 +67,15 @@ configuration_tree config = trees.Fields
     ∷ trees.Map (map (pair_of details_tree) config.tags)
     ∷ [])
 
--- A field that stands by both names is a fault, which is told first, by its new name. Else the names that stand count.
+-- the fault of a field that stands by both names: it stands at the new one
+abbrev pub doubled_told : Names → Told
+doubled_told names = below (Name names.new) (refused (Doubled names.new))
+
+-- A field that stands by both names is a fault, which is told first. Else the names that stand count.
 abbrev pub configuration_told : Json → Told
 configuration_told json =
-    if is_doubled policy_field json then Err (at_root (Doubled policy_field.new))
-    else if is_doubled tags_field json then Err (at_root (Doubled tags_field.new))
+    if is_doubled policy_field json then doubled_told policy_field
+    else if is_doubled tags_field json then doubled_told tags_field
     else let desc = configuration_desc (name_by policy_field json) (name_by tags_field json) in told [] desc json desc
 
 -- JSON denotes a configuration
@@ -79,7 +84,8 @@ DenotesConfiguration json config = configuration_told json ≡ Ok (configuration
 
 -- a configuration as JSON, under the new names
 abbrev pub configuration_json : Configuration → Json
-configuration_json config = json_of_tree [] (configuration_desc policy_field.new tags_field.new) (configuration_tree config)
+configuration_json config =
+    json_of_tree [] (configuration_desc policy_field.new tags_field.new) (configuration_tree config)
 
 -- the trees of the three fields fit
 abbrev pub TreesFit : List Tree → Type 0

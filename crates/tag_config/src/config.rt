@@ -8,8 +8,8 @@ use std::alloc::{AllocError, Global};
 use std::collections::BTreeMap;
 use std::marker::Model;
 
-/// Which tags endpoints may have, and what documents say of these. Contracts see the tags as a list,
-/// in the order of their names.
+/// Which tags endpoints may have, and what documents say of these. Contracts see the tags as a
+/// list, in the order of their names.
 #[derive(Drop)]
 pub struct TagConfig {
     /// Whether endpoints may have other tags than these.

@@ -1,38 +1,36 @@
 //! Configurations from JSON.
-ghost use Rattle.std.specs.Prelude.{◌≡◌, ◌∷◌, [], IfErr, IfOk, IsTrue};
+ghost use Rattle.std.specs.Prelude.{◌≡◌, [], IfErr, IfOk, IsTrue};
 ghost use Rattle.schema_values.specs.Ascii.{all_ascii};
 ghost use Rattle.schema_values.specs.Sound.{IsSound};
 ghost use Rattle.descriptors.specs.declared.desc.Desc.TheVariants as descs;
 ghost use Rattle.descriptors.specs.declared.tree.Tree.TheVariants as trees;
 ghost use Rattle.typed_values.specs.Answer.{IfFault, IsFaultOf};
 ghost use Rattle.typed_values.specs.Checks.{DescPasses};
-ghost use Rattle.typed_values.specs.Denotes.{JsonDenotes, told};
+ghost use Rattle.typed_values.specs.Denotes.{JsonDenotes, below, refused, told};
 ghost use Rattle.typed_values.specs.Fits.{Fits};
-ghost use Rattle.typed_values.specs.Faults.{at_root, fault_of};
 ghost use Rattle.typed_values.specs.declared.fault.FaultKind.TheVariants as kinds;
+ghost use Rattle.typed_values.specs.declared.fault.Place.TheVariants as places;
 ghost use Rattle.api_types.specs.Heads.{required};
 ghost use Rattle.api_types.specs.StructTypes.{field_with};
 ghost use Rattle.tag_config.specs.Configurations.{Configuration, DenotesConfiguration};
-ghost use Rattle.tag_config.specs.Configurations.{IsConfigurationTree, TreesFit, configuration_desc};
-ghost use Rattle.tag_config.specs.Configurations.{configuration_told, configuration_tree};
-ghost use Rattle.tag_config.specs.Configurations.{is_doubled, name_by, stands};
+ghost use Rattle.tag_config.specs.Configurations.{IsConfigurationTree, TreesFit};
+ghost use Rattle.tag_config.specs.Configurations.{configuration_desc, configuration_told};
+ghost use Rattle.tag_config.specs.Configurations.{configuration_tree, is_doubled, name_by, stands};
 ghost use Rattle.tag_config.specs.Details.{details_desc};
 
 use crate::config::TagConfig;
 use crate::details::TagDetails;
 use crate::policy::EndpointTagPolicy;
 use api_types::ApiType;
-use schema_values::{Boxed, Json, List, Text};
+use schema_values::{Json, List, Text};
 use std::alloc::{AllocError, Global};
 use std::collections::BTreeMap;
-use typed_values::{
-    DecodeError, Desc, DescTable, Fault, FaultKind, Field, Presence, Tree, decode_json,
-};
+use typed_values::{DecodeError, Desc, DescTable, Field, Presence, Stop, Tree, decode_json};
 
 impl TagConfig {
-    /// The configuration that sound JSON denotes: an object with `allow_other_tags`, `policy` (or, by its
-    /// old name, `endpoint_tag_policy`) and `tags` (or `tag_definitions`). A field under both of its names
-    /// is a fault. Where no configuration is denoted, the first fault is told.
+    /// The configuration that sound JSON denotes: an object with `allow_other_tags`, `policy` (or,
+    /// by its old name, `endpoint_tag_policy`) and `tags` (or `tag_definitions`). A field under
+    /// both of its names is a fault. Where no configuration is denoted, the first fault is told.
     pub fn from_json(alloc: Global, json: &Json) -> Result<TagConfig, DecodeError>
         requires { IsSound json.now }
         ensures denotes { IfOk result (DenotesConfiguration json.now) }
@@ -65,10 +63,8 @@ fn decoded(alloc: Global, policy: &str, tags: &str, json: &Json) -> Result<TagCo
         (told [] (configuration_desc policy.now tags.now) json.now
         (configuration_desc policy.now tags.now)))) }
 {
-    match tree_of(alloc, policy, tags, json) {
-        Ok(tree) => Ok(configuration_of(alloc, &tree)?),
-        Err(error) => Err(error),
-    }
+    let tree = tree_of(alloc, policy, tags, json)?;
+    Ok(configuration_of(alloc, &tree)?)
 }
 
 // The tree of an object whose two fields are named so.
@@ -112,22 +108,18 @@ fn stands(json: &Json, name: &str) -> bool
     requires { IsTrue (all_ascii name.now) }
     ensures { result ≡ stands name.now json.now }
 {
-    match json.get(name) {
-        Some(_value) => true,
-        None => false,
-    }
+    json.get(name).is_some()
 }
 
-// The fault of a field that stands by both of its names.
-fn doubled(alloc: Global, name: &str) -> Result<DecodeError, AllocError>
-    requires { IsTrue (all_ascii name.now) }
-    ensures { IfOk result (λ error. IfFault error
-        (λ fault. fault ≡ fault_of (at_root (kinds.Doubled name.now)))) }
+// The fault of a field that stands by both of its names, at the new one.
+fn doubled(alloc: Global, new: &str) -> Result<DecodeError, AllocError>
+    requires { IsTrue (all_ascii new.now) }
+    ensures { IfOk result (λ error. IfFault error (IsFaultOf
+        (below (places.Name new.now) (refused (kinds.Doubled new.now))))) }
 {
-    Ok(DecodeError::Fault(Fault {
-        path: Text::from_ascii(alloc, ".")?,
-        kind: FaultKind::Doubled(Text::from_ascii(alloc, name)?),
-    }))
+    let name = Text::from_ascii(alloc, new)?;
+    let stop = Stop::doubled(alloc, &name).below_name(alloc, &name);
+    Ok(stop.into_error(alloc))
 }
 
 // The descriptor of configurations whose two fields are named so.

@@ -3,8 +3,8 @@ ghost use Rattle.std.specs.Prelude.{◌≡◌, [], IfOk};
 ghost use Rattle.schema_values.specs.Sound.{IsSound};
 ghost use Rattle.api_types.specs.Types.{FitsEach};
 ghost use Rattle.tag_config.specs.Configurations.{DenotesConfiguration, configuration_desc};
-ghost use Rattle.tag_config.specs.Configurations.{configuration_json, configuration_tree, policy_field};
-ghost use Rattle.tag_config.specs.Configurations.{tags_field};
+ghost use Rattle.tag_config.specs.Configurations.{configuration_json, configuration_tree};
+ghost use Rattle.tag_config.specs.Configurations.{policy_field, tags_field};
 
 use crate::config::TagConfig;
 use crate::from_json::configuration_desc;
