@@ -1,6 +1,8 @@
 -- The segments that a path is a template of, if it is one. All lists are of characters.
-use Rattle.std.specs.Prelude.{◌==◌, ℕ, List, [], ◌∷◌, Option, Some, None, bytes_eq, codes, drop, find, if◌then◌else◌, length, option_and_then, option_map, take, take_while, unwrap_or}
-use Rattle.path_templates.specs.Templates.{are_arranged, continues_name, is_literal, is_variable_name, is_wildcard, name_in, names_of, opening, slash, trimmed}
+use Rattle.std.specs.Prelude.{◌==◌, ℕ, List, [], ◌∷◌, Option, Some, None, bytes_eq, codes, drop, find, if◌then◌else◌}
+use Rattle.std.specs.Prelude.{length, option_and_then, option_map, take, take_while, unwrap_or}
+use Rattle.path_templates.specs.Templates.{are_arranged, continues_name, is_literal, is_variable_name, is_wildcard}
+use Rattle.path_templates.specs.Templates.{name_in, names_of, opening, slash, trimmed}
 use Rattle.path_templates.specs.declared.segment.PathSegment.{PathSegment}
 use Rattle.path_templates.specs.declared.segment.PathSegment.TheVariants.{Literal, VarnameSegment, VarnameWildcard}
 

@@ -1,5 +1,5 @@
 -- Shapes of templates: two templates have one shape where they are equal after each variable is replaced by one sign.
-use Rattle.std.specs.Prelude.{◌≡◌, ℕ, List, [], Option, map, option_map}
+use Rattle.std.specs.Prelude.{ℕ, List, [], Option, map, option_map}
 use Rattle.path_templates.specs.Segments.{segments_of}
 use Rattle.path_templates.specs.Templates.{template_text}
 use Rattle.path_templates.specs.declared.segment.PathSegment.{PathSegment}
@@ -18,10 +18,6 @@ nameless (VarnameWildcard name) = sign
 -- the text of a template, where each variable is replaced by the sign
 abbrev pub shape_of : List PathSegment → List ℕ
 shape_of segments = template_text (map nameless segments)
-
--- two templates have one shape
-abbrev pub HaveOneShape : List PathSegment → List PathSegment → Type 0
-HaveOneShape segments others = shape_of segments ≡ shape_of others
 
 -- the shape of a path, if it is a template
 abbrev pub path_shape : List ℕ → Option (List ℕ)

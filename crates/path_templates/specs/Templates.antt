@@ -1,6 +1,7 @@
 -- Templates of paths: a slash alone, or segments that each stand behind a slash (OpenAPI 3.0.3, Paths Object and
 -- "Path Templating"). Wildcards are of this library. All lists are of characters.
-use Rattle.std.specs.Prelude.{◌≡◌, ◌==◌, ◌++◌, ℕ, Bool, true, false, not, ◌&&◌, ◌||◌, nat_le, List, [], ◌∷◌, Option, Some, None, bytes_eq, codes, if◌then◌else◌}
+use Rattle.std.specs.Prelude.{◌≡◌, ◌==◌, ◌++◌, ℕ, Bool, true, false, not, ◌&&◌, ◌||◌, nat_le, List, [], ◌∷◌, Option}
+use Rattle.std.specs.Prelude.{Some, None, bytes_eq, codes, if◌then◌else◌}
 use Rattle.std.specs.List.{filter_map, list_all}
 use Rattle.std.specs.Option.{option_map_or}
 use Rattle.schema_values.specs.SoundTest.{are_distinct}
@@ -103,11 +104,15 @@ is_wildcard_last (s ∷ t ∷ ss) = not (is_wildcard s) && is_wildcard_last (t �
 abbrev pub are_arranged : List PathSegment → Bool
 are_arranged ss = is_wildcard_last ss && are_distinct (names_of ss)
 
--- the segments of a template
-abbrev pub are_segments : List PathSegment → Bool
-are_segments ss = list_all is_segment ss && are_arranged ss
-
--- A path is the template of these segments: it is their text, but for one slash at its end.
+-- A path is the template of these segments: each is one, a wildcard is the last, no two variables have one name, and
+-- the path is their text, but for one slash at its end.
 pub record IsTemplateOf (path : List ℕ) (segments : List PathSegment) : Type 0 where
-  pub right : are_segments segments ≡ true
+  pub each : list_all is_segment segments ≡ true
+  pub last : is_wildcard_last segments ≡ true
+  pub distinct : are_distinct (names_of segments) ≡ true
   pub spelled : trimmed path ≡ template_text segments
+
+-- A path is read as these segments: it is their template, and where it is read as none, it is the template of none.
+abbrev pub IsReadAs : List ℕ → Option (List PathSegment) → Type 0
+IsReadAs path None = (segments : List PathSegment) → ¬ IsTemplateOf path segments
+IsReadAs path (Some segments) = IsTemplateOf path segments

@@ -1,5 +1,5 @@
 //! Segments of templates.
-ghost use Rattle.std.specs.Prelude.{◌≡◌, ◌++◌, IfOk, OnOk, OnErr, option_map};
+ghost use Rattle.std.specs.Prelude.{◌≡◌, ◌++◌, IfOk, OnOk, option_map};
 ghost use Rattle.path_templates.specs.Shapes.{nameless};
 ghost use Rattle.path_templates.specs.Templates.{has_name, is_wildcard, name_in, segment_text};
 
@@ -9,7 +9,8 @@ use std::alloc::{AllocError, Global};
 /// A segment of a template: what stands behind one of its slashes.
 #[derive(Drop)]
 pub enum PathSegment {
-    /// A text that stands in the path as it is. It is not empty and has no brace.
+    /// A text that stands in the path as it is. `Template::parse` gives none that is empty or has a
+    /// slash or a brace.
     Literal(Text),
     /// A variable of this name, which stands for one component of a path.
     VarnameSegment(Text),

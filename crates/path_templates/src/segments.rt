@@ -1,18 +1,19 @@
 //! Segments of paths, read piece by piece.
-ghost use Rattle.std.specs.Prelude.{◌≡◌, ◌==◌, ◌&&◌, ◌∷◌, ◌<◌, IfOk, IfSome, length, not};
+ghost use Rattle.std.specs.Prelude.{◌≡◌, ◌==◌, ◌&&◌, ◌∷◌, ◌<◌, IfOk, IfSome, length};
 ghost use Rattle.std.specs.Prelude.{position};
-ghost use Rattle.std.specs.List.{list_all, list_any};
+ghost use Rattle.std.specs.List.{list_any};
 ghost use Rattle.std.specs.Option.{option_copied};
 ghost use Rattle.schema_values.specs.SoundTest.{are_distinct};
 ghost use Rattle.path_templates.specs.Segments.{closed_by, if_arranged, literal_of, pieces};
 ghost use Rattle.path_templates.specs.Segments.{pieces_left, segment_of, segments_behind};
 ghost use Rattle.path_templates.specs.Segments.{segments_in, segments_trimmed, variable_of};
-ghost use Rattle.path_templates.specs.Templates.{are_arranged, has_name, is_wildcard};
+ghost use Rattle.path_templates.specs.Templates.{are_arranged, is_wildcard};
 ghost use Rattle.path_templates.specs.Templates.{is_wildcard_last, names_of, slash};
 
 use crate::characters::{is_literal, is_variable_name, name_length, text_of};
 use crate::segment::PathSegment;
-use schema_values::{List, Text};
+use crate::variables::is_named;
+use schema_values::List;
 use std::alloc::{AllocError, Global};
 
 // The segments of a path without a slash at its end, if it is a template.
@@ -192,14 +193,7 @@ fn is_new(segment: &PathSegment, others: &[PathSegment]) -> bool
         ≡ (result && are_distinct (names_of others.now)) }
 {
     match segment.variable_name() {
-        Some(name) => lack_name(others, name),
+        Some(name) => !is_named(others, name),
         None => true,
     }
-}
-
-// Whether no segment is a variable of this name.
-fn lack_name(segments: &[PathSegment], name: &Text) -> bool
-    ensures { result ≡ list_all (λ segment. not (has_name name.now segment)) segments.now }
-{
-    segments.iter().all(|segment| !segment.has_name(name))
 }

@@ -4,7 +4,8 @@ ghost use Rattle.std.specs.Prelude.{option_map};
 ghost use Rattle.std.specs.Str.{chars};
 ghost use Rattle.path_templates.specs.Segments.{segments_of, wildcard_of};
 ghost use Rattle.path_templates.specs.Shapes.{nameless, shape_of};
-ghost use Rattle.path_templates.specs.Templates.{behind_slashes, is_wildcard, names_of, trimmed};
+ghost use Rattle.path_templates.specs.Templates.{IsReadAs, behind_slashes, is_wildcard};
+ghost use Rattle.path_templates.specs.Templates.{names_of, trimmed};
 ghost use Rattle.path_templates.specs.Variables.{VariablesMatch};
 
 use crate::characters::characters;
@@ -48,9 +49,9 @@ fn same_text(text: &str, other: &str) -> bool
     text == other
 }
 
-/// The template of a path: a slash alone, or segments that each stand behind a slash. A segment is a
-/// literal, a variable `{name}`, or as the last one a wildcard `{name:.*}`. Contracts see the list of
-/// its segments.
+/// The template of a path: a slash alone, or segments that each stand behind a slash. A segment is
+/// a literal, a variable `{name}`, or as the last one a wildcard `{name:.*}`. Contracts see the
+/// list of its segments.
 #[derive(Drop)]
 pub struct Template {
     segments: List<PathSegment>,
@@ -66,10 +67,11 @@ impl Model for Template {
 }
 
 impl Template {
-    /// The template of a path, where one slash at its end is dropped. `None` exactly where the path is
-    /// no template.
+    /// The template of a path, where one slash at its end is dropped. `None` exactly where the path
+    /// is no template.
     pub fn parse(alloc: Global, path: &Text) -> Result<Option<Template>, AllocError>
-        ensures { IfOk result (λ found. found ≡ segments_of path.now) }
+        ensures segments { IfOk result (λ found. found ≡ segments_of path.now) }
+        ensures spelled { IfOk result (IsReadAs path.now) }
     {
         let characters = characters(alloc, without_trailing_slash(path))?;
         match segments_trimmed(alloc, characters.as_slice())? {
@@ -85,7 +87,7 @@ impl Template {
         self.segments.as_slice()
     }
 
-    /// The names of the variables, in order. No two are one.
+    /// The names of the variables, in order.
     pub fn variable_names(&self, alloc: Global) -> Result<List<Text>, AllocError>
         ensures { IfOk result (λ names. names ≡ names_of self.now) }
     {
@@ -121,8 +123,8 @@ impl Template {
         Ok(shape)
     }
 
-    /// Whether the variables of a request are those of the template: exactly its names, one text for a
-    /// variable, and components for a wildcard.
+    /// Whether the variables of a request are those of the template: exactly its names, one text
+    /// for a variable, and components for a wildcard.
     pub fn variables_match(&self, variables: &VariableSet) -> bool
         ensures { IsTrue result ↔ VariablesMatch self.now variables.now.entries }
     {
@@ -141,7 +143,8 @@ impl Template {
     }
 }
 
-// Puts the texts of segments at the end of another, each behind a slash, with a sign in place of a variable.
+// Puts the texts of segments at the end of another, each behind a slash, with a sign in place of a
+// variable.
 fn push_shape(segments: &[PathSegment], shape: &mut Text) -> Result<(), AllocError>
     ensures { OnOk result
         (shape.new ≡ shape.old ++ behind_slashes (map nameless segments.now)) }
@@ -157,10 +160,5 @@ fn push_shape(segments: &[PathSegment], shape: &mut Text) -> Result<(), AllocErr
 fn first_wildcard(segments: &[PathSegment]) -> Option<&PathSegment>
     ensures { option_map (λ segment. segment.now) result ≡ find is_wildcard segments.now }
 {
-    for segment in segments {
-        if segment.is_wildcard() {
-            return Some(segment);
-        }
-    }
-    None
+    segments.iter().find(|segment| segment.is_wildcard())
 }

@@ -47,7 +47,8 @@ fn are_components(value: Option<&VariableValue>) -> bool
 
 // Whether each variable is one of the segments'.
 pub(crate) fn all_named(segments: &[PathSegment], variables: &VariableSet) -> bool
-    ensures { result ≡ list_all (λ variable. is_named segments.now variable.0) variables.now.entries }
+    ensures { result
+        ≡ list_all (λ variable. is_named segments.now variable.0) variables.now.entries }
 {
     for (name, _value) in variables.iter() {
         if !is_named(segments, name) {
@@ -58,7 +59,7 @@ pub(crate) fn all_named(segments: &[PathSegment], variables: &VariableSet) -> bo
 }
 
 // Whether a variable of the segments has a name.
-fn is_named(segments: &[PathSegment], name: &Text) -> bool
+pub(crate) fn is_named(segments: &[PathSegment], name: &Text) -> bool
     ensures { result ≡ is_named segments.now name.now }
 {
     segments.iter().any(|segment| segment.has_name(name))
