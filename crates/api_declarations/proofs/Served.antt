@@ -1,5 +1,5 @@
 -- The test for an endpoint that serves a request decides whether it does, and such an endpoint has the template as key.
-use Rattle.std.specs.Prelude.{◌≡◌, ◌↔◌, ◌&&◌, ℕ, true, List, IsTrue, bytes_eq}
+use Rattle.std.specs.Prelude.{◌≡◌, ◌↔◌, ℕ, true, List, IsTrue, bytes_eq}
 use Rattle.std.proofs.Common.{refl}
 use Rattle.std.specs.List.{list_any}
 use Rattle.std.proofs.lemmas.Bool.{and_from, and_parts}
@@ -15,7 +15,7 @@ module _ (version : Parts) (method template : List ℕ) (d : DeclarationValue) w
   pub served : IsTrue (serves version method template d) ↔ Serves version method template d
   served = (
     λ e.
-        let both = and_parts (bytes_eq d.method method) (bytes_eq (trimmed d.path) (trimmed template) && holds d.versions version) e in
+        let both = and_parts (bytes_eq d.method method) _ e in
         let rest = and_parts (bytes_eq (trimmed d.path) (trimmed template)) (holds d.versions version) both.1 in
         record {
           by_method = (bytes_eq-Decides d.method method).0 both.0;
@@ -24,11 +24,13 @@ module _ (version : Parts) (method template : List ℕ) (d : DeclarationValue) w
         },
     λ s.
         and_from _ _ ((bytes_eq-Decides d.method method).1 s.by_method)
-        (and_from _ _ ((bytes_eq-Decides (trimmed d.path) (trimmed template)).1 s.by_template) ((held d.versions version).1 s.at_version)),
+        (and_from _ _ ((bytes_eq-Decides (trimmed d.path) (trimmed template)).1 s.by_template)
+        ((held d.versions version).1 s.at_version)),
   )
 
   -- what serves a template has it as key
-  pub keyed : serves version method template d ≡ true → list_any (λ key. bytes_eq key (trimmed template)) (template_keys d) ≡ true
+  pub keyed : serves version method template d ≡ true
+      → list_any (λ key. bytes_eq key (trimmed template)) (template_keys d) ≡ true
   keyed e =
-      let both = and_parts (bytes_eq d.method method) (bytes_eq (trimmed d.path) (trimmed template) && holds d.versions version) e in
+      let both = and_parts (bytes_eq d.method method) _ e in
       rw (and_parts (bytes_eq (trimmed d.path) (trimmed template)) (holds d.versions version) both.1).0 refl

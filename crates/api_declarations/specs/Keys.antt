@@ -18,5 +18,6 @@ abbrev pub shape_keys : DeclarationValue → List (List ℕ)
 shape_keys d = key_if (path_shape d.path)
 
 -- the keys of each of some things, by their declarations
-abbrev pub keys_by : {A : Type 0} → (DeclarationValue → List (List ℕ)) → (A → DeclarationValue) → List A → List (List (List ℕ))
+abbrev pub keys_by : {A : Type 0} → (DeclarationValue → List (List ℕ)) → (A → DeclarationValue) → List A
+    → List (List (List ℕ))
 keys_by keys declared = map (λ e. keys (declared e))

@@ -64,16 +64,16 @@ fn found_at<'s, E: Declared>(
         endpoints.now places.now }
 {
     for place in places {
-        match serving_at(endpoints, *place, version, method, template) {
-            Some(endpoint) => return Some(endpoint),
-            None => {}
+        if let Some(endpoint) = serving_at(endpoints, *place, version, method, template) {
+            return Some(endpoint);
         }
     }
     None
 }
 
-/// The same by the index of their templates, in time linear in the number of those of one template.
-/// Memory is taken only where the template has a slash at its end to be dropped.
+/// The first endpoint of a method and a template at a version, by the index of their templates, in
+/// time linear in the number of those of one template. Memory is taken only where the template has
+/// a slash at its end to be dropped.
 pub fn endpoint_at<'s, E: Declared>(
     alloc: Global,
     endpoints: &'s [E],

@@ -1,8 +1,8 @@
 //! Whether an endpoint serves a request.
-ghost use Rattle.std.specs.Prelude.{◌≡◌, bytes_eq};
+ghost use Rattle.std.specs.Prelude.{◌≡◌, ◌↔◌, IsTrue};
 ghost use Rattle.semver.specs.Identifiers.{parts_of};
 ghost use Rattle.api_versions.specs.Shown.{range_of};
-ghost use Rattle.api_declarations.specs.Serving.{holds, serves};
+ghost use Rattle.api_declarations.specs.Serving.{Serves, holds, serves};
 
 use crate::declaration::Declaration;
 use api_versions::ApiEndpointVersions;
@@ -18,20 +18,14 @@ pub fn holds(versions: &ApiEndpointVersions, version: &Version) -> bool
     versions.matches(Some(version))
 }
 
-fn same_method(method: &Method, other: &Method) -> bool
-    ensures { result ≡ bytes_eq method.now other.now }
-{
-    method.as_str() == other.as_str()
-}
-
 impl Declaration<'_> {
     /// Whether the endpoint serves a method and a template at a version. One slash at the end of a
     /// template is dropped.
     pub fn serves(&self, version: &Version, method: &Method, template: &Text) -> bool
-        ensures { result ≡ serves (parts_of version.now) method.now template.now self.now }
+        ensures test { result ≡ serves (parts_of version.now) method.now template.now self.now }
+        ensures decided { IsTrue result
+            ↔ Serves (parts_of version.now) method.now template.now self.now }
     {
-        same_method(self.method, method)
-            && same_template(self.path, template)
-            && holds(self.versions, version)
+        self.method == method && same_template(self.path, template) && holds(self.versions, version)
     }
 }

@@ -1,4 +1,4 @@
-use Rattle.std.proofs.Common.{ap, sym, ◌∙◌}
+use Rattle.std.proofs.Common.{ap, ◌∙◌}
 use Rattle.semver.specs.Identifiers.{parts_of}
 use Rattle.path_templates.specs.Places.{first_at, places_at}
 use Rattle.path_templates.specs.Templates.{trimmed}
@@ -17,7 +17,8 @@ returns-then-equals_str-clause-found g c =
     c.found_at.ensures
     ∙ ap (first_at (λ e. serves version method template (g.E.Declared.declared e)) c.args.endpoints.now)
     (c.at-places.ensures ∙ ap (places_at c.args.index.now) same)
-    ∙ found_by_index (λ e. template_keys (g.E.Declared.declared e)) (λ e. serves version method template (g.E.Declared.declared e)) (trimmed template)
+    ∙ found_by_index (λ e. template_keys (g.E.Declared.declared e))
+    (λ e. serves version method template (g.E.Declared.declared e)) (trimmed template)
     (λ e. keyed version method template (g.E.Declared.declared e)) c.args.endpoints.now c.args.index.now c.requires
 
 pub returns-in_ok-key-clause-found : goal.returns-in_ok-key-clause-found
@@ -29,5 +30,6 @@ returns-in_ok-key-clause-found g c =
     c.found_at-else-equals_str.ensures
     ∙ ap (first_at (λ e. serves version method template (g.E.Declared.declared e)) c.args.endpoints.now)
     (c.at-places-else-equals_str.ensures ∙ ap (places_at c.args.index.now) same)
-    ∙ found_by_index (λ e. template_keys (g.E.Declared.declared e)) (λ e. serves version method template (g.E.Declared.declared e)) (trimmed template)
+    ∙ found_by_index (λ e. template_keys (g.E.Declared.declared e))
+    (λ e. serves version method template (g.E.Declared.declared e)) (trimmed template)
     (λ e. keyed version method template (g.E.Declared.declared e)) c.args.endpoints.now c.args.index.now c.requires

@@ -8,4 +8,5 @@ use Rattle.api_declarations.proofs.lookup.found_at.Given as goal
 abbrev pub invariant-loop-place : goal.invariant-loop-place
 invariant-loop-place g l =
     first_at (λ e. serves (parts_of l.version) l.method l.template (g.E.Declared.declared e)) l.endpoints l.places
-    ≡ first_at (λ e. serves (parts_of l.version) l.method l.template (g.E.Declared.declared e)) l.endpoints (drop l.place-index l.places)
+    ≡ first_at (λ e. serves (parts_of l.version) l.method l.template (g.E.Declared.declared e)) l.endpoints
+    (drop l.place-index l.places)
