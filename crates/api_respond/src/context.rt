@@ -10,8 +10,8 @@ use std::alloc::{AllocError, Global};
 use std::marker::Model;
 use std::num::NonZeroU32;
 
-/// What a handler is told of its endpoint. Contracts see the variables as the list of their entries, in the
-/// order of the names.
+/// What a handler is told of its endpoint. Contracts see the variables as the list of their
+/// entries, in the order of the names.
 #[derive(Drop)]
 pub struct RequestEndpointMetadata {
     /// The name of the operation in documents.
@@ -65,8 +65,8 @@ pub struct RequestContext {
 }
 
 impl RequestContext {
-    /// How many items a page has at most, where the client gives this limit: no more than the server's
-    /// maximum, and the server's default where the client gives none. It takes no memory.
+    /// How many items a page has at most, where the client gives this limit: no more than the
+    /// server's maximum, and the server's default where the client gives none. It takes no memory.
     pub fn page_limit(&self, limit: Option<NonZeroU32>) -> NonZeroU32
         ensures { non_zero_u32_get result ≡ item_count self.now.config limit }
     {
@@ -76,16 +76,15 @@ impl RequestContext {
         }
     }
 
-    /// How many bytes the body has at most: as the endpoint says, and else the server's default. It takes
-    /// no memory.
+    /// How many bytes the body has at most: as the endpoint says, and else the server's default. It
+    /// takes no memory.
     pub fn request_body_max_bytes(&self) -> u64
         ensures { result ≡ unwrap_or self.now.endpoint.request_body_max_bytes
             self.now.config.default_request_body_max_bytes }
     {
-        match self.endpoint.request_body_max_bytes {
-            Some(limit) => limit,
-            None => self.config.default_request_body_max_bytes,
-        }
+        self.endpoint
+            .request_body_max_bytes
+            .unwrap_or(self.config.default_request_body_max_bytes)
     }
 
     /// A context equal to this one. Fails only for want of memory.

@@ -3,15 +3,17 @@ ghost use Rattle.std.specs.Prelude.{◌≡◌, IfErr, IfOk, OnErr};
 ghost use Rattle.http_status.specs.Errors.{internal_error};
 ghost use Rattle.handler_shapes.specs.ShapeChecks.{ContentPasses, ResponsePasses, ShapePasses};
 ghost use Rattle.typed_values.specs.Checks.{TablePasses};
-ghost use Rattle.api_respond.specs.Encodes.{AreSent, Encodes, RefusalEncodes, SuccessEncodes, WhyUnsent};
+ghost use Rattle.api_respond.specs.Encodes.{AreSent, Encodes, RefusalEncodes, SuccessEncodes};
+ghost use Rattle.api_respond.specs.Encodes.{WhyUnsent};
 ghost use Rattle.api_respond.specs.NamedHeaders.{IfRefusal};
 ghost use Rattle.api_respond.specs.Replies.{ContentFits, JsonFits, ReplyFits, SuccessFits};
-ghost use Rattle.api_respond.specs.Responses.{content_body, content_left, json_content, success_left};
+ghost use Rattle.api_respond.specs.Responses.{content_body, content_left, json_content};
+ghost use Rattle.api_respond.specs.Responses.{success_left};
 
 use crate::error_responses::{encode_error, json_body};
 use crate::handler::RouteHandler;
 use crate::named_headers::{Unwritten, content_lines, insert_named, told, written_headers};
-use crate::reply::{Content, Reply, SuccessReply};
+use crate::reply::{Content, ErrorReply, Reply, SuccessReply};
 use flat_maps::MapError;
 use handler_shapes::{ApiEndpointResponse, ContentShape, HandlerShape};
 use http_status::{Body, HeaderList, HttpError, RequestId, Response};
@@ -20,10 +22,10 @@ use std::alloc::{AllocError, Global};
 use std::mem;
 use typed_values::{DescTable, Tree};
 
-/// The response that a reply of a handler is sent as, to the request of this id. A body of a success moves
-/// into it, and leaves an empty one. Where the named headers are no header lines, the response is that of
-/// the handler's refusal of an internal error, and nothing moves. Fails only for want of memory, and the
-/// reply is as it was then.
+/// The response that a reply of a handler is sent as, to the request of this id. A body of a
+/// success moves into it, and leaves an empty one. Where the named headers are written as no map,
+/// or one is no header line, the response is that of the handler's refusal of an internal error,
+/// and nothing moves. Fails only for want of memory, and the reply is as it was then.
 pub fn encode_reply(
     alloc: Global,
     handler: &dyn RouteHandler,
@@ -32,8 +34,8 @@ pub fn encode_reply(
 ) -> Result<Response, AllocError>
     requires shape { ShapePasses (shape_of handler.now) }
     requires reply { ReplyFits (shape_of handler.now) reply.old }
-    ensures encodes { IfOk result (λ response.
-        Encodes (shape_of handler.now) (turns handler.now) reply.old request_id.now response reply.new) }
+    ensures encodes { IfOk result (λ response. Encodes
+        (shape_of handler.now) (turns handler.now) reply.old request_id.now response reply.new) }
     ensures err { OnErr result (reply.new ≡ reply.old) }
 {
     match reply {
@@ -42,8 +44,8 @@ pub fn encode_reply(
     }
 }
 
-/// The response that a handler's refusal of an error is sent as, to the request of this id. Fails only for
-/// want of memory.
+/// The response that a handler's refusal of an error is sent as, to the request of this id. Fails
+/// only for want of memory.
 pub fn encode_refusal(
     alloc: Global,
     handler: &dyn RouteHandler,
@@ -54,8 +56,10 @@ pub fn encode_refusal(
     ensures { IfOk result (RefusalEncodes
         (shape_of handler.now) (turns handler.now) error request_id.now) }
 {
-    let refusal = handler.refuse(alloc, error)?;
-    encode_error(alloc, handler.shape(), &refusal, request_id)
+    match handler.refuse(alloc, error)? {
+        ErrorReply::Http(error) => error.into_response(alloc, request_id),
+        own => encode_error(alloc, handler.shape(), &own, request_id),
+    }
 }
 
 fn encode_success(
@@ -65,9 +69,10 @@ fn encode_success(
     request_id: &RequestId,
 ) -> Result<Response, AllocError>
     requires shape { ShapePasses (shape_of handler.now) }
-    requires reply { SuccessFits (shape_of handler.now).table (shape_of handler.now).response success.old }
-    ensures encodes { IfOk result (λ response. SuccessEncodes
-        (shape_of handler.now) (turns handler.now) success.old request_id.now response success.new) }
+    requires reply { SuccessFits
+        (shape_of handler.now).table (shape_of handler.now).response success.old }
+    ensures encodes { IfOk result (λ response. SuccessEncodes (shape_of handler.now)
+        (turns handler.now) success.old request_id.now response success.new) }
     ensures err { OnErr result (success.new ≡ success.old) }
 {
     let shape = handler.shape();
@@ -103,7 +108,8 @@ fn success_lines(
     requires table { TablePasses table.now }
     requires response { ResponsePasses table.now response.now }
     ensures sent { IfOk result (AreSent table.now response.now success.now) }
-    ensures refused { IfErr result (λ e. IfRefusal e (WhyUnsent table.now response.now success.now)) }
+    ensures refused { IfErr result (λ e. IfRefusal e
+        (WhyUnsent table.now response.now success.now)) }
 {
     let named = match written_headers(alloc, table, &response.headers, &success.named) {
         Ok(named) => named,

@@ -11,15 +11,13 @@ ghost use Rattle.api_respond.specs.Responses.{compact_body, failure_response, ow
 use crate::reply::ErrorReply;
 use handler_shapes::{ApiEndpointErrorResponse, HandlerShape};
 use http_header::{CONTENT_TYPE, HeaderName, HeaderValue};
-use http_status::{
-    Body, CONTENT_TYPE_JSON, ErrorStatusCode, HEADER_REQUEST_ID, HeaderList, RequestId, Response,
-};
+use http_status::{Body, CONTENT_TYPE_JSON, HEADER_REQUEST_ID, HeaderList, RequestId, Response};
 use std::alloc::{AllocError, Global};
 use typed_values::{Desc, DescTable, Tree, encode_json};
 
 /// The response that an error is sent as, to the request of this id: an error of the library as its
-/// `into_response` says; an own one with its status, the header lines of JSON and of the id, and the compact
-/// JSON of its body. Fails only for want of memory.
+/// `into_response` says; an own one with its status, the header lines of JSON and of the id, and
+/// the compact JSON of its body. Fails only for want of memory.
 pub fn encode_error(
     alloc: Global,
     shape: &HandlerShape,

@@ -12,4 +12,4 @@ pub use context::{RequestContext, RequestEndpointMetadata};
 pub use encode::{encode_refusal, encode_reply};
 pub use error_responses::encode_error;
 pub use handler::RouteHandler;
-pub use reply::{Content, ErrorReply, Reply, SuccessReply};
+pub use reply::{Content, ErrorReply, HandlerError, HttpHandlerResult, Reply, SuccessReply};

@@ -9,8 +9,9 @@ ghost use Rattle.http_header.specs.Token.{lowercase};
 ghost use Rattle.http_status.specs.ErrorLines.{header_line};
 ghost use Rattle.handler_shapes.specs.ShapeChecks.{HeadersPass};
 ghost use Rattle.typed_values.specs.Checks.{TablePasses};
-ghost use Rattle.api_respond.specs.NamedHeaders.{AreHeaderLines, IfRefusal, IsFirstRefused, IsHeaderEntry};
-ghost use Rattle.api_respond.specs.NamedHeaders.{IsRefusal, headers_written, line_of, with_named};
+ghost use Rattle.api_respond.specs.NamedHeaders.{AreHeaderLines, IfRefusal, IsFirstRefused};
+ghost use Rattle.api_respond.specs.NamedHeaders.{IsHeaderEntry, IsRefusal, headers_written};
+ghost use Rattle.api_respond.specs.NamedHeaders.{line_of, with_named};
 ghost use Rattle.api_respond.specs.Responses.{content_lines};
 
 use crate::reply::Content;
@@ -84,15 +85,16 @@ pub(crate) fn content_lines(alloc: Global, content: &Content) -> Result<HeaderLi
 // The header line of a media type.
 fn type_line(alloc: Global, media_type: &'static str) -> Result<HeaderList, AllocError>
     requires { IsTrue (is_visible_text media_type.now) }
-    ensures { IfOk result (λ lines. lines ≡ header_line (codes "content-type") media_type.now ∷ []) }
+    ensures { IfOk result (λ lines.
+        lines ≡ header_line (codes "content-type") media_type.now ∷ []) }
 {
     let mut lines = HeaderList::new(alloc);
     lines.append(CONTENT_TYPE, HeaderValue::from_static(media_type))?;
     Ok(lines)
 }
 
-/// Lines among which named headers are inserted, in the order of their names. The first that is no header
-/// line is told.
+/// Lines among which named headers are inserted, in the order of their names. The first that is no
+/// header line is told.
 pub(crate) fn insert_named(
     alloc: Global,
     lines: HeaderList,
@@ -142,7 +144,7 @@ fn field_name(alloc: Global, name: &Text) -> Result<HeaderName, Unwritten>
     }
 }
 
-/// A refusal that tells a text behind an ASCII prefix.
+/// A refusal that tells a text behind an ASCII prefix, or want of memory.
 pub(crate) fn told(alloc: Global, prefix: &str, text: &Text) -> Unwritten
     requires { IsTrue (all_ascii prefix.now) }
     ensures { IfRefusal result (λ message. message ≡ prefix.now ++ text.now) }

@@ -2,7 +2,7 @@
 ghost use Rattle.std.specs.Prelude.{◌≡◌, IfOk};
 
 use http::StatusCode;
-use http_status::{Body, ErrorStatusCode, HeaderList, HttpError};
+use http_status::{Body, ErrorStatusCode, HeaderList, HttpError, HttpRefusal};
 use schema_values::Text;
 use std::alloc::{AllocError, Global};
 use typed_values::Tree;
@@ -57,6 +57,12 @@ pub enum ErrorReply {
         message: Text,
     },
 }
+
+/// What a handler answers where the request was not done.
+pub type HandlerError = ErrorReply;
+
+/// A reply, or the error or the want of memory for which there is none.
+pub type HttpHandlerResult = Result<Reply, HttpRefusal>;
 
 impl ErrorReply {
     /// An error equal to this one. Fails only for want of memory.
