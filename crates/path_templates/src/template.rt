@@ -2,6 +2,7 @@
 ghost use Rattle.std.specs.Prelude.{◌≡◌, ◌↔◌, ◌++◌, IfOk, IsTrue, OnOk, bytes_eq, find, map};
 ghost use Rattle.std.specs.Prelude.{option_map};
 ghost use Rattle.std.specs.Str.{chars};
+ghost use Rattle.schema_values.specs.SoundTest.{are_distinct};
 ghost use Rattle.path_templates.specs.Segments.{segments_of, wildcard_of};
 ghost use Rattle.path_templates.specs.Shapes.{nameless, shape_of};
 ghost use Rattle.path_templates.specs.Templates.{IsReadAs, behind_slashes, is_wildcard};
@@ -58,12 +59,16 @@ pub struct Template {
 }
 
 impl Model for Template {
-    ghost use Rattle.std.specs.Prelude.{List as ListOf};
+    ghost use Rattle.std.specs.Prelude.{IsTrue, List as ListOf};
+    ghost use Rattle.schema_values.specs.SoundTest.{are_distinct};
+    ghost use Rattle.path_templates.specs.Templates.{names_of};
     ghost use Rattle.path_templates.specs.declared.segment.PathSegment.{PathSegment as Segment};
 
     ghost Value = { ListOf Segment };
 
     ghost view = { λ template. template.segments };
+
+    ghost invariant = { λ template. IsTrue (are_distinct (names_of template.segments)) };
 }
 
 impl Template {
@@ -87,12 +92,13 @@ impl Template {
         self.segments.as_slice()
     }
 
-    /// The names of the variables, in order.
+    /// The names of the variables, in order. No two are one.
     pub fn variable_names(&self, alloc: Global) -> Result<List<Text>, AllocError>
-        ensures { IfOk result (λ names. names ≡ names_of self.now) }
+        ensures names { IfOk result (λ names. names ≡ names_of self.now) }
+        ensures distinct { IfOk result (λ names. IsTrue (are_distinct names)) }
     {
         let mut names = List::new(alloc);
-        for segment in self.segments() {
+        for segment in self.segments.as_slice() {
             if let Some(name) = segment.variable_name() {
                 names.push(name.copy(alloc)?)?;
             }
@@ -136,7 +142,7 @@ impl Template {
         ensures { IfOk result (λ copy. copy ≡ self.now) }
     {
         let mut segments = List::new(alloc);
-        for segment in self.segments() {
+        for segment in self.segments.as_slice() {
             segments.push(segment.copy(alloc)?)?;
         }
         Ok(Template { segments })
