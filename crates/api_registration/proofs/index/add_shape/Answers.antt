@@ -11,7 +11,7 @@ use Rattle.api_registration.proofs.index.add_shape.Goals as goal
 pub returns-in_ok-shape-in-Some-clause-added : goal.returns-in_ok-shape-in-Some-clause-added
 returns-in_ok-shape-in-Some-clause-added g c =
     let path = ap (λ (d : DeclarationValue). d.path) (c.declaration-2.view_is ∙ c.declaration.ensures) in
-    let has = ap path_shape (sym path) ∙ ap (option_map shape_of) (sym c.in_ok-template.ensures ∙ c.in-Some.is) ∙ ap Some (sym c.in_ok-shape-in-Some.ensures) in
+    let has = ap path_shape (sym path) ∙ ap (option_map shape_of) (sym c.in_ok-template.ensures.segments ∙ c.in-Some.is) ∙ ap Some (sym c.in_ok-shape-in-Some.ensures) in
     on_ok_weaker c.add.result (shape_added g.E.Declared.declared c.args.before.now c.args.endpoint.now c.args.index.now c.requires _ c.add.new.self has) c.add.ensures.ok
 
 pub returns-in_ok-shape-in-Some-clause-kept : goal.returns-in_ok-shape-in-Some-clause-kept
@@ -22,4 +22,4 @@ pub returns-in-None-clause-added : goal.returns-in-None-clause-added
 returns-in-None-clause-added g c =
     let path = ap (λ (d : DeclarationValue). d.path) (c.declaration-2.view_is ∙ c.declaration.ensures) in
     shapeless g.E.Declared.declared c.args.before.now c.args.endpoint.now c.args.index.now c.requires
-    (ap path_shape (sym path) ∙ ap (option_map shape_of) (sym c.in_ok-template.ensures ∙ c.in-None.is))
+    (ap path_shape (sym path) ∙ ap (option_map shape_of) (sym c.in_ok-template.ensures.segments ∙ c.in-None.is))
