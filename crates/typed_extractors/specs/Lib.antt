@@ -1,0 +1,5 @@
+pub mod SlotsReach
+pub mod SlotAdditions
+pub mod Taken
+pub mod PageTrees
+pub mod Texts
