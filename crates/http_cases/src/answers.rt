@@ -7,13 +7,14 @@ use crate::maps::{map_read, map_read_without_case, map_written, tree_map_written
 use crate::page_types::page_type_told;
 use crate::pages::{long_page_told, page_told};
 use crate::ranges::{matches_told, overlaps_told, request_version_told};
+use crate::reading::{gathered_told, stream_told, whole_told};
 use crate::tokens::{token_read, token_written};
 use case_notation::{AnswersCases, CaseError, given, text_of};
 use schema_values::Json;
 use std::alloc::Global;
 
 /// The names that members of a case have.
-const MEMBERS: [&str; 28] = [
+const MEMBERS: [&str; 30] = [
     "case",
     "like",
     "call",
@@ -42,6 +43,8 @@ const MEMBERS: [&str; 28] = [
     "items",
     "scan",
     "length",
+    "limit",
+    "bytes",
 ];
 
 /// The calls of cases of requests' and replies' parts.
@@ -61,6 +64,9 @@ impl AnswersCases for HttpCases {
             "headers" => headers_told(alloc, case),
             "body" => body_told(alloc, case),
             "dump" => dump_told(alloc, case),
+            "whole" => whole_told(alloc, case),
+            "gather" => gathered_told(alloc, case),
+            "stream" => stream_told(alloc, case),
             "error" => error_told(alloc, case),
             "error_body" => error_body_told(alloc, case),
             "request_id" => request_id_told(alloc, case),

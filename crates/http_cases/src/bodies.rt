@@ -2,7 +2,7 @@
 //! `"failing"`, the numbers of the calls that fail, where some do. A frame is a text, or
 //! `{"trailers": LINES}`.
 use crate::lines::{bytes_noted, lines_noted, lines_of};
-use case_notation::{CaseError, form, given, items_of, number_of, text_of, word};
+use case_notation::{CaseError, check_names, form, given, items_of, number_of, text_of, word};
 use http_status::{Body, DumpError, Frame, FrameError, MemoryFrames, SafeFrames, http_dump_body};
 use schema_values::{Json, List, Text};
 use std::alloc::Global;
@@ -20,14 +20,8 @@ pub fn body_told(alloc: Global, case: &Json) -> Result<Json, CaseError> {
 /// What dropping the body of a case within the budget of the case tells.
 pub fn dump_told(alloc: Global, case: &Json) -> Result<Json, CaseError> {
     let mut body = body_of(alloc, given(case, "body")?)?;
-    match u32::try_from(number_of(given(case, "budget")?)?) {
-        Ok(budget) => dumped(alloc, &mut body, budget),
-        Err(_) => Err(CaseError::Expected("a budget of 32 bits")),
-    }
-}
-
-fn dumped(alloc: Global, body: &mut Body, budget: u32) -> Result<Json, CaseError> {
-    match http_dump_body(alloc, body, u64::from(budget)) {
+    let budget = count_of(given(case, "budget")?)?;
+    match http_dump_body(alloc, &mut body, u64::from(budget)) {
         Ok(count) => Ok(Json::Int(count.into())),
         Err(DumpError::Failed) => Ok(word(alloc, "failed")?),
         Err(DumpError::FrameBudget) => Ok(word(alloc, "frame budget")?),
@@ -35,7 +29,18 @@ fn dumped(alloc: Global, body: &mut Body, budget: u32) -> Result<Json, CaseError
     }
 }
 
-fn frame_told(alloc: Global, answer: Result<Option<Frame>, FrameError>) -> Result<Json, CaseError> {
+/// A count of 32 bits.
+pub fn count_of(noted: &Json) -> Result<u32, CaseError> {
+    u32::try_from(number_of(noted)?)
+        .ok()
+        .ok_or(CaseError::Expected("a count of 32 bits"))
+}
+
+/// What a call for the next frame gives.
+pub fn frame_told(
+    alloc: Global,
+    answer: Result<Option<Frame>, FrameError>,
+) -> Result<Json, CaseError> {
     match answer {
         Ok(Some(Frame::Bytes(bytes))) => {
             Ok(form(alloc, "bytes", bytes_noted(alloc, bytes.as_slice())?)?)
@@ -49,14 +54,20 @@ fn frame_told(alloc: Global, answer: Result<Option<Frame>, FrameError>) -> Resul
     }
 }
 
-fn body_of(alloc: Global, noted: &Json) -> Result<Body, CaseError> {
+/// The body that is noted.
+pub fn body_of(alloc: Global, noted: &Json) -> Result<Body, CaseError> {
+    match noted {
+        Json::Text(word) if word.equals_str("empty") => Ok(Body::empty()),
+        noted => body_with(alloc, noted),
+    }
+}
+
+fn body_with(alloc: Global, noted: &Json) -> Result<Body, CaseError> {
+    check_names(noted, &["content", "frames", "failing"])?;
     if let Some(content) = noted.get("content") {
         return Ok(Body::with_content(bytes_of(alloc, text_of(content)?)?));
     }
-    let Some(frames) = noted.get("frames") else {
-        return Ok(Body::empty());
-    };
-    let frames = frames_of(alloc, items_of(frames)?)?;
+    let frames = frames_of(alloc, items_of(given(noted, "frames")?)?)?;
     match noted.get("failing") {
         Some(calls) => Ok(Body::with_faults(MemoryFrames::new(
             frames,

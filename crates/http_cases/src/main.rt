@@ -13,6 +13,7 @@ mod named_types;
 mod page_types;
 mod pages;
 mod ranges;
+mod reading;
 mod sample;
 mod selectors;
 mod tokens;

@@ -116,7 +116,8 @@ impl ApiStruct for Texts {
 
     ghost struct_name = { codes "Texts" };
 
-    ghost head_of = { struct_of (required (codes "a") ∷ required (codes "b") ∷ nullable (codes "c") ∷ []) };
+    ghost head_of = { struct_of
+        (required (codes "a") ∷ required (codes "b") ∷ nullable (codes "c") ∷ []) };
 
     ghost fields_of = { λ value. (value.a, (value.b, (value.c, tt))) };
 

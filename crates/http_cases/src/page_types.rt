@@ -6,7 +6,8 @@ use schema_values::{Json, List};
 use std::alloc::Global;
 use typed_values::{AddError, Definition, DescTable};
 
-/// The name of the type of a case, and whether its descriptor and its definitions are those of the case.
+/// The name of the type of a case, and whether its descriptor and its definitions are those of the
+/// case.
 pub fn page_type_told(alloc: Global, case: &Json) -> Result<Json, CaseError> {
     match text_of(given(case, "type")?)?.as_str() {
         "uint32ResultsPage" => type_told::<ResultsPage<u32>>(alloc, case),

@@ -1,5 +1,5 @@
-//! Calls on ranges of versions, and on the version that a request asks for. A range is a list of its
-//! first version and of that which it ends before, where null is none.
+//! Calls on ranges of versions, and on the version that a request asks for. A range is a list of
+//! its first version and of that which it ends before, where null is none.
 use crate::lines::{lines_of, name_of};
 use api_versions::{
     ApiEndpointVersions, ClientSpecifiesVersionInHeader, DynamicVersionPolicy, VersionPolicy,

@@ -1,0 +1,82 @@
+//! Calls that read a body under a limit on its content and a budget of frames.
+use crate::bodies::{body_of, count_of, frame_told};
+use crate::lines::bytes_noted;
+use body_reading::{BodyError, StreamRefusal, StreamingBody, gather_frames, read_whole};
+use case_notation::{CaseError, form, given, number_of, text_of, word};
+use http_status::HttpError;
+use schema_values::{Json, List};
+use std::alloc::Global;
+
+/// What reading the body of a case whole gives, within the limit and the budget of the case.
+pub fn whole_told(alloc: Global, case: &Json) -> Result<Json, CaseError> {
+    let mut body = body_of(alloc, given(case, "body")?)?;
+    let limit = count_of(given(case, "limit")?)?;
+    let budget = count_of(given(case, "budget")?)?;
+    match read_whole(alloc, &mut body, u64::from(limit), u64::from(budget)) {
+        Ok(content) => Ok(form(alloc, "bytes", bytes_noted(alloc, content.as_slice())?)?),
+        Err(error) => error_told(alloc, error),
+    }
+}
+
+fn error_told(alloc: Global, error: BodyError) -> Result<Json, CaseError> {
+    match error {
+        BodyError::BodyFault => Ok(word(alloc, "fault")?),
+        BodyError::BodyTooLarge(sum) => Ok(form(alloc, "too large", Json::Int(sum.into()))?),
+        BodyError::FrameBudget(count) => Ok(form(alloc, "frames", Json::Int(count.into()))?),
+        BodyError::OutOfMemory => Err(CaseError::OutOfMemory),
+    }
+}
+
+/// What each of so many calls of a body that is gathered of the body of a case gives.
+pub fn gathered_told(alloc: Global, case: &Json) -> Result<Json, CaseError> {
+    let mut source = body_of(alloc, given(case, "body")?)?;
+    let budget = count_of(given(case, "budget")?)?;
+    let mut body = gather_frames(alloc, &mut source, u64::from(budget))?;
+    let mut answers = List::new(alloc);
+    for _ in 0..number_of(given(case, "calls")?)? {
+        answers.push(frame_told(alloc, body.next_frame(alloc))?)?;
+    }
+    Ok(Json::List(answers))
+}
+
+/// What each of so many calls of a reader gives: of the bytes of a case, or of its body under the
+/// limit and the budget of the case.
+pub fn stream_told(alloc: Global, case: &Json) -> Result<Json, CaseError> {
+    let mut stream = stream_of(alloc, case)?;
+    let mut answers = List::new(alloc);
+    for _ in 0..number_of(given(case, "calls")?)? {
+        answers.push(data_told(alloc, stream.next_data(alloc))?)?;
+    }
+    Ok(Json::List(answers))
+}
+
+fn stream_of(alloc: Global, case: &Json) -> Result<StreamingBody, CaseError> {
+    if let Some(content) = case.get("bytes") {
+        let bytes = List::from_bytes(alloc, text_of(content)?.as_bytes())?;
+        return Ok(StreamingBody::from_bytes(bytes));
+    }
+    let body = body_of(alloc, given(case, "body")?)?;
+    let cap = count_of(given(case, "limit")?)?;
+    let budget = count_of(given(case, "budget")?)?;
+    Ok(StreamingBody::new(body, u64::from(cap), u64::from(budget)))
+}
+
+fn data_told(
+    alloc: Global,
+    answer: Result<Option<List<u8>>, StreamRefusal>,
+) -> Result<Json, CaseError> {
+    match answer {
+        Ok(Some(bytes)) => bytes_noted(alloc, bytes.as_slice()),
+        Ok(None) => Ok(word(alloc, "end")?),
+        Err(StreamRefusal::Fault(error)) => refusal_told(alloc, "fault", &error),
+        Err(StreamRefusal::TooLarge(error)) => refusal_told(alloc, "too large", &error),
+        Err(StreamRefusal::FrameBudget(error)) => refusal_told(alloc, "frames", &error),
+        Err(StreamRefusal::Closed) => Ok(word(alloc, "closed")?),
+        Err(StreamRefusal::OutOfMemory) => Err(CaseError::OutOfMemory),
+    }
+}
+
+fn refusal_told(alloc: Global, kind: &str, error: &HttpError) -> Result<Json, CaseError> {
+    let message = word(alloc, error.external_message.as_str())?;
+    Ok(form(alloc, kind, message)?)
+}
