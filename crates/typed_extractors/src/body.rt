@@ -115,6 +115,15 @@ impl UntypedBody {
         self.content.as_slice()
     }
 
+    /// A body equal to this one. Fails only for want of memory.
+    pub fn copy(&self, alloc: Global) -> Result<UntypedBody, AllocError>
+        ensures { IfOk result (λ copy. copy ≡ self.now) }
+    {
+        Ok(UntypedBody {
+            content: List::from_bytes(alloc, self.content.as_slice())?,
+        })
+    }
+
     /// The bytes as text. They are refused exactly where they are not UTF-8, with status 400.
     pub fn as_str(&self, alloc: Global) -> Result<&str, HttpRefusal>
         ensures text { IfOk result (λ text. text.now ≡ self.now) }
