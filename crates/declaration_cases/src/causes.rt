@@ -1,0 +1,63 @@
+//! Which endpoints of a case may be registered, in order, and why others may not.
+ghost use Rattle.api_declarations.specs.Keys.{keys_by, shape_keys};
+ghost use Rattle.path_templates.specs.Places.{IsIndexOf};
+
+use crate::endpoint::PlainEndpoint;
+use crate::members::items_at;
+use crate::registered::{register, settings_at};
+use api_declarations::Declared;
+use api_registration::ApiDescriptionRegisterError;
+use case_notation::{CaseError, word};
+use path_templates::PlaceIndex;
+use schema_values::{Json, List, Text};
+use std::alloc::{AllocError, Global};
+use tag_config::TagConfig;
+
+/// What is told of each endpoint of a case: `registered`, or the cause and the message of its
+/// refusal. One that is refused is left out for those behind it.
+pub fn causes_told(alloc: Global, case: &Json) -> Result<Json, CaseError> {
+    let settings = settings_at(alloc, case)?;
+    let mut registered = List::new(alloc);
+    let mut index = PlaceIndex::new(alloc);
+    let mut told = List::new(alloc);
+    tell_all(
+        alloc,
+        &settings,
+        &mut registered,
+        &mut index,
+        items_at(case, "endpoints")?,
+        &mut told,
+    )?;
+    Ok(Json::List(told))
+}
+
+fn tell_all(
+    alloc: Global,
+    settings: &TagConfig,
+    registered: &mut List<PlainEndpoint>,
+    index: &mut PlaceIndex,
+    noted: &[Json],
+    told: &mut List<Json>,
+) -> Result<(), CaseError>
+    requires { IsIndexOf
+        (keys_by shape_keys ⟦<PlainEndpoint as Declared>⟧.declared registered.old) index.old }
+{
+    for one in noted {
+        let refusal = register(alloc, settings, registered, index, one)?;
+        told.push(refusal_told(alloc, refusal)?)?;
+    }
+    Ok(())
+}
+
+fn refusal_told(
+    alloc: Global,
+    refusal: Option<ApiDescriptionRegisterError>,
+) -> Result<Json, AllocError> {
+    match refusal {
+        Some(error) => {
+            let told = format!(in alloc; "{:?}: {}", error.cause(), error.message())?;
+            Ok(Json::Text(Text::from_string(told)))
+        }
+        None => word(alloc, "registered"),
+    }
+}

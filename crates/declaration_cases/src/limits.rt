@@ -1,0 +1,78 @@
+//! The limits that a context tells its handler. `"request_body_max_bytes"` is the limit of the
+//! endpoint, where null is none, `"limit"` what the client asks for; `"greatest"` and `"default"`
+//! are the server's.
+use crate::members::{number_or, u64_of};
+use crate::requests::parts_of;
+use api_respond::{RequestContext, RequestEndpointMetadata};
+use case_notation::{CaseError, given, number_of};
+use http_status::{RequestId, RequestIdError};
+use request_parts::{ApiEndpointBodyContentType, ServerConfig};
+use schema_values::{Json, Text};
+use std::alloc::Global;
+use std::collections::BTreeMap;
+use std::num::NonZeroU32;
+
+/// How many items a page has at most.
+pub fn page_limit(alloc: Global, case: &Json) -> Result<Json, CaseError> {
+    let limit = match given(case, "limit")? {
+        Json::Null => None,
+        limit => Some(items_of(limit)?),
+    };
+    let config = ServerConfig {
+        default_request_body_max_bytes: 0,
+        page_max_nitems: items_of(given(case, "greatest")?)?,
+        page_default_nitems: items_of(given(case, "default")?)?,
+    };
+    let limit = context_of(alloc, config, None)?.page_limit(limit);
+    Ok(Json::Int(limit.get().into()))
+}
+
+/// How many bytes a body has at most.
+pub fn body_limit(alloc: Global, case: &Json) -> Result<Json, CaseError> {
+    let limit = match given(case, "request_body_max_bytes")? {
+        Json::Null => None,
+        limit => Some(u64_of(limit)?),
+    };
+    let config = ServerConfig {
+        default_request_body_max_bytes: number_or(case, "default", 0)?,
+        page_max_nitems: NonZeroU32::MIN,
+        page_default_nitems: NonZeroU32::MIN,
+    };
+    let limit = context_of(alloc, config, limit)?.request_body_max_bytes();
+    Ok(Json::Int(limit.into()))
+}
+
+fn items_of(noted: &Json) -> Result<NonZeroU32, CaseError> {
+    match u32::try_from(number_of(noted)?) {
+        Ok(number) => NonZeroU32::new(number).ok_or(CaseError::Expected("a number of items")),
+        Err(_) => Err(CaseError::Expected("a number of items")),
+    }
+}
+
+// The context of a request that says nothing.
+fn context_of(
+    alloc: Global,
+    config: ServerConfig,
+    request_body_max_bytes: Option<u64>,
+) -> Result<RequestContext, CaseError> {
+    let endpoint = RequestEndpointMetadata {
+        operation_id: Text::new(alloc),
+        variables: BTreeMap::new(alloc),
+        body_content_type: ApiEndpointBodyContentType::Json,
+        request_body_max_bytes,
+    };
+    Ok(RequestContext {
+        endpoint,
+        request_id: request_id(alloc)?,
+        request: parts_of(alloc, &Json::Null, &Json::Null)?.info,
+        config,
+    })
+}
+
+fn request_id(alloc: Global) -> Result<RequestId, CaseError> {
+    match RequestId::new(alloc, "123") {
+        Ok(id) => Ok(id),
+        Err(RequestIdError::BadRequestId) => Err(CaseError::Expected("an id")),
+        Err(RequestIdError::OutOfMemory) => Err(CaseError::OutOfMemory),
+    }
+}

@@ -1,0 +1,23 @@
+//! Which endpoint serves a template and a method at a version.
+use crate::endpoint::{PlainEndpoint, endpoints_at};
+use crate::requests::{method_at, version_at};
+use api_declarations::endpoint_for;
+use case_notation::{CaseError, given, text_of, word};
+use schema_values::Json;
+use std::alloc::Global;
+
+/// The name of the endpoint of a case that serves its template and its method at its version, if
+/// one does.
+pub fn found(alloc: Global, case: &Json) -> Result<Json, CaseError> {
+    found_among(alloc, case, endpoints_at(alloc, case)?.as_slice())
+}
+
+fn found_among(alloc: Global, case: &Json, endpoints: &[PlainEndpoint]) -> Result<Json, CaseError> {
+    let version = version_at(alloc, case)?;
+    let method = method_at(alloc, case, "GET")?;
+    let template = text_of(given(case, "template")?)?;
+    match endpoint_for(endpoints, &version, &method, template) {
+        Some(endpoint) => Ok(word(alloc, endpoint.operation_id.as_str())?),
+        None => Ok(Json::Null),
+    }
+}

@@ -1,0 +1,26 @@
+//! Cases of what endpoints declare: each line of the input is one, and is answered with one line.
+#![tactic(auto)]
+
+mod answers;
+mod causes;
+mod endpoint;
+mod extracts;
+mod limits;
+mod look_ups;
+mod media;
+mod members;
+mod path_params;
+mod registered;
+mod requests;
+mod shapes;
+mod streams;
+mod tag_settings;
+mod templates;
+
+use crate::answers::DeclarationCases;
+use case_notation::run;
+use std::io;
+
+fn main(rt: HostRuntime) -> io::Result<()> {
+    run(&rt, &DeclarationCases)
+}

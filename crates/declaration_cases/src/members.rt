@@ -1,0 +1,54 @@
+//! Members of cases that may be left out, and members of answers.
+use case_notation::{CaseError, items_of, number_of, put, text_of, truth_of, word};
+use schema_values::{Json, List, Member, Text};
+use std::alloc::{AllocError, Global};
+
+/// The text under a name, or another where there is none.
+pub fn text_or(alloc: Global, noted: &Json, name: &str, other: &str) -> Result<Text, CaseError> {
+    match noted.get(name) {
+        Some(text) => Ok(text_of(text)?.copy(alloc)?),
+        None => Ok(Text::from_str(alloc, other)?),
+    }
+}
+
+/// The truth value under a name, or another where there is none.
+pub fn truth_or(noted: &Json, name: &str, other: bool) -> Result<bool, CaseError> {
+    match noted.get(name) {
+        Some(truth) => truth_of(truth),
+        None => Ok(other),
+    }
+}
+
+/// The number of 64 bits under a name, or another where there is none.
+pub fn number_or(noted: &Json, name: &str, other: u64) -> Result<u64, CaseError> {
+    match noted.get(name) {
+        Some(number) => u64_of(number),
+        None => Ok(other),
+    }
+}
+
+/// A number of 64 bits.
+pub fn u64_of(noted: &Json) -> Result<u64, CaseError> {
+    match u64::try_from(number_of(noted)?) {
+        Ok(number) => Ok(number),
+        Err(_) => Err(CaseError::Expected("a number of 64 bits")),
+    }
+}
+
+/// The items of the list under a name, none where it is left out.
+pub fn items_at<'a>(noted: &'a Json, name: &str) -> Result<&'a [Json], CaseError> {
+    match noted.get(name) {
+        Some(items) => items_of(items),
+        None => Ok(&[]),
+    }
+}
+
+/// Adds a member whose value is a text.
+pub fn push_word(
+    alloc: Global,
+    members: &mut List<Member>,
+    name: &str,
+    text: &str,
+) -> Result<(), AllocError> {
+    put(alloc, members, name, word(alloc, text)?)
+}

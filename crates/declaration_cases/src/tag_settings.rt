@@ -1,0 +1,22 @@
+//! Calls on the settings of tags.
+use case_notation::{CaseError, form, given};
+use schema_values::Json;
+use std::alloc::Global;
+use tag_config::TagConfig;
+use typed_values::DecodeError;
+
+/// The settings of a case as they are written again, or why there are none.
+pub fn settings_told(alloc: Global, case: &Json) -> Result<Json, CaseError> {
+    let json = given(case, "json")?;
+    if !json.sound() {
+        return Err(CaseError::Expected("sound JSON"));
+    }
+    match TagConfig::from_json(alloc, json) {
+        Ok(settings) => Ok(settings.to_json(alloc)?),
+        Err(DecodeError::Fault(fault)) => {
+            let text = fault.text(alloc)?;
+            Ok(form(alloc, "refused", Json::Text(text))?)
+        }
+        Err(DecodeError::OutOfMemory) => Err(CaseError::OutOfMemory),
+    }
+}

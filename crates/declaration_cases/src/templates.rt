@@ -1,0 +1,51 @@
+//! Calls on the templates of paths.
+use crate::requests::variables_at;
+use case_notation::{CaseError, form, given, text_of, word};
+use path_templates::{PathSegment, Template};
+use schema_values::{Json, List, Text};
+use std::alloc::{AllocError, Global};
+
+/// The segments of the template of the path of a case, or that it is none.
+pub fn template_told(alloc: Global, case: &Json) -> Result<Json, CaseError> {
+    match Template::parse(alloc, text_of(given(case, "path")?)?)? {
+        Some(template) => Ok(segments_told(alloc, &template)?),
+        None => Ok(word(alloc, "no template")?),
+    }
+}
+
+fn segments_told(alloc: Global, template: &Template) -> Result<Json, AllocError> {
+    let mut told = List::new(alloc);
+    for segment in template.segments() {
+        told.push(segment_told(alloc, segment)?)?;
+    }
+    Ok(Json::List(told))
+}
+
+fn segment_told(alloc: Global, segment: &PathSegment) -> Result<Json, AllocError> {
+    match segment {
+        PathSegment::Literal(text) => word(alloc, text.as_str()),
+        PathSegment::VarnameSegment(name) => form(alloc, "variable", word(alloc, name.as_str())?),
+        PathSegment::VarnameWildcard(name) => form(alloc, "wildcard", word(alloc, name.as_str())?),
+    }
+}
+
+/// Whether the templates of the two paths of a case have one shape.
+pub fn same_shape(alloc: Global, case: &Json) -> Result<Json, CaseError> {
+    let shape = shape_at(alloc, case, "path")?;
+    Ok(Json::Bool(shape == shape_at(alloc, case, "other")?))
+}
+
+fn shape_at(alloc: Global, case: &Json, name: &'static str) -> Result<Text, CaseError> {
+    Ok(template_at(alloc, case, name)?.shape(alloc)?)
+}
+
+fn template_at(alloc: Global, case: &Json, name: &'static str) -> Result<Template, CaseError> {
+    Template::parse(alloc, text_of(given(case, name)?)?)?.ok_or(CaseError::Expected("a template"))
+}
+
+/// Whether the variables of a case are those of the template of its path.
+pub fn variables_match(alloc: Global, case: &Json) -> Result<Json, CaseError> {
+    let variables = variables_at(alloc, case)?;
+    let template = template_at(alloc, case, "path")?;
+    Ok(Json::Bool(template.variables_match(&variables)))
+}
