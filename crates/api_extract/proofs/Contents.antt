@@ -2,7 +2,7 @@
 use Rattle.std.proofs.Common.{◌≡◌, ◌⊎◌, inl, inr, ℕ, ◌+◌, Bool, true, false, cond, List, [], Option, Some, None, refl}
 use Rattle.std.proofs.Common.{sym, ◌∙◌, ap, subst, arith}
 use Rattle.std.proofs.lemmas.Result.{on_ok_weaker}
-use Rattle.std.specs.Prelude.{OnOk}
+use Rattle.std.specs.Prelude.{IsErrAnd, OnOk}
 use Rattle.std.specs.declared.result.Result.{Result}
 use Rattle.std.specs.declared.result.Result.TheVariants.{Ok, Err}
 use Rattle.http_bodies.specs.Bodies.{BodyState, never_failing}
@@ -23,10 +23,11 @@ use Rattle.api_extract.specs.declared.extract_error.ExtractError.{ExtractError}
 use Rattle.api_extract.specs.declared.extract_error.ExtractError.TheVariants as errors
 use Rattle.api_extract.specs.Answers.{IsGiven}
 use Rattle.api_extract.specs.Denotes.{Terms, slot_told, terms}
-use Rattle.api_extract.specs.Extraction.{ComesOf, ComesTo, of_read, reads_body, slot_extracted, slot_given}
+use Rattle.api_extract.specs.Extraction.{ComesOf, ComesTo, IsOfReading, ReadsFor, of_read, reads_body, slot_extracted}
+use Rattle.api_extract.specs.Extraction.{slot_given}
 use Rattle.api_extract.specs.ReadingErrors.{reading_error}
 use Rattle.api_extract.specs.Refusals.{GivenArg}
-use Rattle.api_extract.proofs.GivenAnswers.{given_comes}
+use Rattle.api_extract.proofs.GivenAnswers.{given_comes, given_not_reading}
 
 -- reading gave what is called for, or it was cut short
 abbrev pub ReadsAs : Result (List ℕ) BodyError → Result (List ℕ) BodyError → Type 0
@@ -89,6 +90,28 @@ module _ (table : List Definition) (kind : ApiEndpointBodyContentType) (limit bu
     answer = comes (whole limit budget h.came) (never_failing h.came) (came_read limit budget old.left new.left read h);
     gathers = λ streams. absurd (cc streams);
   }
+
+-- what an answer tells of them
+module _ (limit budget : ℕ) (old new : Option (List Frame)) where
+  pub error_told : (error : BodyError) → Reads limit budget old new (Err error)
+      → ReadsFor {T = Arg} limit budget old new (Err (reading_error error))
+  error_told reading.BodyFault h = h
+  error_told (reading.BodyTooLarge sum) h = h
+  error_told (reading.FrameBudget count) h = h
+  error_told reading.OutOfMemory h = tt
+
+  pub content_told : (content : List ℕ) (result exact : GivenArg) → IsGiven result exact
+      → (IsErrAnd exact IsOfReading → ⊥) → Reads limit budget old new (Ok content)
+      → ReadsFor limit budget old new result
+  content_told content result exact given none h = by_result result (given_not_reading result exact given none)
+    where
+      by_result : (r : GivenArg) → (IsErrAnd r IsOfReading → ⊥) → ReadsFor limit budget old new r
+      by_result (Ok some) none = record { content = content; reads = h }
+      by_result (Err (errors.Refused fault message)) none = record { content = content; reads = h }
+      by_result (Err errors.BodyFault) none = absurd (none tt)
+      by_result (Err (errors.BodyTooLarge sum)) none = absurd (none tt)
+      by_result (Err (errors.FrameBudget count)) none = absurd (none tt)
+      by_result (Err errors.OutOfMemory) none = tt
 
 -- no frame came
 none_came : (left : Option (List Frame)) → TakesFrames left [] left

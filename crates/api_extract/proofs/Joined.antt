@@ -2,11 +2,12 @@
 use Rattle.std.proofs.Common.{◌≡◌, ◌⊎◌, inl, inr, ℕ, Bool, true, false, ◌||◌, not, List, [], ◌∷◌, ◌++◌, filter, Option}
 use Rattle.std.proofs.Common.{Some, None, All, refl, sym, ◌∙◌, ap, subst, append-nil}
 use Rattle.std.proofs.lemmas.List.Elements.{recursion_from_All}
-use Rattle.std.specs.Prelude.{IfSome, IsErr, IsErrOf, IsOk, IsTrue, MatchOption, OnOk, is_ok}
+use Rattle.std.specs.Prelude.{IfSome, IsErr, IsErrAnd, IsErrOf, IsOk, IsTrue, MatchOption, OnOk, is_ok}
 use Rattle.std.specs.List.{AllByRecursion, list_any}
 use Rattle.std.specs.declared.result.Result.TheVariants.{Ok, Err}
 use Rattle.http_bodies.specs.Bodies.{BodyState, frames_of, never_failing}
 use Rattle.http_bodies.specs.Frames.{SourceState}
+use Rattle.http_bodies.specs.declared.frame.Frame.{Frame}
 use Rattle.body_reading.specs.Gathered.{GathersInto}
 use Rattle.body_reading.specs.Whole.{whole}
 use Rattle.request_parts.specs.declared.content_type.ApiEndpointBodyContentType.{ApiEndpointBodyContentType}
@@ -20,14 +21,14 @@ use Rattle.api_extract.specs.declared.extract_error.ExtractError.{ExtractError}
 use Rattle.api_extract.specs.declared.extract_error.ExtractError.TheVariants as errors
 use Rattle.api_extract.specs.Answers.{IsGiven}
 use Rattle.api_extract.specs.Denotes.{GivenArgs, args_by, terms}
-use Rattle.api_extract.specs.Extraction.{ComesOf, ComesTo, IsCutShort, IsPushed, extracted, plainly_told, shared_told}
-use Rattle.api_extract.specs.Extraction.{slot_extracted}
-use Rattle.api_extract.specs.Extraction.{reads_body, takes_body, takes_stream}
+use Rattle.api_extract.specs.Extraction.{ComesOf, ComesTo, IsCutShort, IsOfReading, IsPushed, ReadsFor, extracted}
+use Rattle.api_extract.specs.Extraction.{plainly_told, reads_body, shared_told, slot_extracted, takes_body}
+use Rattle.api_extract.specs.Extraction.{takes_stream}
 use Rattle.api_extract.specs.Refusals.{GivenArg}
 use Rattle.api_extract.proofs.FrontSlots.{IsBodyAlone, OnlyBodies, TakesNone, any_behind, given_joined, keeps_front}
 use Rattle.api_extract.proofs.FrontSlots.{reads_only, streams_only, takes_only}
-use Rattle.api_extract.proofs.GivenAnswers.{given_comes, given_no_fault, given_or_ran_out}
-use Rattle.api_extract.proofs.NoFaults.{args_no_fault, slot_no_fault}
+use Rattle.api_extract.proofs.GivenAnswers.{given_comes, given_not_reading, given_or_ran_out}
+use Rattle.api_extract.proofs.NoFaults.{args_not_reading, slot_not_reading}
 use Rattle.api_extract.proofs.SlotLists.{all_before, args_before, behind, error_behind, none_behind, one_arg, one_error}
 
 -- ---- the slots before the body, which take none, and what stands behind them
@@ -90,6 +91,10 @@ error_first : (some rest : GivenArgs) → IsErr some → behind some rest ≡ so
 error_first (Ok args) rest error = absurd (cc error)
 error_first (Err e) rest error = refl
 
+err_not_ok : (r : GivenArgs) → IsErr r → IsOk r → ⊥
+err_not_ok (Ok args) error ok = cc error
+err_not_ok (Err e) error ok = cc ok
+
 module _ (table : List Definition) (request : Request) (slots : List Slot) (result : GivenArgs)
     (h : IsToldInFront table request slots result) where
   abbrev told : GivenArgs
@@ -114,12 +119,21 @@ module _ (table : List Definition) (request : Request) (slots : List Slot) (resu
         | inr ran_out ↦ inr ran_out
       ]
 
-  pub front_no_fault : {P : Type 0} → IsErrOf result errors.BodyFault → P
-  front_no_fault e =
+  pub front_read : (limit budget : ℕ) (old new : Option (List Frame)) → IsOk (shared_told table slots request)
+      → ReadsFor limit budget old new result
+  front_read limit budget old new ok =
+      elim (given_or_ran_out result told h.given) [
+        | inl is ↦ absurd (err_not_ok result h.error
+            (subst IsOk (shared_joined slots h.front h.rest h.parts table request ∙ is) ok))
+        | inr ran_out ↦ subst (λ (r : GivenArgs). ReadsFor limit budget old new r) (sym ran_out) tt
+      ]
+
+  pub front_not_reading : {P : Type 0} → IsErrAnd result IsOfReading → P
+  front_not_reading e =
       absurd (
-      given_no_fault result told h.given
-      (args_no_fault (plainly_told table request)
-      (slot_no_fault (terms table Bytes 0 0) (wire_of request []) (never_failing [])) h.front) e)
+      given_not_reading result told h.given
+      (args_not_reading (plainly_told table request)
+      (slot_not_reading (terms table Bytes 0 0) (wire_of request []) (never_failing [])) h.front) e)
 
 -- ---- the slots before the body give arguments
 
@@ -158,6 +172,9 @@ module _ (table : List Definition) (request : Request) (slots : List Slot) (args
   all_come kind limit budget body =
       inr (sym (given_all table request slots [] args h kind limit budget body ∙ none_behind args))
 
+  pub no_reader : {P : Type 0} → IsTrue (list_any reads_body slots) → P
+  no_reader reads = absurd (cc (any_joined slots h.front [] h.parts reads_body reads_only, reads))
+
   pub no_stream : {P : Type 0} → IsTrue (list_any takes_stream slots) → P
   no_stream streams = absurd (cc (any_joined slots h.front [] h.parts takes_stream streams_only, streams))
 
@@ -194,6 +211,31 @@ fault_pushed : (args : List Arg) (last : GivenArg) (result : GivenArgs) → IsPu
     → IsErrOf last errors.BodyFault → IsErrOf result errors.BodyFault
 fault_pushed args (Ok arg) result pushed e = absurd (cc e)
 fault_pushed args (Err error) result pushed e = let same : error ≡ errors.BodyFault = cc e in pushed ∙ ap Err same
+
+-- an error of reading is that of the slot, and so is what the answer tells of the frames
+pushed_reading : (args : List Arg) (last : GivenArg) (result : GivenArgs) → IsPushed args last result
+    → IsErrAnd result IsOfReading → IsErrAnd last IsOfReading
+pushed_reading args (Ok arg) result (inl pushed) e = subst (λ (r : GivenArgs). IsErrAnd r IsOfReading) pushed e
+pushed_reading args (Ok arg) result (inr ran_out) e = subst (λ (r : GivenArgs). IsErrAnd r IsOfReading) ran_out e
+pushed_reading args (Err error) result pushed e = subst (λ (r : GivenArgs). IsErrAnd r IsOfReading) pushed e
+
+module _ (limit budget : ℕ) (old new : Option (List Frame)) where
+  read_same : (T U : Type 0) (error : ExtractError) → ReadsFor {T = T} limit budget old new (Err error)
+      → ReadsFor {T = U} limit budget old new (Err error)
+  read_same T U (errors.Refused fault message) h = h
+  read_same T U errors.BodyFault h = h
+  read_same T U (errors.BodyTooLarge sum) h = h
+  read_same T U (errors.FrameBudget count) h = h
+  read_same T U errors.OutOfMemory h = h
+
+  pushed_read : (args : List Arg) (last : GivenArg) (result : GivenArgs) → IsPushed args last result
+      → ReadsFor limit budget old new last → ReadsFor limit budget old new result
+  pushed_read args (Ok arg) result (inl pushed) h =
+      subst (λ (r : GivenArgs). ReadsFor limit budget old new r) (sym pushed) h
+  pushed_read args (Ok arg) result (inr ran_out) h =
+      subst (λ (r : GivenArgs). ReadsFor limit budget old new r) (sym ran_out) tt
+  pushed_read args (Err error) result pushed h =
+      subst (λ (r : GivenArgs). ReadsFor limit budget old new r) (sym pushed) (read_same Arg (List Arg) error h)
 
 ok_pushed : (P : Type 0) (args : List Arg) (last : GivenArg) (result : GivenArgs) → IsPushed args last result
     → OnOk last P → OnOk result P
@@ -235,13 +277,20 @@ module _ (table : List Definition) (request : Request) (slots : List Slot) (slot
         (came.gathers (sym (last_alone takes_stream streams_only) ∙ streams));
   }
 
-  pub last_asked : (IsErrOf last errors.BodyFault → reads_body slot ≡ true) → IsErrOf result errors.BodyFault
+  pub last_asked : (IsErrAnd last IsOfReading → reads_body slot ≡ true) → IsErrAnd result IsOfReading
       → IsTrue (list_any reads_body slots) × IsOk (shared_told table slots request)
   last_asked reads e = (
     last_alone reads_body reads_only
-        ∙ reads (pushed_fault h.args last result h.pushed e),
+        ∙ reads (pushed_reading h.args last result h.pushed e),
     given_ok table request slots (slot ∷ []) h.args h.front,
   )
+
+  pub last_read : (limit budget : ℕ) (old new : Option (List Frame))
+      → (reads_body slot ≡ true → ReadsFor limit budget old new last) → IsTrue (list_any reads_body slots)
+      → ReadsFor limit budget old new result
+  last_read limit budget old new read reads =
+      pushed_read limit budget old new h.args last result h.pushed
+      (read (sym (last_alone reads_body reads_only) ∙ reads))
 
   pub last_fault : {P : Type 0} → (IsErrOf last errors.BodyFault → P) → IsErrOf result errors.BodyFault → P
   last_fault failed e = failed (pushed_fault h.args last result h.pushed e)

@@ -1,14 +1,17 @@
 -- What comes of a request whose body comes in frames: the first slot of path, query or headers that denotes nothing is
 -- told before the body is touched; then what reading the body tells, and then what the body denotes.
-use Rattle.std.specs.Prelude.{◌≡◌, ◌⊎◌, ◌+◌, ◌≤◌, length, OnOk, ℕ, ⊤, Bool, true, false, not, if◌then◌else◌}
-use Rattle.std.specs.Prelude.{List, [], ◌∷◌, ◌++◌, filter, Result}
+use Rattle.std.specs.Prelude.{◌≡◌, ◌⊎◌, ◌+◌, ◌≤◌, length, IfOk, OnOk, ℕ, ⊤, Bool, true, false, not, if◌then◌else◌}
+use Rattle.std.specs.Prelude.{List, [], ◌∷◌, ◌++◌, filter, Option, Result}
+use Rattle.std.specs.List.{list_any}
 use Rattle.std.specs.declared.result.Result.TheVariants.{Ok, Err}
 use Rattle.http_bodies.specs.Bodies.{BodyState, never_failing, frames_of}
-use Rattle.http_bodies.specs.Frames.{SourceState}
+use Rattle.http_bodies.specs.Frames.{SourceState, all_data}
 use Rattle.http_bodies.specs.Sources.{TakesFrames}
+use Rattle.http_bodies.specs.declared.frame.Frame.{Frame}
 use Rattle.body_reading.specs.declared.whole.BodyError.{BodyError}
+use Rattle.body_reading.specs.declared.whole.BodyError.TheVariants as reading
 use Rattle.body_reading.specs.Gathered.{GathersInto}
-use Rattle.body_reading.specs.Whole.{whole}
+use Rattle.body_reading.specs.Whole.{Reads, whole}
 use Rattle.request_parts.specs.declared.content_type.ApiEndpointBodyContentType.TheVariants.{Bytes}
 use Rattle.request_parts.specs.Requests.{Request}
 use Rattle.request_parts.specs.Wire.{wire_of}
@@ -17,10 +20,11 @@ use Rattle.handler_shapes.specs.declared.slot.Slot.TheVariants.{TypedBody, RawBo
 use Rattle.handler_shapes.specs.declared.arguments.Arg.{Arg}
 use Rattle.descriptors.specs.declared.table.Definition.{Definition}
 use Rattle.typed_values.specs.Checks.{TablePasses}
+use Rattle.typed_values.specs.declared.fault.Fault.{Fault}
 use Rattle.handler_shapes.specs.ShapeChecks.{SlotsPass}
 use Rattle.api_extract.specs.declared.extract_error.ExtractError.{ExtractError}
 use Rattle.api_extract.specs.declared.extract_error.ExtractError.TheVariants as errors
-use Rattle.api_extract.specs.Denotes.{GivenArgs, Terms, args_by, slot_told, terms}
+use Rattle.api_extract.specs.Denotes.{Denotes, GivenArgs, Terms, args_by, args_told, slot_told, terms}
 use Rattle.api_extract.specs.ReadingErrors.{reading_error}
 use Rattle.api_extract.specs.Refusals.{GivenArg}
 
@@ -92,6 +96,33 @@ IsCutShort (Err errors.OutOfMemory) = ⊤
 abbrev pub ComesTo : {T : Type 0} → Result T ExtractError → Result T ExtractError → Type 0
 ComesTo result exact = IsCutShort result ⊎ (result ≡ exact)
 
+-- an error tells of reading the body
+abbrev pub IsOfReading : ExtractError → Type 0
+IsOfReading (errors.Refused fault message) = ⊥
+IsOfReading errors.BodyFault = ⊤
+IsOfReading (errors.BodyTooLarge sum) = ⊤
+IsOfReading (errors.FrameBudget count) = ⊤
+IsOfReading errors.OutOfMemory = ⊥
+
+-- a body was read to its end, and this is its content
+pub record IsReadToEnd (limit budget : ℕ) (old new : Option (List Frame)) : Type 0 where
+  pub content : List ℕ
+  pub reads : Reads limit budget old new (Ok content)
+
+-- What an answer tells of the frames of a body that a slot reads: for arguments and for a refusal they were read to
+-- their end; a size and a number of frames have their causes in those that came, and the rest was thrown away within
+-- the budget; want of memory tells nothing of them.
+abbrev pub ReadsFor : {T : Type 0} → (limit budget : ℕ) → (old new : Option (List Frame)) → Result T ExtractError
+    → Type 0
+ReadsFor limit budget old new (Ok given) = IsReadToEnd limit budget old new
+ReadsFor limit budget old new (Err (errors.Refused fault message)) = IsReadToEnd limit budget old new
+ReadsFor limit budget old new (Err errors.BodyFault) = Reads limit budget old new (Err reading.BodyFault)
+ReadsFor limit budget old new (Err (errors.BodyTooLarge sum)) =
+    Reads limit budget old new (Err (reading.BodyTooLarge sum))
+ReadsFor limit budget old new (Err (errors.FrameBudget count)) =
+    Reads limit budget old new (Err (reading.FrameBudget count))
+ReadsFor limit budget old new (Err errors.OutOfMemory) = ⊤
+
 -- an argument is pushed behind others, unless memory ran out; an error is the answer
 abbrev pub IsPushed : List Arg → Result Arg ExtractError → Result (List Arg) ExtractError → Type 0
 IsPushed args (Ok arg) result = (result ≡ Ok (args ++ arg ∷ [])) ⊎ (result ≡ Err errors.OutOfMemory)
@@ -106,3 +137,13 @@ pub record ComesOf {T : Type 0} (budget : ℕ) (streams : Bool) (old new : Sourc
   pub most : length (frames_of body) ≤ budget + 1
   pub answer : ComesTo result (exact body)
   pub gathers : streams ≡ true → OnOk result (GathersInto budget old new body)
+
+-- what came of a source, and the answer on it: arguments are those that the request denotes with the body that came, and
+-- a refusal is of the fault that is told first
+pub record ComesFrom (terms : Terms) (slots : List Slot) (request : Request) (old new : SourceState)
+    (result : GivenArgs) : Type 0 where
+  pub comes : ComesOf terms.budget (list_any takes_stream slots) old new (extracted terms slots request) result
+  pub denotes : IfOk result (Denotes terms slots (wire_of request (all_data (frames_of comes.body))) comes.body)
+  pub refused : (fault : Fault) (message : List ℕ) → result ≡ Err (errors.Refused fault message)
+      → args_told terms slots (wire_of request (all_data (frames_of comes.body))) comes.body
+      ≡ Err (errors.Refused fault message)

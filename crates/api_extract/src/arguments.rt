@@ -1,6 +1,6 @@
 //! The arguments that a request gives the slots of a handler.
 ghost use Rattle.std.specs.Prelude.{◌≡◌, ◌⊎◌, ◌+◌, ◌-◌, ◌^◌, ◌<◌, [], ℕ, List, Some, false};
-ghost use Rattle.std.specs.Prelude.{IfOk, IsErrOf, IsOk, IsTrue, OnOk};
+ghost use Rattle.std.specs.Prelude.{IfOk, IsErrAnd, IsErrOf, IsOk, IsTrue, OnOk};
 ghost use Rattle.std.specs.List.{list_any};
 ghost use Rattle.http_bodies.specs.Bodies.{frames_of, never_failing, state_of};
 ghost use Rattle.http_bodies.specs.Frames.{all_data};
@@ -11,7 +11,8 @@ ghost use Rattle.typed_values.specs.declared.fault.Fault.{Fault as FaultValue};
 ghost use Rattle.handler_shapes.specs.Arguments.{ArgsFit};
 ghost use Rattle.api_extract.specs.declared.extract_error.ExtractError.{ExtractError as Extract};
 ghost use Rattle.api_extract.specs.Denotes.{Denotes, args_told, terms};
-ghost use Rattle.api_extract.specs.Extraction.{AreServed, ComesTo, extracted, shared_told};
+ghost use Rattle.api_extract.specs.Extraction.{AreServed, ComesTo, IsOfReading, ReadsFor};
+ghost use Rattle.api_extract.specs.Extraction.{extracted, shared_told};
 ghost use Rattle.api_extract.specs.Extraction.{reads_body, takes_body, takes_stream};
 
 use crate::bodies::{Reading, body_argument};
@@ -77,11 +78,17 @@ pub fn extract(
     ensures moved { OnOk result
         (IsTrue (list_any takes_stream slots.now) → body.new ≡ never_failing []) }
 
-    // A fault comes only where a body is read, behind slots that are given their arguments, and
-    // the count of faults rose; a count that rose is told as that fault.
-    ensures asked { IsErrOf result ExtractError.BodyFault
-        → IsTrue (list_any reads_body slots.now)
+    // A fault of the body, its size and the number of its frames are told only where a slot reads
+    // it, behind slots that are given their arguments. There each of them has its cause in the
+    // frames that came, and else the body was read to its end.
+    ensures asked { IsErrAnd result IsOfReading → IsTrue (list_any reads_body slots.now)
         × IsOk (shared_told table.now slots.now request.now) }
+    ensures read { IsTrue (list_any reads_body slots.now)
+        → IsOk (shared_told table.now slots.now request.now)
+        → ReadsFor limit budget (Some (frames_of body.old)) (Some (frames_of body.new)) result }
+
+    // A fault comes only where the count of faults rose; a count that rose is told as that fault,
+    // but where the body went into a stream.
     ensures fault { IsErrOf result ExtractError.BodyFault
         → HasFailed (state_of body.old) (state_of body.new) }
     ensures counts { ¬ IsErrOf result ExtractError.BodyFault

@@ -1,6 +1,6 @@
 // The argument of the slot that takes the body.
 ghost use Rattle.std.specs.Prelude.{◌≡◌, ◌⊎◌, ◌+◌, ◌-◌, ◌^◌, ◌<◌, [], ℕ, true, false};
-ghost use Rattle.std.specs.Prelude.{IfSome, IsErrOf, Some};
+ghost use Rattle.std.specs.Prelude.{IfSome, IsErrAnd, IsErrOf, Some};
 ghost use Rattle.http_bodies.specs.Bodies.{BodyState, frames_of, never_failing, state_of};
 ghost use Rattle.http_bodies.specs.Sources.{GoesOn, HasFailed};
 ghost use Rattle.body_reading.specs.Whole.{TakesAtMost, whole};
@@ -9,8 +9,9 @@ ghost use Rattle.typed_values.specs.Checks.{TablePasses};
 ghost use Rattle.handler_shapes.specs.ShapeChecks.{SlotPasses};
 ghost use Rattle.api_extract.specs.Answers.{IsGiven};
 ghost use Rattle.api_extract.specs.Denotes.{slot_told, terms};
-ghost use Rattle.api_extract.specs.Extraction.{ComesOf, ComesTo, reads_body, slot_extracted};
-ghost use Rattle.api_extract.specs.Extraction.{slot_given, takes_body, takes_stream};
+ghost use Rattle.api_extract.specs.Extraction.{ComesOf, ComesTo, IsOfReading, ReadsFor};
+ghost use Rattle.api_extract.specs.Extraction.{reads_body, slot_extracted, slot_given, takes_body};
+ghost use Rattle.api_extract.specs.Extraction.{takes_stream};
 
 use crate::extract_error::ExtractError;
 use crate::typed_body::typed_argument;
@@ -49,7 +50,9 @@ pub(crate) fn body_argument(
     ensures most { (body.new ≡ never_failing []) ⊎ TakesAtMost (reading.budget + 1)
         (Some (frames_of body.old)) (Some (frames_of body.new)) }
     ensures moved { takes_stream slot.now ≡ true → body.new ≡ never_failing [] }
-    ensures asked { IsErrOf result ExtractError.BodyFault → reads_body slot.now ≡ true }
+    ensures asked { IsErrAnd result IsOfReading → reads_body slot.now ≡ true }
+    ensures read { reads_body slot.now ≡ true → ReadsFor reading.limit reading.budget
+        (Some (frames_of body.old)) (Some (frames_of body.new)) result }
     ensures fault { IsErrOf result ExtractError.BodyFault
         → HasFailed (state_of body.old) (state_of body.new) }
     ensures counts { ¬ IsErrOf result ExtractError.BodyFault
@@ -83,9 +86,14 @@ pub(crate) fn source_argument<S: FrameSource>(
     ensures came { ComesOf reading.budget (takes_stream slot.now) (S.state source.old)
         (S.state source.new) (λ body. slot_extracted (terms table.now reading.content_type
         reading.limit reading.budget) request.now body slot.now) result }
-    ensures asked { IsErrOf result ExtractError.BodyFault → reads_body slot.now ≡ true }
+    ensures asked { IsErrAnd result IsOfReading → reads_body slot.now ≡ true }
+    ensures read { reads_body slot.now ≡ true → ReadsFor reading.limit reading.budget
+        (S.state source.old).left (S.state source.new).left result }
     ensures fault { IsErrOf result ExtractError.BodyFault
         → HasFailed (S.state source.old) (S.state source.new) }
+    ensures counts { ¬ IsErrOf result ExtractError.BodyFault
+        → (takes_stream slot.now ≡ true)
+        ⊎ ((S.state source.new).faults ≡ (S.state source.old).faults) }
     ensures goes_on { GoesOn (S.state source.old) (S.state source.new) }
 {
     match slot {
@@ -117,6 +125,8 @@ fn whole_argument<S: FrameSource>(
     ensures came { ComesOf reading.budget false (S.state source.old) (S.state source.new)
         (λ body. slot_extracted (terms table.now reading.content_type reading.limit reading.budget)
         request.now body slot.now) result }
+    ensures read { ReadsFor reading.limit reading.budget (S.state source.old).left
+        (S.state source.new).left result }
     ensures fault { IsErrOf result ExtractError.BodyFault
         → HasFailed (S.state source.old) (S.state source.new) }
     ensures counts { ¬ IsErrOf result ExtractError.BodyFault

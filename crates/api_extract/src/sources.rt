@@ -1,11 +1,13 @@
 //! The same of a source of frames of one's own.
-ghost use Rattle.std.specs.Prelude.{◌≡◌, ◌⊎◌, ◌-◌, ◌^◌, ◌<◌, IfOk, IsErrOf, IsOk, IsTrue, false};
+ghost use Rattle.std.specs.Prelude.{◌≡◌, ◌⊎◌, ◌-◌, ◌^◌, ◌<◌, false};
+ghost use Rattle.std.specs.Prelude.{IfOk, IsErrAnd, IsErrOf, IsOk, IsTrue};
 ghost use Rattle.std.specs.List.{list_any};
 ghost use Rattle.http_bodies.specs.Sources.{GoesOn, HasFailed};
 ghost use Rattle.handler_shapes.specs.Arguments.{ArgsFit};
 ghost use Rattle.api_extract.specs.declared.extract_error.ExtractError.{ExtractError as Extract};
 ghost use Rattle.api_extract.specs.Denotes.{terms};
-ghost use Rattle.api_extract.specs.Extraction.{AreServed, ComesOf, extracted, shared_told};
+ghost use Rattle.api_extract.specs.Extraction.{AreServed, ComesFrom, IsOfReading, ReadsFor};
+ghost use Rattle.api_extract.specs.Extraction.{shared_told};
 ghost use Rattle.api_extract.specs.Extraction.{reads_body, takes_body, takes_stream};
 
 use crate::bodies::{Reading, source_argument};
@@ -36,10 +38,10 @@ pub fn extract_from<S: FrameSource>(
     requires budget { budget < 2 ^ 64 - 1 }
 
     // The answer is what the request and the frames that came call for, unless a call on the
-    // source failed or memory ran out.
-    ensures came { ComesOf budget (list_any takes_stream slots.now) (S.state source.old)
-        (S.state source.new) (extracted (terms table.now content_type limit budget) slots.now
-        request.now) result }
+    // source failed or memory ran out: arguments are exactly those that the request denotes with
+    // these frames, and a refusal is of the fault that is told first.
+    ensures came { ComesFrom (terms table.now content_type limit budget) slots.now request.now
+        (S.state source.old) (S.state source.new) result }
     ensures fits { IfOk result (ArgsFit table.now slots.now) }
 
     // Where a path, a query or headers denote nothing, it is that refusal, and the source stays.
@@ -49,13 +51,22 @@ pub fn extract_from<S: FrameSource>(
         → source.new ≡ source.old }
     ensures unasked { list_any takes_body slots.now ≡ false → source.new ≡ source.old }
 
-    // A fault comes only where a body is read, behind slots that are given their arguments, and
-    // the count of faults rose.
-    ensures asked { IsErrOf result ExtractError.BodyFault
-        → IsTrue (list_any reads_body slots.now)
+    // A fault of the body, its size and the number of its frames are told only where a slot reads
+    // it, behind slots that are given their arguments. There each of them has its cause in the
+    // frames that came, and else the body was read to its end.
+    ensures asked { IsErrAnd result IsOfReading → IsTrue (list_any reads_body slots.now)
         × IsOk (shared_told table.now slots.now request.now) }
+    ensures read { IsTrue (list_any reads_body slots.now)
+        → IsOk (shared_told table.now slots.now request.now)
+        → ReadsFor limit budget (S.state source.old).left (S.state source.new).left result }
+
+    // A fault comes only where the count of faults rose; a count that rose is told as that fault,
+    // but where the body went into a stream.
     ensures fault { IsErrOf result ExtractError.BodyFault
         → HasFailed (S.state source.old) (S.state source.new) }
+    ensures counts { ¬ IsErrOf result ExtractError.BodyFault
+        → IsTrue (list_any takes_stream slots.now)
+        ⊎ ((S.state source.new).faults ≡ (S.state source.old).faults) }
     ensures goes_on { GoesOn (S.state source.old) (S.state source.new) }
 {
     let (shared, last) = without_body(slots.as_slice());

@@ -3,16 +3,17 @@ use Rattle.std.proofs.lemmas.Result.{IfOk-from_err, err_from_is_err_and}
 use Rattle.std.specs.Prelude.{IsTrue, is_err}
 use Rattle.std.specs.List.{list_any}
 use Rattle.std.specs.declared.result.Result.TheVariants.{Ok, Err}
-use Rattle.http_bodies.specs.Bodies.{never_failing}
+use Rattle.http_bodies.specs.Bodies.{frames_of, never_failing}
 use Rattle.handler_shapes.specs.declared.slot.Slot.{Slot}
 use Rattle.api_extract.specs.Answers.{IsGiven}
 use Rattle.api_extract.specs.Denotes.{GivenArgs, args_by, terms}
 use Rattle.api_extract.specs.Extraction.{plainly_told, takes_stream}
 use Rattle.api_extract.proofs.Comes.{comes_denoted, comes_fit, comes_refused}
-use Rattle.api_extract.proofs.Joined.{IsAnsweredBehind, all_come, front_comes, front_early, front_no_fault, given_early}
-use Rattle.api_extract.proofs.Joined.{given_in_front, told_in_front}
+use Rattle.api_extract.proofs.GivenAnswers.{fault_of_reading}
+use Rattle.api_extract.proofs.Joined.{IsAnsweredBehind, all_come, front_comes, front_early, front_not_reading}
+use Rattle.api_extract.proofs.Joined.{front_read, given_early, given_in_front, told_in_front}
 use Rattle.api_extract.proofs.Joined.{last_asked, last_comes, last_counts, last_early, last_fault, last_moved}
-use Rattle.api_extract.proofs.Joined.{last_unasked, no_stream}
+use Rattle.api_extract.proofs.Joined.{last_read, last_unasked, no_reader, no_stream}
 use Rattle.api_extract.proofs.arguments.extract.Goals as goal
 
 -- a slot before the body gives an error
@@ -48,8 +49,10 @@ returns-in_err-args c =
       most = inr (record { came = []; taken = refl; most = omega arith });
       moved =
           IfOk-from_err result (λ _. IsTrue (list_any takes_stream slots) → c.args.body.now ≡ never_failing []) error;
-      asked = λ e. front_no_fault table request slots result told e;
-      fault = λ e. front_no_fault table request slots result told e;
+      asked = λ e. front_not_reading table request slots result told e;
+      read = λ reads ok. front_read table request slots result told c.args.limit c.args.budget
+          (Some (frames_of c.args.body.now)) (Some (frames_of c.args.body.now)) ok;
+      fault = λ e. front_not_reading table request slots result told (fault_of_reading result e);
       counts = λ h. inr refl;
     }
 
@@ -87,6 +90,9 @@ returns-in-Some c =
       most = c.body_argument.ensures.most;
       moved = last_moved table request slots slot last result behind c.body_argument.ensures.moved;
       asked = last_asked table request slots slot last result behind c.body_argument.ensures.asked;
+      read = λ reads ok. last_read table request slots slot last result behind c.args.limit c.args.budget
+          (Some (frames_of c.args.body.now)) (Some (frames_of c.body_argument.new.body))
+          c.body_argument.ensures.read reads;
       fault = last_fault table request slots slot last result behind c.body_argument.ensures.fault;
       counts = last_counts table request slots slot last result behind c.body_argument.ensures.counts;
     }
@@ -118,7 +124,8 @@ returns-in-None c =
       unasked = λ e. refl;
       most = inr (record { came = []; taken = refl; most = omega arith });
       moved = λ streams. no_stream table request slots args front streams;
-      asked = λ e. absurd (cc e);
+      asked = λ e. absurd e;
+      read = λ reads ok. no_reader table request slots args front reads;
       fault = λ e. absurd (cc e);
       counts = λ h. inr refl;
     }

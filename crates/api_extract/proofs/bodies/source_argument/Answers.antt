@@ -18,3 +18,8 @@ returns-in_err-body-in-StreamBody-clause-came g c =
     (λ body. slot_extracted
     (terms c.args.table.now reading.content_type reading.limit reading.budget) c.args.request.now body
     c.args.slot.now) most)
+
+pub returns-in_err-body-in-StreamBody-clause-asked : goal.returns-in_err-body-in-StreamBody-clause-asked
+returns-in_err-body-in-StreamBody-clause-asked g c =
+    let p = err_from_is_err_and c.from_residual.result c.from_residual.ensures.1 in
+    rw (p.1, p.2) (λ e. absurd e)

@@ -5,9 +5,9 @@ use Rattle.http_bodies.specs.Bodies.{never_failing}
 use Rattle.request_parts.specs.Wire.{wire_of}
 use Rattle.api_extract.specs.Denotes.{slot_told, terms}
 use Rattle.api_extract.specs.ReadingErrors.{reading_error}
-use Rattle.api_extract.proofs.Contents.{content_read, error_read, read_came}
-use Rattle.api_extract.proofs.GivenAnswers.{given_no_fault}
-use Rattle.api_extract.proofs.NoFaults.{slot_no_fault}
+use Rattle.api_extract.proofs.Contents.{content_read, content_told, error_read, error_told, read_came}
+use Rattle.api_extract.proofs.GivenAnswers.{fault_of_reading, given_not_reading}
+use Rattle.api_extract.proofs.NoFaults.{slot_not_reading}
 use Rattle.api_extract.proofs.bodies.whole_argument.Goals as goal
 
 pub returns-in_err-content-clause-came : goal.returns-in_err-content-clause-came
@@ -45,6 +45,27 @@ returns-clause-fault g c =
     let given = terms c.args.table.now c.args.reading.content_type 0 0 in
     let wire = wire_of c.args.request.now c.in_ok-content.content in
     λ e. absurd
-    (given_no_fault c.content_argument.result (slot_told given wire (never_failing []) c.args.slot.now)
+    (given_not_reading c.content_argument.result (slot_told given wire (never_failing []) c.args.slot.now)
     (c.content_argument.ensures 0 0 (never_failing []))
-    (slot_no_fault given wire (never_failing []) c.args.slot.now) e)
+    (slot_not_reading given wire (never_failing []) c.args.slot.now)
+    (fault_of_reading c.content_argument.result e))
+
+pub returns-in_err-content-clause-read : goal.returns-in_err-content-clause-read
+returns-in_err-content-clause-read g c =
+    let old = g.S.FrameSource.state c.args.source.now in
+    let new = g.S.FrameSource.state c.read_whole.new.source in
+    let reading = c.args.reading in
+    let p = err_from_is_err_and c.from_residual.result c.from_residual.ensures.1 in
+    rw (p.1, p.2) (
+    error_told reading.limit reading.budget old.left new.left c.in_err-content.field-0.0 c.in_err-content.ensures.came)
+
+pub returns-clause-read : goal.returns-clause-read
+returns-clause-read g c =
+    let old = g.S.FrameSource.state c.args.source.now in
+    let new = g.S.FrameSource.state c.read_whole.new.source in
+    let reading = c.args.reading in
+    let given = terms c.args.table.now reading.content_type 0 0 in
+    let wire = wire_of c.args.request.now c.in_ok-content.content in
+    content_told reading.limit reading.budget old.left new.left c.in_ok-content.content c.content_argument.result
+    (slot_told given wire (never_failing []) c.args.slot.now) (c.content_argument.ensures 0 0 (never_failing []))
+    (slot_not_reading given wire (never_failing []) c.args.slot.now) c.in_ok-content.ensures.came

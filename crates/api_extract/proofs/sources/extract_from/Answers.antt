@@ -1,4 +1,4 @@
-use Rattle.std.proofs.Common.{◌≡◌, [], Some, None, Bor, refl, sym, ap, subst, arith}
+use Rattle.std.proofs.Common.{◌≡◌, inr, [], Some, None, Bor, refl, sym, ap, subst, arith}
 use Rattle.std.proofs.lemmas.Result.{IfOk-from_err, err_from_is_err_and}
 use Rattle.std.specs.Prelude.{is_err}
 use Rattle.std.specs.List.{list_any}
@@ -8,11 +8,13 @@ use Rattle.handler_shapes.specs.declared.slot.Slot.{Slot}
 use Rattle.api_extract.specs.Answers.{IsGiven}
 use Rattle.api_extract.specs.Denotes.{GivenArgs, args_by, terms}
 use Rattle.api_extract.specs.Extraction.{extracted, plainly_told, takes_stream}
-use Rattle.api_extract.proofs.Comes.{comes_fit}
+use Rattle.api_extract.proofs.Comes.{comes_denoted, comes_fit, comes_refused}
 use Rattle.api_extract.proofs.Contents.{nothing_came}
-use Rattle.api_extract.proofs.Joined.{IsAnsweredBehind, all_come, front_comes, front_early, front_no_fault, given_early}
-use Rattle.api_extract.proofs.Joined.{given_in_front, told_in_front}
-use Rattle.api_extract.proofs.Joined.{last_asked, last_came, last_early, last_fault, last_unasked, no_stream}
+use Rattle.api_extract.proofs.GivenAnswers.{fault_of_reading}
+use Rattle.api_extract.proofs.Joined.{IsAnsweredBehind, all_come, front_comes, front_early, front_not_reading}
+use Rattle.api_extract.proofs.Joined.{front_read, given_early, given_in_front, told_in_front}
+use Rattle.api_extract.proofs.Joined.{last_asked, last_came, last_counts, last_early, last_fault, last_read}
+use Rattle.api_extract.proofs.Joined.{last_unasked, no_reader, no_stream}
 use Rattle.api_extract.proofs.sources.extract_from.Goals as goal
 
 -- a slot before the body gives an error
@@ -35,19 +37,25 @@ returns-in_err-args g c =
     c.without_body.ensures.shared c.without_body.ensures.joined c.without_body.ensures.last result error given in
     let all = terms table c.args.content_type c.args.limit c.args.budget in
     let comes = front_comes table request slots result told c.args.content_type c.args.limit c.args.budget in
+    let came = nothing_came c.args.budget (list_any takes_stream slots) (g.S.FrameSource.state c.args.source.now)
+    (extracted all slots request) result comes (λ streams. IfOk-from_err result (λ _. ⊥) error) in
     record {
-      came =
-          nothing_came c.args.budget (list_any takes_stream slots) (g.S.FrameSource.state c.args.source.now)
-          (extracted all slots request) result comes
-          (λ streams. IfOk-from_err result (λ _. ⊥) error);
+      came = record {
+        comes = came;
+        denotes = comes_denoted all slots request came.body result came.answer;
+        refused = comes_refused all slots request came.body result came.answer;
+      };
       fits =
           comes_fit all slots request (never_failing []) result
           (comes (never_failing [])) c.requires.served.definitions c.requires.served.each;
       early = front_early table request slots result told;
       untouched = λ other e. refl;
       unasked = λ e. refl;
-      asked = λ e. front_no_fault table request slots result told e;
-      fault = λ e. front_no_fault table request slots result told e;
+      asked = λ e. front_not_reading table request slots result told e;
+      read = λ reads ok. front_read table request slots result told c.args.limit c.args.budget
+          (g.S.FrameSource.state c.args.source.now).left (g.S.FrameSource.state c.args.source.now).left ok;
+      fault = λ e. front_not_reading table request slots result told (fault_of_reading result e);
+      counts = λ h. inr refl;
       goes_on = record { later = omega arith; same = refl };
     }
 
@@ -75,14 +83,22 @@ returns-in-Some g c =
     (g.S.FrameSource.state c.args.source.now)
     (g.S.FrameSource.state c.source_argument.new.source) c.source_argument.ensures.came in
     record {
-      came = came;
+      came = record {
+        comes = came;
+        denotes = comes_denoted all slots request came.body result came.answer;
+        refused = comes_refused all slots request came.body result came.answer;
+      };
       fits =
           comes_fit all slots request came.body result came.answer c.requires.served.definitions c.requires.served.each;
       early = λ other e. last_early table request slots slot last result behind other e;
       untouched = λ other e. last_early table request slots slot last result behind other e;
       unasked = λ e. last_unasked table request slots slot last result behind e;
       asked = last_asked table request slots slot last result behind c.source_argument.ensures.asked;
+      read = λ reads ok. last_read table request slots slot last result behind c.args.limit c.args.budget
+          (g.S.FrameSource.state c.args.source.now).left (g.S.FrameSource.state c.source_argument.new.source).left
+          c.source_argument.ensures.read reads;
       fault = last_fault table request slots slot last result behind c.source_argument.ensures.fault;
+      counts = last_counts table request slots slot last result behind c.source_argument.ensures.counts;
       goes_on = c.source_argument.ensures.goes_on;
     }
 
@@ -100,18 +116,23 @@ returns-in-None g c =
     c.in_ok-args.ensures in
     let all = terms table c.args.content_type c.args.limit c.args.budget in
     let comes = all_come table request slots args front c.args.content_type c.args.limit c.args.budget in
+    let came = nothing_came c.args.budget (list_any takes_stream slots) (g.S.FrameSource.state c.args.source.now)
+    (extracted all slots request) (Ok args) comes (λ streams. no_stream table request slots args front streams) in
     record {
-      came =
-          nothing_came c.args.budget (list_any takes_stream slots) (g.S.FrameSource.state c.args.source.now)
-          (extracted all slots request) (Ok args) comes
-          (λ streams. no_stream table request slots args front streams);
+      came = record {
+        comes = came;
+        denotes = comes_denoted all slots request came.body (Ok args) came.answer;
+        refused = comes_refused all slots request came.body (Ok args) came.answer;
+      };
       fits =
           comes_fit all slots request (never_failing []) (Ok args)
           (comes (never_failing [])) c.requires.served.definitions c.requires.served.each;
       early = λ other e. given_early table request slots [] args front other e;
       untouched = λ other e. refl;
       unasked = λ e. refl;
-      asked = λ e. absurd (cc e);
+      asked = λ e. absurd e;
+      read = λ reads ok. no_reader table request slots args front reads;
       fault = λ e. absurd (cc e);
+      counts = λ h. inr refl;
       goes_on = record { later = omega arith; same = refl };
     }
