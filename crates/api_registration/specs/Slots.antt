@@ -36,7 +36,7 @@ pub record IsForm (table : List Definition) (desc : Desc) : Type 0 where
   pub has_fields : struct_fields table desc ≡ Some fields
   pub scalar : (field : Field) → Contains fields field → IsScalarType table field.desc
 
--- Under a media type a body of a type is read: under JSON any, under that of forms a form, under no other any.
+-- Under a media type a body of a type is read: under JSON any type, under that of forms a form, under the others none.
 abbrev pub IsReadAs : List Definition → Desc → ApiEndpointBodyContentType → Type 0
 IsReadAs table desc Json = ⊤
 IsReadAs table desc UrlEncoded = IsForm table desc

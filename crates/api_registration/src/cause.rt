@@ -1,7 +1,7 @@
 //! The causes for which an endpoint is refused.
 
-/// Why an endpoint is refused, in the order in which causes are looked for. Those of tags and the two
-/// of documents stand only against an endpoint that documents show.
+/// Why an endpoint is refused, in the order in which causes are looked for. Those of tags,
+/// `VisibleWildcard` and `DefinitionClash` stand only against an endpoint that documents show.
 #[derive(Clone, Copy, Debug, PartialEq, Eq)]
 pub enum RegisterCause {
     /// It has no tag, and at least one is asked for.
@@ -30,7 +30,8 @@ pub enum RegisterCause {
     BadHeaderName,
     /// Documents show it, and its path ends in a wildcard.
     VisibleWildcard,
-    /// A type of its handler does not pass its checks, or parameters are no struct of any names.
+    /// A type of its handler does not pass its checks, or parameters or named headers are no struct
+    /// of any names.
     UnsupportedSchema,
     /// Two slots take the body, or one that is not the last.
     TwoBodies,
@@ -42,10 +43,10 @@ pub enum RegisterCause {
     BadSuccessCode,
     /// Its success has a code, and its errors have no type.
     NoErrorSchema,
-    /// An earlier endpoint serves its method and path in a version of its own.
+    /// An earlier endpoint serves its method and a path of the same shape, in versions that overlap.
     PathClash,
-    /// A definition of its handler differs from that of an earlier endpoint that documents show beside
-    /// it.
+    /// A definition of its handler differs from that of an earlier endpoint that documents show
+    /// beside it.
     DefinitionClash,
 }
 

@@ -1,7 +1,6 @@
 //! The causes that stand against single parameters.
 ghost use Rattle.std.specs.Prelude.{◌≡◌, ◌↔◌, IsTrue, map, filter, Contains, count_by};
 ghost use Rattle.std.specs.Option.{option_copied};
-ghost use Rattle.std.specs.Str.{encode_utf8_all};
 ghost use Rattle.http_header.specs.FieldName.{IsFieldName};
 ghost use Rattle.descriptors.specs.declared.desc.Presence.TheVariants.{Required};
 ghost use Rattle.flat_maps.specs.Flat.{resolved};

@@ -129,9 +129,8 @@ fn not_list_told(
 /// of memory.
 ///
 /// An endpoint that serves the same is looked for by the index, among those with a template of the
-/// same shape alone. For a definition that differs each endpoint before is gone through: this takes
-/// time linear in the number of endpoints before it, times the number of definitions in the table
-/// of the new one.
+/// same shape alone. For a definition that differs each endpoint before is gone through, with a
+/// look-up and a comparison for each definition in the table of the new one.
 pub fn first_cause<E: Declared>(
     alloc: Global,
     config: &TagConfig,
