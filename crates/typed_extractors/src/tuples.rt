@@ -175,7 +175,7 @@ fn slots_with<S: ExclusiveExtractor, R: RequestExtractor>(
 }
 
 // The same, but that an error may leave the definitions of the first part in the table. The first
-// slot stands in a list of its own, which costs less to let go than a slot does.
+// slot stands in a list of its own, to which those of the others are appended.
 fn add_slots<S: ExclusiveExtractor, R: RequestExtractor>(
     alloc: Global,
     table: &mut DescTable,
