@@ -3,3 +3,4 @@ pub mod Arguments
 pub mod ShapeChecks
 pub mod ShapeLengths
 pub mod SlotFields
+pub mod BodySlots
