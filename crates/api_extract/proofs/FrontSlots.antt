@@ -11,9 +11,10 @@ use Rattle.request_parts.specs.Requests.{Request}
 use Rattle.handler_shapes.specs.declared.slot.Slot.{Slot}
 use Rattle.handler_shapes.specs.declared.slot.Slot.TheVariants.{Path, Query, Header, PagedQuery, TypedBody, RawBody}
 use Rattle.handler_shapes.specs.declared.slot.Slot.TheVariants.{StreamBody}
+use Rattle.handler_shapes.specs.BodySlots.{BodyComesLast, takes_body}
 use Rattle.descriptors.specs.declared.table.Definition.{Definition}
 use Rattle.api_extract.specs.Denotes.{GivenArgs, args_by, before_args, terms}
-use Rattle.api_extract.specs.Extraction.{BodyComesLast, plainly_told, reads_body, slot_given, takes_body, takes_stream}
+use Rattle.api_extract.specs.Extraction.{plainly_told, reads_body, slot_given, takes_stream}
 use Rattle.api_extract.specs.Refusals.{GivenArg}
 use Rattle.api_extract.proofs.SlotLists.{args_joined, behind}
 

@@ -16,14 +16,14 @@ use Rattle.request_parts.specs.Requests.{Request}
 use Rattle.request_parts.specs.Wire.{wire_of}
 use Rattle.handler_shapes.specs.declared.slot.Slot.{Slot}
 use Rattle.handler_shapes.specs.declared.arguments.Arg.{Arg}
+use Rattle.handler_shapes.specs.BodySlots.{takes_body}
 use Rattle.descriptors.specs.declared.table.Definition.{Definition}
 use Rattle.api_extract.specs.declared.extract_error.ExtractError.{ExtractError}
 use Rattle.api_extract.specs.declared.extract_error.ExtractError.TheVariants as errors
 use Rattle.api_extract.specs.Answers.{IsGiven}
 use Rattle.api_extract.specs.Denotes.{GivenArgs, args_by, terms}
 use Rattle.api_extract.specs.Extraction.{ComesOf, ComesTo, IsCutShort, IsOfReading, IsPushed, ReadsFor, extracted}
-use Rattle.api_extract.specs.Extraction.{plainly_told, reads_body, shared_told, slot_extracted, takes_body}
-use Rattle.api_extract.specs.Extraction.{takes_stream}
+use Rattle.api_extract.specs.Extraction.{plainly_told, reads_body, shared_told, slot_extracted, takes_stream}
 use Rattle.api_extract.specs.Refusals.{GivenArg}
 use Rattle.api_extract.proofs.FrontSlots.{IsBodyAlone, OnlyBodies, TakesNone, any_behind, given_joined, keeps_front}
 use Rattle.api_extract.proofs.FrontSlots.{reads_only, streams_only, takes_only}

@@ -21,6 +21,7 @@ use Rattle.handler_shapes.specs.declared.arguments.Arg.{Arg}
 use Rattle.descriptors.specs.declared.table.Definition.{Definition}
 use Rattle.typed_values.specs.Checks.{TablePasses}
 use Rattle.typed_values.specs.declared.fault.Fault.{Fault}
+use Rattle.handler_shapes.specs.BodySlots.{BodyComesLast, takes_body}
 use Rattle.handler_shapes.specs.ShapeChecks.{SlotsPass}
 use Rattle.api_extract.specs.declared.extract_error.ExtractError.{ExtractError}
 use Rattle.api_extract.specs.declared.extract_error.ExtractError.TheVariants as errors
@@ -33,11 +34,6 @@ abbrev pub reads_body : Slot → Bool
 reads_body (TypedBody desc name) = true
 reads_body RawBody = true
 reads_body _ = false
-
--- whether a slot takes the body, whole or as a stream
-abbrev pub takes_body : Slot → Bool
-takes_body StreamBody = true
-takes_body slot = reads_body slot
 
 -- whether a slot takes the body as a stream
 abbrev pub takes_stream : Slot → Bool
@@ -70,12 +66,6 @@ plainly_told table request = slot_told (terms table Bytes 0 0) (wire_of request 
 -- what the slots of path, query and headers are given; it is asked before the body is touched
 abbrev pub shared_told : List Definition → List Slot → Request → GivenArgs
 shared_told table slots request = args_by (plainly_told table request) (filter (λ slot. not (takes_body slot)) slots)
-
--- at most one slot takes the body, and it is the last one
-abbrev pub BodyComesLast : List Slot → Type 0
-BodyComesLast [] = ⊤
-BodyComesLast (slot ∷ []) = ⊤
-BodyComesLast (slot ∷ next ∷ slots) = (takes_body slot ≡ false) × BodyComesLast (next ∷ slots)
 
 -- the definitions and the slots pass their checks, and the body comes last
 pub record AreServed (table : List Definition) (slots : List Slot) : Type 0 where

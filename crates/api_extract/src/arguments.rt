@@ -9,11 +9,11 @@ ghost use Rattle.body_reading.specs.Whole.{TakesAtMost};
 ghost use Rattle.request_parts.specs.Wire.{wire_of};
 ghost use Rattle.typed_values.specs.declared.fault.Fault.{Fault as FaultValue};
 ghost use Rattle.handler_shapes.specs.Arguments.{ArgsFit};
+ghost use Rattle.handler_shapes.specs.BodySlots.{takes_body};
 ghost use Rattle.api_extract.specs.declared.extract_error.ExtractError.{ExtractError as Extract};
 ghost use Rattle.api_extract.specs.Denotes.{Denotes, args_told, terms};
 ghost use Rattle.api_extract.specs.Extraction.{AreServed, ComesTo, IsOfReading, ReadsFor};
-ghost use Rattle.api_extract.specs.Extraction.{extracted, shared_told};
-ghost use Rattle.api_extract.specs.Extraction.{reads_body, takes_body, takes_stream};
+ghost use Rattle.api_extract.specs.Extraction.{extracted, reads_body, shared_told, takes_stream};
 
 use crate::bodies::{Reading, body_argument};
 use crate::extract_error::ExtractError;

@@ -6,12 +6,12 @@ ghost use Rattle.http_bodies.specs.Sources.{GoesOn, HasFailed};
 ghost use Rattle.body_reading.specs.Whole.{TakesAtMost, whole};
 ghost use Rattle.request_parts.specs.Wire.{wire_of};
 ghost use Rattle.typed_values.specs.Checks.{TablePasses};
+ghost use Rattle.handler_shapes.specs.BodySlots.{takes_body};
 ghost use Rattle.handler_shapes.specs.ShapeChecks.{SlotPasses};
 ghost use Rattle.api_extract.specs.Answers.{IsGiven};
 ghost use Rattle.api_extract.specs.Denotes.{slot_told, terms};
 ghost use Rattle.api_extract.specs.Extraction.{ComesOf, ComesTo, IsOfReading, ReadsFor};
-ghost use Rattle.api_extract.specs.Extraction.{reads_body, slot_extracted, slot_given, takes_body};
-ghost use Rattle.api_extract.specs.Extraction.{takes_stream};
+ghost use Rattle.api_extract.specs.Extraction.{reads_body, slot_extracted, slot_given, takes_stream};
 
 use crate::extract_error::ExtractError;
 use crate::typed_body::typed_argument;

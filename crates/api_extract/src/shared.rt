@@ -1,10 +1,11 @@
 // The arguments of a path, a query and headers.
 ghost use Rattle.std.specs.Prelude.{◌≡◌, false, All};
 ghost use Rattle.typed_values.specs.Checks.{TablePasses, DescPasses};
+ghost use Rattle.handler_shapes.specs.BodySlots.{takes_body};
 ghost use Rattle.handler_shapes.specs.ShapeChecks.{SlotPasses, SlotsPass};
 ghost use Rattle.api_extract.specs.Answers.{IsGiven, IsTold};
 ghost use Rattle.api_extract.specs.Denotes.{args_by};
-ghost use Rattle.api_extract.specs.Extraction.{plainly_told, takes_body};
+ghost use Rattle.api_extract.specs.Extraction.{plainly_told};
 ghost use Rattle.request_parts.specs.Wire.{query_text};
 ghost use Rattle.request_words.specs.Pairs.{query_pairs};
 ghost use Rattle.flat_maps.specs.declared.repeats.Repeats.TheVariants.{Refuse};

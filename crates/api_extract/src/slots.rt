@@ -1,6 +1,7 @@
 // The slots that take the body, and those before them.
 ghost use Rattle.std.specs.Prelude.{◌≡◌, ◌++◌, [], ◌∷◌, true, false, All, IfSome, MatchOption};
-ghost use Rattle.api_extract.specs.Extraction.{BodyComesLast, IsPushed, takes_body};
+ghost use Rattle.handler_shapes.specs.BodySlots.{BodyComesLast, takes_body};
+ghost use Rattle.api_extract.specs.Extraction.{IsPushed};
 
 use crate::extract_error::ExtractError;
 use handler_shapes::{Arg, ArgList, Slot};
@@ -15,7 +16,7 @@ pub(crate) fn without_body(slots: &[Slot]) -> (&[Slot], Option<&Slot>)
 {
     match slots.split_last() {
         Some((last, shared)) => {
-            if takes_body(last) {
+            if last.takes_body() {
                 (shared, Some(last))
             } else {
                 (slots, None)
@@ -23,13 +24,6 @@ pub(crate) fn without_body(slots: &[Slot]) -> (&[Slot], Option<&Slot>)
         }
         None => (slots, None),
     }
-}
-
-// Whether a slot takes the body, whole or as a stream.
-fn takes_body(slot: &Slot) -> bool
-    ensures { result ≡ takes_body slot.now }
-{
-    matches!(slot, Slot::TypedBody(..) | Slot::RawBody | Slot::StreamBody)
 }
 
 /// An argument behind others.

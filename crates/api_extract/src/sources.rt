@@ -4,11 +4,11 @@ ghost use Rattle.std.specs.Prelude.{IfOk, IsErrAnd, IsErrOf, IsOk, IsTrue};
 ghost use Rattle.std.specs.List.{list_any};
 ghost use Rattle.http_bodies.specs.Sources.{GoesOn, HasFailed};
 ghost use Rattle.handler_shapes.specs.Arguments.{ArgsFit};
+ghost use Rattle.handler_shapes.specs.BodySlots.{takes_body};
 ghost use Rattle.api_extract.specs.declared.extract_error.ExtractError.{ExtractError as Extract};
 ghost use Rattle.api_extract.specs.Denotes.{terms};
 ghost use Rattle.api_extract.specs.Extraction.{AreServed, ComesFrom, IsOfReading, ReadsFor};
-ghost use Rattle.api_extract.specs.Extraction.{shared_told};
-ghost use Rattle.api_extract.specs.Extraction.{reads_body, takes_body, takes_stream};
+ghost use Rattle.api_extract.specs.Extraction.{reads_body, shared_told, takes_stream};
 
 use crate::bodies::{Reading, source_argument};
 use crate::extract_error::ExtractError;

@@ -1,6 +1,6 @@
 //! What requests denote as arguments of slots.
 ghost use Rattle.std.specs.Prelude.{◌<◌, ◌-◌, ◌^◌, IfOk, IsTrue};
-ghost use Rattle.api_extract.specs.Extraction.{AreServed, BodyComesLast};
+ghost use Rattle.api_extract.specs.Extraction.{AreServed};
 ghost use Rattle.handler_shapes.specs.ShapeChecks.{SlotsPass};
 ghost use Rattle.typed_values.specs.Checks.{TablePasses};
 
@@ -11,7 +11,7 @@ use crate::shapes::{slots_at, table_at};
 use crate::streams::{bytes_noted, data_told};
 use api_extract::{ExtractError, extract};
 use case_notation::{CaseError, form, put, tree_noted};
-use handler_shapes::{Arg, ArgList, Slot, slot_passes};
+use handler_shapes::{Arg, ArgList, Slot, body_comes_last, slot_passes};
 use http_bodies::{Body, FrameError};
 use request_parts::{ApiEndpointBodyContentType, RequestParts};
 use schema_values::{Json, List, Member};
@@ -116,17 +116,6 @@ fn all_pass(table: &DescTable, slots: &[Slot]) -> bool
         }
     }
     true
-}
-
-fn body_comes_last(slots: &[Slot]) -> bool
-    ensures { IsTrue result → BodyComesLast slots.now }
-{
-    match slots {
-        [] => true,
-        [_] => true,
-        [Slot::TypedBody(_, _) | Slot::RawBody | Slot::StreamBody, ..] => false,
-        [_, rest @ ..] => body_comes_last(rest),
-    }
 }
 
 fn outcome_told(

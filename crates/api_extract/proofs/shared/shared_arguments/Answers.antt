@@ -2,9 +2,10 @@ use Rattle.std.proofs.Common.{◌+◌, ◌≡◌, List, drop, sym, subst, ◌∙
 use Rattle.std.proofs.lemmas.Result.{err_from_is_err_and}
 use Rattle.handler_shapes.specs.declared.slot.Slot.{Slot}
 use Rattle.handler_shapes.specs.declared.arguments.Arg.{Arg}
+use Rattle.handler_shapes.specs.BodySlots.{takes_body}
 use Rattle.handler_shapes.specs.ShapeChecks.{SlotPasses}
 use Rattle.api_extract.specs.Denotes.{args_by}
-use Rattle.api_extract.specs.Extraction.{plainly_told, takes_body}
+use Rattle.api_extract.specs.Extraction.{plainly_told}
 use Rattle.api_extract.proofs.SlotLists.{args_before, given_end, given_err, given_step}
 use Rattle.api_extract.proofs.shared.shared_arguments.Goals as goal
 

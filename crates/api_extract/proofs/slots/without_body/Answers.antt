@@ -1,7 +1,7 @@
 use Rattle.std.proofs.Common.{List, [], ◌∷◌, ◌++◌, All, subst, sym, ◌∙◌}
 use Rattle.std.proofs.lemmas.List.Elements.{All-from_recursion}
 use Rattle.handler_shapes.specs.declared.slot.Slot.{Slot}
-use Rattle.api_extract.specs.Extraction.{BodyComesLast}
+use Rattle.handler_shapes.specs.BodySlots.{BodyComesLast}
 use Rattle.api_extract.proofs.FrontSlots.{TakesNone, front_takes_none, none_takes}
 use Rattle.api_extract.proofs.slots.without_body.Goals as goal
 
