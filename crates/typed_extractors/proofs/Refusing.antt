@@ -1,11 +1,13 @@
 -- Slots that are asked for in turn: what they add, and why they are refused.
 use Rattle.std.proofs.Common.{◌≡◌, List, [], ◌∷◌, ◌++◌, inl, inr, refl, sym, subst, Result, Ok, Err}
 use Rattle.std.specs.Prelude.{IfErr, IsErrAnd}
+use Rattle.descriptors.specs.declared.desc.Desc.{Desc}
 use Rattle.descriptors.specs.declared.table.AddError.{AddError}
 use Rattle.descriptors.specs.declared.table.Definition.{Definition}
 use Rattle.api_types.specs.Additions.{with_all}
 use Rattle.api_types.specs.Types.{HoldsAll}
 use Rattle.api_types.proofs.Added.{first_refused, second_refused}
+use Rattle.typed_extractors.specs.Selectors.{HaveOwnTables}
 use Rattle.typed_extractors.specs.SlotAdditions.{AreSlotsRefused, HaveTables, SomeRefused}
 
 -- some selectors and others have their tables
@@ -20,6 +22,14 @@ have_left (ds ∷ own) others all = (all.0, have_left own others all.1)
 pub have_right : (own others : List (List Definition)) → HaveTables (own ++ others) → HaveTables others
 have_right [] others all = all
 have_right (ds ∷ own) others all = have_right own others all.1
+
+-- each of some selectors and of others has its own
+pub both_own : (own others : List (List Definition)) (first later : List (Desc × List Definition))
+    → HaveOwnTables own first → HaveOwnTables others later → HaveOwnTables (own ++ others) (first ++ later)
+both_own [] others [] later left right = right
+both_own [] others (one ∷ first) later left right = absurd left
+both_own (ds ∷ own) others [] later left right = absurd left
+both_own (ds ∷ own) others (one ∷ first) later left right = (left.0, both_own own others first later left.1 right)
 
 -- one of some selectors that is refused is one of some and others
 refused_left : (own others : List (List Definition)) (error : AddError)

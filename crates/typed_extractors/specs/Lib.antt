@@ -1,4 +1,5 @@
 pub mod SlotsReach
+pub mod Selectors
 pub mod SlotAdditions
 pub mod Taken
 pub mod PageTrees

@@ -1,9 +1,11 @@
 //! The three kinds of extractors, and what the extractors of this library share.
 ghost use Rattle.std.specs.Prelude.{◌≡◌, IfErr, IfOk, OnErr, OnOk};
+ghost use Rattle.std.specs.List.{flat_map};
 ghost use Rattle.api_types.specs.Additions.{AreRefused, with_all};
 ghost use Rattle.api_types.specs.Types.{HoldsAll, ReachesExactly};
 ghost use Rattle.handler_shapes.specs.Arguments.{ArgStays, ArgsStay};
 ghost use Rattle.handler_shapes.specs.declared.arguments.Arg.TheVariants as arguments;
+ghost use Rattle.typed_extractors.specs.Selectors.{HaveOwnTables, selectors_in};
 ghost use Rattle.typed_extractors.specs.SlotAdditions.{AreSlotsRefused, HaveTables};
 ghost use Rattle.typed_extractors.specs.SlotsReach.{SlotReachesExactly, SlotsReachExactly};
 ghost use Rattle.typed_extractors.specs.Taken.{AreTaken, IsTaken, IsTreeOf};
@@ -45,6 +47,7 @@ pub trait SharedExtractor: Sized + Drop {
         ensures added { OnOk result (table.new ≡ with_all table.old definitions_of) }
         ensures held { OnOk result (HoldsAll table.new definitions_of) }
         ensures tables { OnOk result (HaveTables selectors_of) }
+        ensures own_tables { OnOk result (HaveOwnTables selectors_of (selectors_in slot_of)) }
         ensures refused { IfErr result (AreSlotsRefused table.old definitions_of selectors_of) }
         ensures err { OnErr result (table.new ≡ table.old) };
 
@@ -88,6 +91,7 @@ pub trait ExclusiveExtractor: Sized + Drop {
         ensures added { OnOk result (table.new ≡ with_all table.old definitions_of) }
         ensures held { OnOk result (HoldsAll table.new definitions_of) }
         ensures tables { OnOk result (HaveTables selectors_of) }
+        ensures own_tables { OnOk result (HaveOwnTables selectors_of (selectors_in slot_of)) }
         ensures refused { IfErr result (AreSlotsRefused table.old definitions_of selectors_of) }
         ensures err { OnErr result (table.new ≡ table.old) };
 
@@ -147,6 +151,8 @@ pub trait RequestExtractor: Sized + Drop {
         ensures added { OnOk result (table.new ≡ with_all table.old definitions_of) }
         ensures held { OnOk result (HoldsAll table.new definitions_of) }
         ensures tables { OnOk result (HaveTables selectors_of) }
+        ensures own_tables { OnOk result (HaveOwnTables selectors_of
+            (flat_map selectors_in slots_of)) }
         ensures refused { IfErr result (AreSlotsRefused table.old definitions_of selectors_of) }
         ensures err { OnErr result (table.new ≡ table.old) };
 

@@ -4,7 +4,7 @@ ghost use Rattle.std.specs.NonZero.{non_zero_u32_get};
 ghost use Rattle.descriptors.specs.declared.tree.Tree.{out-Tree};
 ghost use Rattle.descriptors.specs.declared.tree.Tree.TheVariants as trees;
 ghost use Rattle.api_types.specs.Additions.{AreRefused, with_all};
-ghost use Rattle.api_types.specs.Types.{HoldsAll};
+ghost use Rattle.api_types.specs.Types.{HoldsAll, ReachesExactly};
 ghost use Rattle.handler_shapes.specs.Arguments.{ArgStays, IsItemCount, LimitFits};
 ghost use Rattle.handler_shapes.specs.declared.arguments.Arg.TheVariants as arguments;
 ghost use Rattle.handler_shapes.specs.declared.slot.Slot.TheVariants as slots;
@@ -110,6 +110,7 @@ impl<S: ApiType, P: ApiType> SharedExtractor for PagedQuery<S, P> {
 // The descriptor of a selector, and the table of its definitions.
 fn selector_with<P: ApiType>(alloc: Global) -> Result<(Desc, DescTable), AddError>
     ensures desc { IfOk result (λ selector. selector.0 ≡ P.desc_of) }
+    ensures reaches { OnOk result (ReachesExactly P.definitions_of P.desc_of) }
     ensures made { IfOk result (λ selector. selector.1 ≡ with_all [] P.definitions_of) }
     ensures held { OnOk result (HoldsAll (with_all [] P.definitions_of) P.definitions_of) }
     ensures refused { IfErr result (AreRefused [] P.definitions_of) }

@@ -1,8 +1,10 @@
 //! Tuples of up to four shared extractors and an exclusive one.
 ghost use Rattle.std.specs.Prelude.{◌≡◌, ◌++◌, ◌∷◌, [], IfErr, IfOk, OnErr, OnOk};
+ghost use Rattle.std.specs.List.{flat_map};
 ghost use Rattle.api_types.specs.Additions.{with_all};
 ghost use Rattle.api_types.specs.Types.{HoldsAll};
 ghost use Rattle.handler_shapes.specs.Arguments.{ArgsStay};
+ghost use Rattle.typed_extractors.specs.Selectors.{HaveOwnTables, selectors_in};
 ghost use Rattle.typed_extractors.specs.SlotAdditions.{AreSlotsRefused, HaveTables};
 ghost use Rattle.typed_extractors.specs.SlotsReach.{SlotsReachExactly};
 ghost use Rattle.typed_extractors.specs.Taken.{AreTaken, ConvertsFirst, IsNothing};
@@ -164,6 +166,8 @@ fn slots_with<S: ExclusiveExtractor, R: RequestExtractor>(
         ≡ with_all table.old (S.definitions_of ++ R.definitions_of)) }
     ensures held { OnOk result (HoldsAll table.new (S.definitions_of ++ R.definitions_of)) }
     ensures tables { OnOk result (HaveTables (S.selectors_of ++ R.selectors_of)) }
+    ensures own_tables { OnOk result (HaveOwnTables (S.selectors_of ++ R.selectors_of)
+        (flat_map selectors_in (S.slot_of ∷ R.slots_of))) }
     ensures refused { IfErr result (AreSlotsRefused table.old (S.definitions_of ++ R.definitions_of)
         (S.selectors_of ++ R.selectors_of)) }
     ensures err { OnErr result (table.new ≡ table.old) }
@@ -187,6 +191,8 @@ fn add_slots<S: ExclusiveExtractor, R: RequestExtractor>(
         ≡ with_all table.old (S.definitions_of ++ R.definitions_of)) }
     ensures held { OnOk result (HoldsAll table.new (S.definitions_of ++ R.definitions_of)) }
     ensures tables { OnOk result (HaveTables (S.selectors_of ++ R.selectors_of)) }
+    ensures own_tables { OnOk result (HaveOwnTables (S.selectors_of ++ R.selectors_of)
+        (flat_map selectors_in (S.slot_of ∷ R.slots_of))) }
     ensures refused { IfErr result (AreSlotsRefused table.old (S.definitions_of ++ R.definitions_of)
         (S.selectors_of ++ R.selectors_of)) }
 {

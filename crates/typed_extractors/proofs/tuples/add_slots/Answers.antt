@@ -1,6 +1,8 @@
+use Rattle.std.specs.List.{flat_map}
 use Rattle.api_types.proofs.Added.{adds_both}
+use Rattle.typed_extractors.specs.Selectors.{selectors_in}
 use Rattle.typed_extractors.proofs.Reaching.{both_reach}
-use Rattle.typed_extractors.proofs.Refusing.{both_have, first_slot_refused, handed_on, other_slot_refused}
+use Rattle.typed_extractors.proofs.Refusing.{both_have, both_own, first_slot_refused, handed_on, other_slot_refused}
 use Rattle.typed_extractors.proofs.tuples.add_slots.Goals as goal
 
 pub returns-in_err-slot-clause-refused : goal.returns-in_err-slot-clause-refused
@@ -48,3 +50,10 @@ returns-clause-tables g c =
     let one = g.S.ExclusiveExtractor in
     let others = g.R.RequestExtractor in
     both_have one.selectors_of others.selectors_of c.in_ok-slot.ensures.tables c.in_ok-others.ensures.tables
+
+pub returns-clause-own_tables : goal.returns-clause-own_tables
+returns-clause-own_tables g c =
+    let one = g.S.ExclusiveExtractor in
+    let others = g.R.RequestExtractor in
+    both_own one.selectors_of others.selectors_of (selectors_in one.slot_of) (flat_map selectors_in others.slots_of)
+    c.in_ok-slot.ensures.own_tables c.in_ok-others.ensures.own_tables
