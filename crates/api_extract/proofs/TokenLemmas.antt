@@ -1,6 +1,6 @@
 -- What a token reads as, as a function and as relations.
 use Rattle.std.proofs.Common.{◌≡◌, ℕ, ◌≤◌, List, length, Bool, true, false, cond, nat_lt, codes, Option, Some, None, option_and_then, refl, sym, ◌∙◌, ap}
-use Rattle.std.proofs.lemmas.Bool.{le-ltb, ltb-false}
+use Rattle.std.proofs.lemmas.Bool.{le-ltb, lt-ltb, ltb-false}
 use Rattle.std.specs.declared.result.Result.{Result}
 use Rattle.std.specs.declared.result.Result.TheVariants.{Ok, Err}
 use Rattle.base64.specs.declared.decode.DecodeError.{DecodeError}
@@ -19,10 +19,12 @@ use Rattle.descriptors.specs.declared.table.Definition.{Definition}
 use Rattle.descriptors.specs.declared.tree.Tree.{Tree}
 use Rattle.typed_values.specs.declared.fault.FaultKind.TheVariants.{TokenTooLarge, TokenCorrupted}
 use Rattle.typed_values.specs.Denotes.{Told, refused, told}
+use Rattle.page_tokens.specs.declared.token_error.TokenError.{TokenError}
+use Rattle.page_tokens.specs.declared.token_error.TokenError.TheVariants as errors
 use Rattle.page_tokens.specs.Forms.{v1}
-use Rattle.page_tokens.specs.Tokens.{HoldsNone, HoldsStart, TokenReads}
+use Rattle.page_tokens.specs.Tokens.{HoldsNone, HoldsStart, IsTokenRefused, TokenReads}
 use Rattle.api_extract.specs.Readings.{value_read}
-use Rattle.api_extract.specs.PageQueries.{bytes_told, decoded_told, is_v1, is_v1_level, or_refused, start_of, started_told}
+use Rattle.api_extract.specs.PageQueries.{IsTokenFault, bytes_told, decoded_told, is_v1, is_v1_level, or_refused, start_of, started_told}
 use Rattle.api_extract.proofs.ReadValues.{read_value, value_reads}
 
 -- ---- the start in an object
@@ -77,11 +79,21 @@ module _ (table : List Definition) (selector : Desc) where
   within : (token : List ℕ) → length token ≤ 512 → bytes_told table selector token ≡ decoded_told table selector (decode_of url_safe token)
   within token small = ap (λ (b : Bool). cond b (refused TokenTooLarge) (decoded_told table selector (decode_of url_safe token))) (le-ltb 512 (length token) small)
 
-  pub corrupted : (token : List ℕ) → length token ≤ 512 → (bytes : List ℕ) → decode_of url_safe token ≡ Ok bytes → HoldsNone v1 table selector bytes → bytes_told table selector token ≡ refused TokenCorrupted
+  corrupted : (token : List ℕ) → length token ≤ 512 → (bytes : List ℕ) → decode_of url_safe token ≡ Ok bytes → HoldsNone v1 table selector bytes → bytes_told table selector token ≡ refused TokenCorrupted
   corrupted token small bytes e none = within token small ∙ ap (decoded_told table selector) e ∙ none_told bytes none
 
   pub token_reads : (token : List ℕ) (tree : Tree) → TokenReads v1 table selector token tree → bytes_told table selector token ≡ Ok tree
   token_reads token tree reads = within token reads.small ∙ ap (decoded_told table selector) reads.decodes ∙ held_told reads.bytes tree reads.holds
+
+  -- a token is told as the fault that it is refused for
+  pub token_told : (token : List ℕ) (error : TokenError) → IsTokenRefused v1 table selector token error
+      → IsTokenFault error (bytes_told table selector token)
+  token_told token (errors.TooLarge size) h =
+      ap (λ (b : Bool). cond b (refused TokenTooLarge) (decoded_told table selector (decode_of url_safe token)))
+      (lt-ltb 512 (length token) h.0)
+  token_told token errors.NotBase64 h = within token h.0 ∙ ap (decoded_told table selector) h.1.1
+  token_told token errors.Corrupted h = corrupted token h.0 h.1 h.2 h.3
+  token_told token errors.OutOfMemory h = tt
 
   -- ---- and the other way round
 

@@ -1,6 +1,6 @@
 -- What the query of an operation in pages denotes: a page and a limit. A request for the first page says what is scanned,
 -- one for a later page has a token of the page before (this project's own; the extension `x-dropshot-pagination`).
-use Rattle.std.specs.Prelude.{ℕ, nat_lt, pos, Bool, false, List, [], ◌∷◌, length, Option, Some, None, option_and_then}
+use Rattle.std.specs.Prelude.{◌≡◌, ℕ, nat_lt, pos, ⊤, Bool, false, List, [], ◌∷◌, length, Option, Some, None, option_and_then}
 use Rattle.std.specs.Prelude.{if◌then◌else◌, bytes_eq, codes, Result}
 use Rattle.std.specs.declared.result.Result.TheVariants.{Ok, Err}
 use Rattle.std.specs.Str.{encode_utf8_all}
@@ -23,6 +23,8 @@ use Rattle.typed_values.specs.Denotes.{Told, below, just, refused, told}
 use Rattle.flat_maps.specs.declared.repeats.Repeats.TheVariants.{Last}
 use Rattle.flat_maps.specs.Pairs.{is_doubled, pairs_told}
 use Rattle.flat_maps.specs.Texts.{number_of_text}
+use Rattle.page_tokens.specs.declared.token_error.TokenError.{TokenError}
+use Rattle.page_tokens.specs.declared.token_error.TokenError.TheVariants as errors
 use Rattle.api_extract.specs.Readings.{value_read}
 
 -- a tree, or a fault of this kind at the whole in place of any other
@@ -57,7 +59,7 @@ abbrev pub is_v1 : Option Json → Bool
 is_v1 None = false
 is_v1 (Some json) = is_v1_level (out-Json json)
 
--- the start of a page that the JSON of a token has
+-- the start of a page that the JSON of a token has, in the form `v1` of `page_tokens`
 abbrev pub start_of : Json → Option Json
 start_of json = if is_v1 (get_of (codes "v") json) then get_of (codes "page_start") json else None
 
@@ -75,6 +77,13 @@ decoded_told table selector (Ok bytes) = started_told table selector (option_and
 abbrev pub bytes_told : List Definition → Desc → List ℕ → Told
 bytes_told table selector token =
     if nat_lt 512 (length token) then refused TokenTooLarge else decoded_told table selector (decode_of url_safe token)
+
+-- the error of a token, as a fault of the whole; want of memory tells nothing of the token
+abbrev pub IsTokenFault : TokenError → Told → Type 0
+IsTokenFault (errors.TooLarge size) told = told ≡ refused TokenTooLarge
+IsTokenFault errors.NotBase64 told = told ≡ refused TokenNotBase64
+IsTokenFault errors.Corrupted told = told ≡ refused TokenCorrupted
+IsTokenFault errors.OutOfMemory told = ⊤
 
 -- the tree of a variant
 abbrev pub as_choice : ℕ → Told → Told

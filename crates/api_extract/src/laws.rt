@@ -16,10 +16,11 @@ ghost use Rattle.handler_shapes.specs.declared.slot.Slot.{Slot as Taken};
 ghost use Rattle.handler_shapes.specs.Arguments.{ArgsFit};
 ghost use Rattle.handler_shapes.specs.ShapeChecks.{SlotsPass};
 ghost use Rattle.page_tokens.specs.Forms.{v1};
-ghost use Rattle.page_tokens.specs.Tokens.{TokenReads};
+ghost use Rattle.page_tokens.specs.Tokens.{IsTokenRefused, TokenReads};
+ghost use Rattle.page_tokens.specs.declared.token_error.TokenError.{TokenError as Flaw};
 ghost use Rattle.api_extract.specs.Denotes.{Denotes, Terms, args_told};
 ghost use Rattle.api_extract.specs.Extraction.{extracted};
-ghost use Rattle.api_extract.specs.PageQueries.{bytes_told};
+ghost use Rattle.api_extract.specs.PageQueries.{IsTokenFault, bytes_told};
 ghost use Rattle.api_extract.specs.Readings.{value_read};
 
 /// The arguments that a request denotes are of the slots.
@@ -50,4 +51,11 @@ pub fn tokens_are_read()
     ensures { (table : List Entry) (selector : Descriptor) (token : List ℕ) (tree : Value)
         → (bytes_told table selector token ≡ Ok tree)
         ↔ TokenReads v1 table selector token tree }
+{}
+
+/// The bytes of a token that is refused are told as the fault that its error names.
+pub fn refused_tokens_are_told()
+    ensures { (table : List Entry) (selector : Descriptor) (token : List ℕ) (error : Flaw)
+        → IsTokenRefused v1 table selector token error
+        → IsTokenFault error (bytes_told table selector token) }
 {}

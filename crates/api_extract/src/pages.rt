@@ -1,8 +1,8 @@
 // The page and the limit that a query denotes.
-ghost use Rattle.std.specs.Prelude.{◌≡◌, [], ◌∷◌, IfOk, Some, codes};
+ghost use Rattle.std.specs.Prelude.{◌≡◌, [], ◌∷◌, IfOk, Ok, Some, codes};
 ghost use Rattle.std.specs.declared.result.Result.TheVariants.{Err};
 ghost use Rattle.std.specs.Str.{encode_utf8_all};
-ghost use Rattle.request_words.specs.Pairs.{last_value};
+ghost use Rattle.request_words.specs.Pairs.{last_value, values_of};
 ghost use Rattle.flat_maps.specs.declared.repeats.Repeats.TheVariants.{Last};
 ghost use Rattle.flat_maps.specs.Pairs.{pairs_told};
 ghost use Rattle.typed_values.specs.Checks.{TablePasses, DescPasses};
@@ -81,9 +81,10 @@ fn page_beside(alloc: Global, page: Tree, limit: Tree) -> Result<Tree, AllocErro
     Ok(Tree::Fields(parts))
 }
 
-// The limit, where the query gives one.
+// The limit, where the query gives one; where it gives none, no memory is taken.
 fn decode_limit(alloc: Global, pairs: &[NamedText]) -> Result<Tree, DecodeError>
-    ensures { IsTold result (limit_told pairs.now) }
+    ensures told { IsTold result (limit_told pairs.now) }
+    ensures absent { values_of (codes "limit") pairs.now ≡ [] → result ≡ Ok Tree.None }
 {
     let Some((pair, earlier)) = last_named(pairs, "limit") else {
         return Ok(Tree::None);

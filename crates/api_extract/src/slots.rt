@@ -28,17 +28,11 @@ pub(crate) fn without_body(slots: &[Slot]) -> (&[Slot], Option<&Slot>)
 
 /// An argument behind others.
 pub(crate) fn pushed(
-    args: ArgList,
+    mut args: ArgList,
     last: Result<Arg, ExtractError>,
 ) -> Result<ArgList, ExtractError>
     ensures { IsPushed args last result }
 {
-    match last {
-        Ok(arg) => {
-            let mut args = args;
-            args.push(arg)?;
-            Ok(args)
-        }
-        Err(error) => Err(error),
-    }
+    args.push(last?)?;
+    Ok(args)
 }
