@@ -8,8 +8,10 @@ pub mod Denoted
 pub mod PageFits
 pub mod ArgFits
 pub mod Limits
+pub mod Cuts
 pub mod GivenAnswers
 pub mod NoFaults
+pub mod SizeCauses
 pub mod Joined
 pub mod Comes
 pub mod Contents

@@ -1,11 +1,12 @@
 -- A body within its limits is read, and gives what the request denotes.
-use Rattle.std.proofs.Common.{◌≡◌, ℕ, List, [], ◌∷◌, refl, ap, ap₂}
+use Rattle.std.proofs.Common.{◌≡◌, ◌≤◌, ℕ, List, [], ◌∷◌, length, refl, ap, ap₂}
 use Rattle.std.specs.declared.result.Result.{Result}
 use Rattle.std.specs.declared.result.Result.TheVariants.{Ok}
 use Rattle.http_bodies.specs.Bodies.{BodyState, frames_of}
 use Rattle.http_bodies.specs.Frames.{all_data}
 use Rattle.body_reading.specs.declared.whole.BodyError.{BodyError}
 use Rattle.body_reading.specs.Whole.{whole}
+use Rattle.body_reading.proofs.CallerLemmas.{whole_read}
 use Rattle.request_parts.specs.Requests.{Request}
 use Rattle.request_parts.specs.Wire.{wire_of}
 use Rattle.handler_shapes.specs.declared.slot.Slot.{Slot}
@@ -40,6 +41,8 @@ module _ (terms : Terms) (request : Request) (body : BodyState)
   same_slots [] = refl
   same_slots (slot ∷ slots) = ap₂ before_args (same_slot slot) (same_slots slots)
 
-  pub all_read : (slots : List Slot)
-      → extracted terms slots request body ≡ args_told terms slots (wire_of request (all_data (frames_of body))) body
-  all_read slots = same_slots slots
+pub read_within : (terms : Terms) (slots : List Slot) (request : Request) (body : BodyState)
+    → length (frames_of body) ≤ terms.budget → length (all_data (frames_of body)) ≤ terms.limit
+    → extracted terms slots request body ≡ args_told terms slots (wire_of request (all_data (frames_of body))) body
+read_within terms slots request body few small =
+    same_slots terms request body (whole_read terms.limit terms.budget (frames_of body) few small) slots

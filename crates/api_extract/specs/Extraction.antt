@@ -11,7 +11,7 @@ use Rattle.http_bodies.specs.declared.frame.Frame.{Frame}
 use Rattle.body_reading.specs.declared.whole.BodyError.{BodyError}
 use Rattle.body_reading.specs.declared.whole.BodyError.TheVariants as reading
 use Rattle.body_reading.specs.Gathered.{GathersInto}
-use Rattle.body_reading.specs.Whole.{Reads, whole}
+use Rattle.body_reading.specs.Whole.{IsOverBudget, IsTooLarge, Reads, whole}
 use Rattle.request_parts.specs.declared.content_type.ApiEndpointBodyContentType.TheVariants.{Bytes}
 use Rattle.request_parts.specs.Requests.{Request}
 use Rattle.request_parts.specs.Wire.{wire_of}
@@ -93,6 +93,14 @@ IsOfReading errors.BodyFault = ⊤
 IsOfReading (errors.BodyTooLarge sum) = ⊤
 IsOfReading (errors.FrameBudget count) = ⊤
 IsOfReading errors.OutOfMemory = ⊥
+
+-- an error of the size of a body, or of the number of its frames, has its cause in these frames
+abbrev pub HasSizeCause : (limit budget : ℕ) → List Frame → ExtractError → Type 0
+HasSizeCause limit budget frames (errors.Refused fault message) = ⊤
+HasSizeCause limit budget frames errors.BodyFault = ⊤
+HasSizeCause limit budget frames (errors.BodyTooLarge sum) = IsTooLarge limit budget frames sum
+HasSizeCause limit budget frames (errors.FrameBudget count) = IsOverBudget limit budget frames count
+HasSizeCause limit budget frames errors.OutOfMemory = ⊤
 
 -- a body was read to its end, and this is its content
 pub record IsReadToEnd (limit budget : ℕ) (old new : Option (List Frame)) : Type 0 where

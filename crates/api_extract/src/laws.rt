@@ -1,5 +1,6 @@
 //! What follows from the definitions. The functions do nothing: their clauses are for proofs.
-ghost use Rattle.std.specs.Prelude.{◌≡◌, ◌↔◌, ◌≤◌, ℕ, List, Ok, Some, length};
+ghost use Rattle.std.specs.Prelude.{◌≡◌, ◌↔◌, ◌≤◌, ℕ, List, IfErr, Ok, Some, false, length};
+ghost use Rattle.std.specs.List.{list_any};
 ghost use Rattle.http_bodies.specs.Bodies.{BodyState, frames_of};
 ghost use Rattle.http_bodies.specs.Frames.{all_data};
 ghost use Rattle.schema_values.specs.declared.json_value.Json.{Json as JsonValue};
@@ -19,7 +20,7 @@ ghost use Rattle.page_tokens.specs.Forms.{v1};
 ghost use Rattle.page_tokens.specs.Tokens.{IsTokenRefused, TokenReads};
 ghost use Rattle.page_tokens.specs.declared.token_error.TokenError.{TokenError as Flaw};
 ghost use Rattle.api_extract.specs.Denotes.{Denotes, Terms, args_told};
-ghost use Rattle.api_extract.specs.Extraction.{extracted};
+ghost use Rattle.api_extract.specs.Extraction.{HasSizeCause, extracted, takes_stream};
 ghost use Rattle.api_extract.specs.PageQueries.{IsTokenFault, bytes_told};
 ghost use Rattle.api_extract.specs.Readings.{value_read};
 
@@ -38,6 +39,26 @@ pub fn requests_within_limits_are_read()
         → length (all_data (frames_of body)) ≤ terms.limit
         → extracted terms slots request body
         ≡ args_told terms slots (wire_of request (all_data (frames_of body))) body }
+{}
+
+/// Where no slot takes the body as a stream, two bodies of the same content within the budget of
+/// frames and the limit give the same, however they are cut into frames.
+pub fn cuts_give_the_same()
+    ensures { (terms : Terms) (slots : List Taken) (request : Request) (one other : BodyState)
+        → list_any takes_stream slots ≡ false
+        → length (frames_of one) ≤ terms.budget
+        → length (frames_of other) ≤ terms.budget
+        → length (all_data (frames_of one)) ≤ terms.limit
+        → all_data (frames_of one) ≡ all_data (frames_of other)
+        → extracted terms slots request one ≡ extracted terms slots request other }
+{}
+
+/// An error that tells the size of a body, or the number of its frames, has its cause in the frames
+/// of the body.
+pub fn sizes_have_causes()
+    ensures { (terms : Terms) (slots : List Taken) (request : Request) (body : BodyState)
+        → IfErr (extracted terms slots request body)
+        (HasSizeCause terms.limit terms.budget (frames_of body)) }
 {}
 
 /// The value that bytes read as is the one that they are read as by `Reads`.
