@@ -19,7 +19,7 @@ selectors_in RawBody = []
 selectors_in StreamBody = []
 
 -- a table is made of some definitions alone, and a selector reaches the names of these and no other
-pub record HasOwnTable (ds : List Definition) (selector : Desc) (table : List Definition) : Type 0 where
+pub record IsSelectorTable (ds : List Definition) (selector : Desc) (table : List Definition) : Type 0 where
   pub made : table ≡ with_all [] ds
   pub reaches : ReachesExactly ds selector
 
@@ -28,4 +28,5 @@ abbrev pub HaveOwnTables : List (List Definition) → List (Desc × List Definit
 HaveOwnTables [] [] = ⊤
 HaveOwnTables [] (one ∷ selectors) = ⊥
 HaveOwnTables (ds ∷ definitions) [] = ⊥
-HaveOwnTables (ds ∷ definitions) (one ∷ selectors) = HasOwnTable ds one.0 one.1 × HaveOwnTables definitions selectors
+HaveOwnTables (ds ∷ definitions) (one ∷ selectors) =
+    IsSelectorTable ds one.0 one.1 × HaveOwnTables definitions selectors
