@@ -1,11 +1,13 @@
 pub mod Firsts
+pub mod FirstPlaces
 pub mod FirstTold
 pub mod Configured
 pub mod Chains
 pub mod Resolving
-pub mod ByIndex
-pub mod ServedShapes
-pub mod ShapeIndex
+pub mod Covering
+pub mod StandIns
+pub mod Indexed
 pub mod DefinitionClashes
+pub mod FoundByIndex
 pub mod ParameterNames
 pub mod CallerLemmas

@@ -11,4 +11,5 @@ pub mod Types
 pub mod Slots
 pub mod Codes
 pub mod Clashes
+pub mod EndpointIndexes
 pub mod Registering

@@ -1,6 +1,7 @@
 -- When an endpoint may be registered behind others, and the first cause why it may not.
 use Rattle.std.specs.Prelude.{◌≡◌, ⊤, ℕ, List, [], ◌∷◌, ◌++◌, All, Option, MatchOption, codes}
 use Rattle.std.specs.Fmt.{decimal}
+use Rattle.handler_shapes.specs.BodySlots.{BodyComesLast}
 use Rattle.api_declarations.specs.Values.{DeclarationValue}
 use Rattle.tag_config.specs.Configurations.{Configuration}
 use Rattle.api_registration.specs.Clashes.{ServesSame, DefinesOtherwise}
@@ -109,6 +110,7 @@ Stands tags before e cause = (message : List ℕ) × Tells tags before e cause m
 abbrev pub Clears : DeclarationValue → RegisterCause → Type 0
 Clears e cause.NotScalar = All (IsScalarOrRest e.shape.table (path_wildcard e.path)) (parameters e.shape)
 Clears e cause.UnsupportedSchema = IsSupported e.shape
+Clears e cause.TwoBodies = BodyComesLast e.shape.slots
 Clears e cause.BadBodyForm = HasReadBodies e
 Clears e _ = ⊤
 

@@ -1,11 +1,12 @@
 -- How the bodies and the queries of an endpoint may stand together: rules of this library.
-use Rattle.std.specs.Prelude.{◌≡◌, ◌&&◌, ◌||◌, ⊤, Bool, true, false, IsTrue, nat_lt, ℕ, List, [], ◌∷◌, All, Some, Contains, bytes_eq, codes, count_by}
+use Rattle.std.specs.Prelude.{◌≡◌, ◌&&◌, ◌||◌, ⊤, Bool, true, false, IsTrue, nat_lt, ℕ, List, All, Some, Contains, bytes_eq, codes, count_by}
 use Rattle.std.specs.List.{list_any}
 use Rattle.descriptors.specs.declared.desc.Desc.{Desc}
 use Rattle.descriptors.specs.declared.desc.Field.{Field}
 use Rattle.descriptors.specs.declared.table.Definition.{Definition}
 use Rattle.request_parts.specs.declared.content_type.ApiEndpointBodyContentType.{ApiEndpointBodyContentType}
 use Rattle.request_parts.specs.declared.content_type.ApiEndpointBodyContentType.TheVariants.{Bytes, Json, UrlEncoded, MultipartFormData}
+use Rattle.handler_shapes.specs.BodySlots.{BodyComesLast}
 use Rattle.handler_shapes.specs.ScalarTypes.{IsScalarType}
 use Rattle.handler_shapes.specs.SlotFields.{struct_fields}
 use Rattle.handler_shapes.specs.declared.slot.Slot.{Slot}
@@ -13,22 +14,9 @@ use Rattle.handler_shapes.specs.declared.slot.Slot.TheVariants as slot
 use Rattle.api_declarations.specs.Values.{DeclarationValue}
 use Rattle.api_registration.specs.Parameters.{fields_of_struct}
 
--- whether a slot takes the body
-abbrev pub takes_body : Slot → Bool
-takes_body (slot.TypedBody desc name) = true
-takes_body slot.RawBody = true
-takes_body slot.StreamBody = true
-takes_body _ = false
-
--- all of some things but the last
-abbrev pub but_last : {A : Type 0} → List A → List A
-but_last [] = []
-but_last (x ∷ []) = []
-but_last (x ∷ y ∷ rest) = x ∷ but_last (y ∷ rest)
-
 -- A slot that is not the last takes the body: two of them do, or the one that does is not the last.
 abbrev pub HasEarlyBody : DeclarationValue → Type 0
-HasEarlyBody e = IsTrue (list_any takes_body (but_last e.shape.slots))
+HasEarlyBody e = ¬ BodyComesLast e.shape.slots
 
 -- a struct that takes unknown names and has scalar fields alone, itself or behind references
 pub record IsForm (table : List Definition) (desc : Desc) : Type 0 where

@@ -4,6 +4,7 @@
 mod cause;
 mod clashes;
 mod codes;
+mod definition_clashes;
 mod error;
 mod first;
 mod index;
@@ -20,5 +21,5 @@ mod types;
 
 pub use cause::RegisterCause;
 pub use error::{ApiDescriptionBuildErrors, ApiDescriptionRegisterError};
-pub use index::add_shape;
+pub use index::EndpointIndex;
 pub use refusals::first_cause;

@@ -22,12 +22,9 @@ use std::alloc::{AllocError, Global};
 pub(crate) struct MayBeAbsent;
 
 impl<'a> Condition<Parameter<'a>> for MayBeAbsent {
-    ghost use Rattle.std.specs.Prelude.{⊤};
     ghost use Rattle.api_registration.specs.ParameterTypes.{MayBeAbsent as MayBeAbsentFact};
 
     ghost Holds = { λ _. MayBeAbsentFact };
-
-    ghost Clear = { λ _ _. ⊤ };
 
     fn holds(&self, parameter: &Parameter<'a>) -> bool {
         parameter.place == Place::Path && !is_required(&parameter.field.presence)
@@ -107,13 +104,10 @@ pub(crate) struct NotStringList<'s> {
 }
 
 impl<'s, 'a> Condition<Parameter<'a>> for NotStringList<'s> {
-    ghost use Rattle.std.specs.Prelude.{⊤};
     ghost use Rattle.std.specs.Option.{option_copied};
     ghost use Rattle.api_registration.specs.ParameterTypes.{IsNoStringList};
 
     ghost Holds = { λ s. IsNoStringList s.table.now (option_copied s.wildcard) };
-
-    ghost Clear = { λ _ _. ⊤ };
 
     fn holds(&self, parameter: &Parameter<'a>) -> bool {
         is_rest(self.wildcard, parameter) && !is_string_list(self.table, &parameter.field.desc)
@@ -167,12 +161,9 @@ fn is_text(table: &DescTable, desc: &Desc) -> bool
 pub(crate) struct InBoth<'s, 'p>(pub &'s [Parameter<'p>]);
 
 impl<'s, 'p, 'a> Condition<Parameter<'a>> for InBoth<'s, 'p> {
-    ghost use Rattle.std.specs.Prelude.{⊤};
     ghost use Rattle.api_registration.specs.ParameterTypes.{IsInBoth};
 
     ghost Holds = { λ s. IsInBoth s.0.now };
-
-    ghost Clear = { λ _ _. ⊤ };
 
     fn holds(&self, parameter: &Parameter<'a>) -> bool {
         match parameter.place {
@@ -226,12 +217,9 @@ fn is_called(parameter: &Parameter<'_>, place: Place, name: &Text) -> bool
 pub(crate) struct Doubled<'s, 'p>(pub &'s [Parameter<'p>]);
 
 impl<'s, 'p, 'a> Condition<Parameter<'a>> for Doubled<'s, 'p> {
-    ghost use Rattle.std.specs.Prelude.{⊤};
     ghost use Rattle.api_registration.specs.ParameterTypes.{IsDoubled};
 
     ghost Holds = { λ s. IsDoubled s.0.now };
-
-    ghost Clear = { λ _ _. ⊤ };
 
     fn holds(&self, parameter: &Parameter<'a>) -> bool {
         count_same(self.0, parameter) > 1
@@ -284,12 +272,9 @@ fn is_same_header(name: &Text, other: &Text) -> bool
 pub(crate) struct BadHeaderName;
 
 impl<'a> Condition<Parameter<'a>> for BadHeaderName {
-    ghost use Rattle.std.specs.Prelude.{⊤};
     ghost use Rattle.api_registration.specs.ParameterTypes.{IsNoHeaderName};
 
     ghost Holds = { λ _. IsNoHeaderName };
-
-    ghost Clear = { λ _ _. ⊤ };
 
     fn holds(&self, parameter: &Parameter<'a>) -> bool {
         parameter.place == Place::Header && !is_field_name(parameter.name().as_bytes())

@@ -4,6 +4,7 @@ ghost use Rattle.std.specs.Prelude.{option_and_then, option_map, unwrap_or};
 ghost use Rattle.std.specs.Option.{option_copied};
 ghost use Rattle.openapi_values.specs.Admits.{method_member};
 ghost use Rattle.path_templates.specs.Segments.{segments_of, wildcard_of};
+ghost use Rattle.path_templates.specs.Shapes.{path_shape};
 ghost use Rattle.path_templates.specs.Templates.{names_of};
 ghost use Rattle.api_registration.specs.Parameters.{parameters as parameters_of};
 ghost use Rattle.api_registration.specs.Paths.{HasBadMethod, HasBadTemplate, HasPathMismatch};
@@ -35,6 +36,16 @@ pub(crate) fn bad_template_told(
         return Ok(None);
     }
     Ok(Some(quoted(alloc, template_reason(endpoint.path), "", endpoint.path)?))
+}
+
+/// The shape of a path, if it is a template. Fails only for want of memory.
+pub(crate) fn path_shape(alloc: Global, path: &Text) -> Result<Option<Text>, AllocError>
+    ensures { IfOk result (λ shape. shape ≡ path_shape path.now) }
+{
+    match Template::parse(alloc, path)? {
+        Some(template) => Ok(Some(template.shape(alloc)?)),
+        None => Ok(None),
+    }
 }
 
 fn template_reason(path: &Text) -> &'static str

@@ -2,9 +2,8 @@
 ghost use Rattle.std.specs.Prelude.{◌≡◌, ◌++◌, All, IfNone, IfOk, MatchOption, codes, map};
 ghost use Rattle.std.specs.Option.{option_copied};
 ghost use Rattle.handler_shapes.specs.ShapeLengths.{ShapeHasShortLengths};
-ghost use Rattle.path_templates.specs.Places.{IsIndexOf};
 ghost use Rattle.path_templates.specs.Segments.{segments_of};
-ghost use Rattle.api_declarations.specs.Keys.{keys_by, shape_keys};
+ghost use Rattle.api_registration.specs.EndpointIndexes.{IsIndexed};
 ghost use Rattle.api_registration.specs.Parameters.{parameters};
 ghost use Rattle.api_registration.specs.Registering.{IsTried, MayRegister, RefusedBy, SaysFirst};
 ghost use Rattle.api_registration.specs.Registering.{Clears, Tells, quoted};
@@ -12,9 +11,11 @@ ghost use Rattle.api_registration.specs.ParameterTypes.{IsNoScalar, IsNoStringLi
 ghost use Rattle.api_registration.specs.ParameterTypes.{IsScalarOrRest};
 
 use crate::cause::{CAUSES, RegisterCause};
-use crate::clashes::{definition_clash_told, path_clash_told};
+use crate::clashes::path_clash_told;
 use crate::codes::{bad_success_code_told, no_error_schema_told};
+use crate::definition_clashes::definition_clash_told;
 use crate::error::ApiDescriptionRegisterError;
+use crate::index::EndpointIndex;
 use crate::parameter::{Parameter, parameters};
 use crate::parameter_causes::{
     BadHeaderName, Doubled, InBoth, MayBeAbsent, NotScalar, NotStringList,
@@ -27,7 +28,7 @@ use crate::tags::{at_least_one_told, exactly_one_told, invalid_tag_told};
 use crate::told::tell_first;
 use crate::types::unsupported_schema_told;
 use api_declarations::{Declaration, Declared};
-use path_templates::{PlaceIndex, Template};
+use path_templates::Template;
 use schema_values::Text;
 use std::alloc::{AllocError, Global};
 use tag_config::TagConfig;
@@ -37,7 +38,7 @@ use tag_config::TagConfig;
 struct Candidate<'s, 'd, E> {
     config: &'s TagConfig,
     before: &'s [E],
-    index: &'s PlaceIndex,
+    index: &'s EndpointIndex,
     endpoint: &'s Declaration<'d>,
     template: &'s Option<Template>,
     parameters: &'s [Parameter<'d>],
@@ -46,8 +47,7 @@ struct Candidate<'s, 'd, E> {
 impl<'s, 'd, E: Declared> Candidate<'s, 'd, E> {
     // What a cause is told as, where it stands against the endpoint behind those before it.
     fn told(&self, alloc: Global, cause: RegisterCause) -> Result<Option<Text>, AllocError>
-        requires index { IsIndexOf
-            (keys_by shape_keys E.declared self.now.before.now) self.now.index.now }
+        requires index { IsIndexed (map E.declared self.now.before.now) self.now.index.now }
         requires template { self.now.template.now ≡ segments_of self.now.endpoint.now.path }
         requires parameters { self.now.parameters.now ≡ parameters self.now.endpoint.now.shape }
         ensures told { IfOk result (IsTried (Tells self.now.config.now
@@ -80,7 +80,7 @@ impl<'s, 'd, E: Declared> Candidate<'s, 'd, E> {
             RegisterCause::BadSuccessCode => bad_success_code_told(alloc, endpoint),
             RegisterCause::NoErrorSchema => no_error_schema_told(alloc, endpoint),
             RegisterCause::PathClash => path_clash_told(alloc, before, index, template, endpoint),
-            RegisterCause::DefinitionClash => definition_clash_told(alloc, before, endpoint),
+            RegisterCause::DefinitionClash => definition_clash_told(alloc, before, index, endpoint),
         }
     }
 }
@@ -124,21 +124,20 @@ fn not_list_told(
 }
 
 /// The error that tells the first cause that stands against an endpoint behind those before it, if
-/// any does. Where none stands, the lengths in its shape have 32 bits. The index has the places of
-/// those before it by the shapes of their templates, as `add_shape` keeps it. Fails only for want
-/// of memory.
+/// any does. Where none stands, the lengths in its shape have 32 bits. The index is that of those
+/// before it, as `EndpointIndex::add` keeps it. Fails only for want of memory.
 ///
-/// An endpoint that serves the same is looked for by the index, among those with a template of the
-/// same shape alone. For a definition that differs each endpoint before is gone through, with a
-/// look-up and a comparison for each definition in the table of the new one.
+/// Of those before it, none is looked at but those that have a place in the index: at the shape of
+/// the endpoint's template, where the template of one that serves its method beside it is read
+/// again, and at the name of a definition in its table, where this definition alone is compared.
 pub fn first_cause<E: Declared>(
     alloc: Global,
     config: &TagConfig,
     before: &[E],
-    index: &PlaceIndex,
+    index: &EndpointIndex,
     endpoint: &Declaration<'_>,
 ) -> Result<Option<ApiDescriptionRegisterError>, AllocError>
-    requires { IsIndexOf (keys_by shape_keys E.declared before.now) index.now }
+    requires { IsIndexed (map E.declared before.now) index.now }
     ensures first { IfOk result (λ refusal. MatchOption refusal
         (MayRegister config.now (map E.declared before.now) endpoint.now)
         (RefusedBy config.now (map E.declared before.now) endpoint.now)) }

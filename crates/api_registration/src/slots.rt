@@ -2,18 +2,19 @@
 ghost use Rattle.std.specs.Prelude.{◌≡◌, ◌↔◌, Contains, IfNone, IfOk, IsTrue, codes, count_by};
 ghost use Rattle.std.specs.List.{list_any};
 ghost use Rattle.descriptors.specs.declared.desc.Field.{Field as FieldValue};
+ghost use Rattle.handler_shapes.specs.BodySlots.{BodyComesLast};
 ghost use Rattle.handler_shapes.specs.ScalarTypes.{IsScalarType};
 ghost use Rattle.api_registration.specs.Registering.{IsTried, Says};
 ghost use Rattle.api_registration.specs.Slots.{HasBadForm, HasBadPagination, HasEarlyBody};
-ghost use Rattle.api_registration.specs.Slots.{HasReadBodies, IsForm, IsReadAs, but_last};
-ghost use Rattle.api_registration.specs.Slots.{has_query_beside_pages, is_page_name, takes_body};
+ghost use Rattle.api_registration.specs.Slots.{HasReadBodies, IsForm, IsReadAs};
+ghost use Rattle.api_registration.specs.Slots.{has_query_beside_pages, is_page_name};
 ghost use Rattle.api_registration.specs.Slots.{takes_page_name, takes_pages, takes_query};
 
 use crate::first::{Condition, first_of};
 use crate::resolved::{fields_of_struct, is_scalar, open_fields};
 use api_declarations::Declaration;
 use descriptors::{Desc, DescTable, Field};
-use handler_shapes::Slot;
+use handler_shapes::{Slot, body_comes_last};
 use request_parts::ApiEndpointBodyContentType;
 use schema_values::Text;
 use std::alloc::{AllocError, Global};
@@ -23,37 +24,14 @@ pub(crate) fn two_bodies_told(
     alloc: Global,
     endpoint: &Declaration<'_>,
 ) -> Result<Option<Text>, AllocError>
-    ensures { IfOk result (IsTried (Says (HasEarlyBody endpoint.now)
+    ensures told { IfOk result (IsTried (Says (HasEarlyBody endpoint.now)
         (codes "more than one body parameter"))) }
+    ensures clear { IfOk result (λ told. IfNone told (BodyComesLast endpoint.now.shape.slots)) }
 {
-    if !has_early_body(endpoint.shape.slots.as_slice()) {
+    if body_comes_last(endpoint.shape.slots.as_slice()) {
         return Ok(None);
     }
     Ok(Some(Text::from_ascii(alloc, "more than one body parameter")?))
-}
-
-fn has_early_body(slots: &[Slot]) -> bool
-    ensures { result ≡ list_any takes_body (but_last slots.now) }
-{
-    match slots.split_last() {
-        Some((_, front)) => some_takes_body(front),
-        None => false,
-    }
-}
-
-fn some_takes_body(slots: &[Slot]) -> bool
-    ensures { result ≡ list_any takes_body slots.now }
-{
-    slots.iter().any(|slot| takes_body(slot))
-}
-
-fn takes_body(slot: &Slot) -> bool
-    ensures { result ≡ takes_body slot.now }
-{
-    matches!(
-        slot,
-        Slot::TypedBody(_, _) | Slot::RawBody | Slot::StreamBody
-    )
 }
 
 /// A slot takes a body of a type that is not read under a media type.

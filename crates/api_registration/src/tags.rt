@@ -58,12 +58,9 @@ struct Unknown<'s> {
 }
 
 impl<'s> Condition<Text> for Unknown<'s> {
-    ghost use Rattle.std.specs.Prelude.{⊤};
     ghost use Rattle.api_registration.specs.Tags.{IsUnknownTag};
 
     ghost Holds = { λ s. IsUnknownTag s.config.now };
-
-    ghost Clear = { λ _ _. ⊤ };
 
     fn holds(&self, tag: &Text) -> bool {
         let config = self.config;

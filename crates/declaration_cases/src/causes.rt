@@ -1,14 +1,13 @@
 //! Which endpoints of a case may be registered, in order, and why others may not.
-ghost use Rattle.api_declarations.specs.Keys.{keys_by, shape_keys};
-ghost use Rattle.path_templates.specs.Places.{IsIndexOf};
+ghost use Rattle.std.specs.Prelude.{map};
+ghost use Rattle.api_registration.specs.EndpointIndexes.{IsIndexed};
 
 use crate::endpoint::PlainEndpoint;
 use crate::members::items_at;
 use crate::registered::{register, settings_at};
 use api_declarations::Declared;
-use api_registration::ApiDescriptionRegisterError;
+use api_registration::{ApiDescriptionRegisterError, EndpointIndex};
 use case_notation::{CaseError, word};
-use path_templates::PlaceIndex;
 use schema_values::{Json, List, Text};
 use std::alloc::{AllocError, Global};
 use tag_config::TagConfig;
@@ -18,7 +17,7 @@ use tag_config::TagConfig;
 pub fn causes_told(alloc: Global, case: &Json) -> Result<Json, CaseError> {
     let settings = settings_at(alloc, case)?;
     let mut registered = List::new(alloc);
-    let mut index = PlaceIndex::new(alloc);
+    let mut index = EndpointIndex::new(alloc);
     let mut told = List::new(alloc);
     tell_all(
         alloc,
@@ -35,12 +34,11 @@ fn tell_all(
     alloc: Global,
     settings: &TagConfig,
     registered: &mut List<PlainEndpoint>,
-    index: &mut PlaceIndex,
+    index: &mut EndpointIndex,
     noted: &[Json],
     told: &mut List<Json>,
 ) -> Result<(), CaseError>
-    requires { IsIndexOf
-        (keys_by shape_keys ⟦<PlainEndpoint as Declared>⟧.declared registered.old) index.old }
+    requires { IsIndexed (map ⟦<PlainEndpoint as Declared>⟧.declared registered.old) index.old }
 {
     for one in noted {
         let refusal = register(alloc, settings, registered, index, one)?;

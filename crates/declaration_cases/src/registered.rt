@@ -1,14 +1,12 @@
 //! Endpoints that are registered one behind the other, as far as they may be, under the settings of
 //! tags of their case.
-ghost use Rattle.std.specs.Prelude.{OnOk};
-ghost use Rattle.api_declarations.specs.Keys.{keys_by, shape_keys};
-ghost use Rattle.path_templates.specs.Places.{IsIndexOf};
+ghost use Rattle.std.specs.Prelude.{OnOk, map};
+ghost use Rattle.api_registration.specs.EndpointIndexes.{IsIndexed};
 
 use crate::endpoint::{PlainEndpoint, endpoint_of};
 use api_declarations::Declared;
-use api_registration::{ApiDescriptionRegisterError, add_shape, first_cause};
+use api_registration::{ApiDescriptionRegisterError, EndpointIndex, first_cause};
 use case_notation::CaseError;
-use path_templates::PlaceIndex;
 use schema_values::{Json, List};
 use std::alloc::{AllocError, Global};
 use tag_config::TagConfig;
@@ -29,19 +27,18 @@ pub fn settings_at(alloc: Global, case: &Json) -> Result<TagConfig, CaseError> {
     }
 }
 
-/// Adds the endpoint that is noted behind those that are registered, or tells why it may not be.
-/// The index has the places of the shapes of their paths.
+/// Adds the endpoint that is noted behind those that are registered, and to their index, or tells why
+/// it may not be.
 pub fn register(
     alloc: Global,
     settings: &TagConfig,
     registered: &mut List<PlainEndpoint>,
-    index: &mut PlaceIndex,
+    index: &mut EndpointIndex,
     noted: &Json,
 ) -> Result<Option<ApiDescriptionRegisterError>, CaseError>
-    requires { IsIndexOf
-        (keys_by shape_keys ⟦<PlainEndpoint as Declared>⟧.declared registered.old) index.old }
-    ensures { OnOk result (IsIndexOf
-        (keys_by shape_keys ⟦<PlainEndpoint as Declared>⟧.declared registered.new) index.new) }
+    requires { IsIndexed (map ⟦<PlainEndpoint as Declared>⟧.declared registered.old) index.old }
+    ensures { OnOk result
+        (IsIndexed (map ⟦<PlainEndpoint as Declared>⟧.declared registered.new) index.new) }
 {
     let endpoint = Box::new(alloc, endpoint_of(alloc, noted)?)?;
     match first_cause(
@@ -59,18 +56,17 @@ pub fn register(
     }
 }
 
-// Adds an endpoint behind some, and its place to the index.
+// Adds an endpoint behind some, and to their index.
 fn add(
     alloc: Global,
     registered: &mut List<PlainEndpoint>,
-    index: &mut PlaceIndex,
+    index: &mut EndpointIndex,
     endpoint: Box<PlainEndpoint>,
 ) -> Result<(), AllocError>
-    requires { IsIndexOf
-        (keys_by shape_keys ⟦<PlainEndpoint as Declared>⟧.declared registered.old) index.old }
-    ensures { OnOk result (IsIndexOf
-        (keys_by shape_keys ⟦<PlainEndpoint as Declared>⟧.declared registered.new) index.new) }
+    requires { IsIndexed (map ⟦<PlainEndpoint as Declared>⟧.declared registered.old) index.old }
+    ensures { OnOk result
+        (IsIndexed (map ⟦<PlainEndpoint as Declared>⟧.declared registered.new) index.new) }
 {
-    add_shape(alloc, index, registered.as_slice(), &*endpoint)?;
+    index.add(alloc, registered.as_slice(), &*endpoint)?;
     registered.push(Box::into_inner(endpoint))
 }

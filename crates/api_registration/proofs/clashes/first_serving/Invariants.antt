@@ -1,10 +1,9 @@
-use Rattle.std.proofs.Common.{drop}
-use Rattle.api_declarations.specs.Keys.{shape_keys}
+use Rattle.std.proofs.Common.{length, take}
 use Rattle.api_registration.specs.Clashes.{ServesSame}
-use Rattle.api_registration.proofs.ByIndex.{SoFar}
+use Rattle.api_registration.specs.Firsts.{IsFirstPlace}
 use Rattle.api_registration.proofs.clashes.first_serving.Given as goal
 
--- no endpoint before the places that are left serves the same
+-- the first of the places so far where an endpoint serves the same
 abbrev pub invariant-loop-place : goal.invariant-loop-place
 invariant-loop-place g l =
-    SoFar (λ e. shape_keys (g.E.Declared.declared e)) l.shape (λ e. ServesSame l.endpoint (g.E.Declared.declared e)) l.before (drop l.place-index l.place-items)
+    IsFirstPlace (λ e. ServesSame l.endpoint (g.E.Declared.declared e)) l.before (take l.place-index l.place-items) (length l.before) l.first

@@ -4,13 +4,14 @@ use Rattle.api_registration.specs.Clashes.{ServesSame}
 use Rattle.api_registration.proofs.Firsts.{first-map, none-map, none_not_first}
 use Rattle.api_registration.proofs.clashes.path_clash_told.Goals as goal
 
-pub returns-in-Some-first_serving : goal.returns-in-Some-first_serving
-returns-in-Some-first_serving g c =
+pub returns-in-Some-2 : goal.returns-in-Some-2
+returns-in-Some-2 g c =
     let declared = g.E.Declared.declared in
-    let e = c.args.endpoint.now in (
-      declared c.in-Some-first_serving.other.now,
-      first-map declared (ServesSame e) c.args.before.now c.in-Some-first_serving.other.now c.in-Some-first_serving.ensures,
-      c.in_ok-path_clash_message-in-Some-first_serving.ensures
+    let e = c.args.endpoint.now in
+    let other = c.in-Some-2.other.now in (
+      declared other,
+      first-map declared (ServesSame e) c.args.before.now other (rw c.in-Some-2.is at c.in_ok-other.ensures),
+      c.in_ok-path_clash_message-in-Some-2.ensures
           ∙ ap (λ (other : DeclarationValue). codes "endpoint " ++ other.operation_id ++ codes " already serves " ++ e.method ++ codes " " ++ e.path)
           (c.other.view_is ∙ c.declaration-other.ensures),
     )
@@ -19,4 +20,5 @@ pub returns : goal.returns
 returns g c =
     let declared = g.E.Declared.declared in
     let e = c.args.endpoint.now in
-    λ message told. none_not_first (ServesSame e) (map declared c.args.before.now) told.0 (none-map declared (ServesSame e) c.args.before.now c.in-None.ensures) told.1
+    let before = c.args.before.now in
+    λ message told. none_not_first (ServesSame e) (map declared before) told.0 (none-map declared (ServesSame e) before (rw c.in-None.is at c.in_ok-other.ensures)) told.1
