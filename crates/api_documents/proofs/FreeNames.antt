@@ -1,0 +1,88 @@
+-- The name that the search for a number finds is free: among one number more than there are names one is free.
+use Rattle.std.proofs.Common.{◌≡◌, ℕ, zero, suc, ◌+◌, ◌<◌, ◌≤◌, ◌^◌, true, false, cond, List, [], ◌∷◌, ◌++◌, length}
+use Rattle.std.proofs.Common.{refl, sym, ◌∙◌, arith, inl, inr}
+use Rattle.std.specs.Prelude.{bytes_eq}
+use Rattle.std.specs.Fmt.{decimal}
+use Rattle.std.proofs.lemmas.Bool.{cases_Bool, or_cases, true≢false}
+use Rattle.std.proofs.lemmas.Fmt.{decimal_injective}
+use Rattle.std.proofs.lemmas.Slice.Eq.{bytes_eq-Decides}
+use Rattle.std.proofs.lemmas.List.{append_cancel_left}
+use Rattle.api_documents.specs.ErrorNames.{free_from, free_name, is_taken}
+
+-- names without the first that is this one
+without : List ℕ → List (List ℕ) → List (List ℕ)
+without name [] = []
+without name (first ∷ names) = cond (bytes_eq name first) names (first ∷ without name names)
+
+-- one name less
+length-without : (name : List ℕ) (names : List (List ℕ)) → is_taken names name ≡ true
+    → length (without name names) + 1 ≡ length names
+unfolding without
+length-without name [] taken = absurd (true≢false (sym taken))
+length-without name (first ∷ names) taken = elim (cases_Bool (bytes_eq name first)) [
+  | inl same ↦ rw same (omega arith)
+  | inr other ↦ let rest = length-without name names (rw other at taken) in rw other (omega (arith, rest))
+]
+
+-- another name stays
+taken-without : (name other : List ℕ) (names : List (List ℕ)) → (name ≡ other → ⊥) → is_taken names other ≡ true
+    → is_taken (without name names) other ≡ true
+unfolding without
+taken-without name other [] differ taken = taken
+taken-without name other (first ∷ names) differ taken = elim (cases_Bool (bytes_eq name first)) [
+  | inl same ↦ elim (or_cases (bytes_eq other first) (is_taken names other) taken) [
+    | inl here ↦ absurd (differ ((bytes_eq-Decides name first).0 same ∙ sym ((bytes_eq-Decides other first).0 here)))
+    | inr later ↦ rw same later
+  ]
+  | inr unlike ↦ elim (or_cases (bytes_eq other first) (is_taken names other) taken) [
+    | inl here ↦ rw (unlike, here) refl
+    | inr later ↦ let rest = taken-without name other names differ later in elim (cases_Bool (bytes_eq other first)) [
+      | inl here ↦ rw (unlike, here) refl
+      | inr there ↦ rw (unlike, there) rest
+    ]
+  ]
+]
+
+module _ (names : List (List ℕ)) (name : List ℕ) where
+  at : ℕ → List ℕ
+  at number = name ++ decimal number
+
+  -- each name that a number from this one on makes, and that is taken, is one of some names
+  record Covers (number : ℕ) (some : List (List ℕ)) : Type 0 where
+    covers : (k : ℕ) → number ≤ k → k < 2 ^ 64 → is_taken names (at k) ≡ true → is_taken some (at k) ≡ true
+
+  free_among : (more number : ℕ) (some : List (List ℕ)) → length some ≤ more → number + more < 2 ^ 64
+      → Covers number some
+      → is_taken names (at (free_from names name number more)) ≡ false
+  unfolding at
+  free_among zero number [] few small covered = elim (cases_Bool (is_taken names (at number))) [
+    | inl taken ↦ absurd (true≢false (sym (covered.covers number (omega arith) (omega arith) taken)))
+    | inr free ↦ free
+  ]
+  free_among zero number (first ∷ some) few small covered = absurd (omega (arith, few))
+  free_among (suc more) number some few small covered = elim (cases_Bool (is_taken names (at number))) [
+    | inl taken ↦
+        let here = covered.covers number (omega arith) (omega arith) taken in
+        let fewer = length-without (at number) some here in
+        let rest =
+        free_among more (number + 1) (without (at number) some) (omega (arith, fewer, few)) (omega (arith, small))
+        (record {
+          covers = λ k above below t.
+              taken-without (at number) (at k) some
+              (λ same. let equal = decimal_injective number k (omega arith) below
+              (append_cancel_left name _ _ same) in omega (arith, equal, above))
+              (covered.covers k (omega arith) below t);
+        }) in
+        rw taken rest
+    | inr free ↦ rw free free
+  ]
+
+  -- the number that the search finds makes the name free
+  pub free_found : length names + 2 < 2 ^ 64 → is_taken names (free_name names name) ≡ false
+  unfolding at
+  free_found small = elim (cases_Bool (is_taken names name)) [
+    | inl taken ↦ rw taken
+        (free_among (length names) 2 names (omega arith) (omega (arith, small))
+        (record { covers = λ k above below t. t }))
+    | inr free ↦ rw free free
+  ]

@@ -1,0 +1,24 @@
+mod Among
+pub mod Chosen
+mod Covered
+mod DocumentParts
+mod ErrorLoops
+mod FreeNames
+mod FreeNumbers
+mod Growing
+mod ListedOperations
+mod ListsEndpoints
+mod OrderedNames
+mod PlacesFound
+mod Reaching
+mod ReferenceRows
+mod Roots
+pub mod SameDescs
+mod SameSchemas
+mod SameTables
+mod SchemasFound
+mod DecimalTexts
+mod SoundParameters
+mod SoundOperations
+mod SoundDocument
+pub mod CallerLemmas

@@ -1,0 +1,16 @@
+pub mod Ordered
+pub mod Listed
+pub mod Parameters
+pub mod Bodies
+pub mod ErrorNames
+pub mod Codes
+pub mod Responses
+pub mod Operations
+pub mod Places
+pub mod References
+pub mod Components
+pub mod Tags
+pub mod Documents
+pub mod Lists
+pub mod Accepted
+pub mod Drawn

@@ -1,0 +1,46 @@
+-- The operations of a document (OpenAPI 3.0.3, Paths Object, Path Item Object and Operation Object). `ds` are the
+-- endpoints that the document lists, and `named` the errors of the document under their names.
+use Rattle.std.specs.Prelude.{ℕ, List, map, Option, option_map, codes}
+use Rattle.openapi_values.specs.declared.operation.Operation.{Operation}
+use Rattle.openapi_values.specs.declared.operation.PathItem.{PathItem}
+use Rattle.api_declarations.specs.Values.{DeclarationValue}
+use Rattle.api_documents.specs.Bodies.{body_of}
+use Rattle.api_documents.specs.ErrorNames.{NamedErrorValue}
+use Rattle.api_documents.specs.Listed.{endpoint_of, paths_in_order}
+use Rattle.api_documents.specs.Parameters.{pages_of, parameters_of}
+use Rattle.api_documents.specs.Responses.{responses_of}
+
+-- the operation that an endpoint is listed as
+abbrev pub operation_of : List NamedErrorValue → DeclarationValue → Operation
+operation_of named d = record {
+  tags = d.tags;
+  summary = d.summary;
+  description = d.description;
+  operation_id = d.operation_id;
+  parameters = parameters_of d.shape.table d.shape.slots;
+  request_body = body_of d.body_content_type d.shape.table d.shape.slots;
+  responses = responses_of named d.shape;
+  deprecated = d.deprecated;
+  pagination = pages_of d.shape.table d.shape.slots;
+}
+
+-- the operation of a path and a method
+abbrev pub operation_at : List NamedErrorValue → List DeclarationValue → List ℕ → List ℕ → Option Operation
+operation_at named ds path method = option_map (operation_of named) (endpoint_of ds path method)
+
+-- the operations of a path, one for each method by which it is served
+abbrev pub path_item_of : List NamedErrorValue → List DeclarationValue → List ℕ → PathItem
+path_item_of named ds path = record {
+  get = operation_at named ds path (codes "GET");
+  put = operation_at named ds path (codes "PUT");
+  post = operation_at named ds path (codes "POST");
+  delete = operation_at named ds path (codes "DELETE");
+  options = operation_at named ds path (codes "OPTIONS");
+  head = operation_at named ds path (codes "HEAD");
+  patch = operation_at named ds path (codes "PATCH");
+  trace = operation_at named ds path (codes "TRACE");
+}
+
+-- each path with its operations
+abbrev pub path_items : List NamedErrorValue → List DeclarationValue → List (List ℕ × PathItem)
+path_items named ds = map (λ path. (path, path_item_of named ds path)) (paths_in_order ds)

@@ -1,0 +1,19 @@
+//! The document of endpoints at a version: what it lists and defines, and that it is sound JSON.
+#![tactic(auto)]
+
+mod bodies;
+mod components;
+mod documents;
+mod error_names;
+mod laws;
+mod listed;
+mod operations;
+mod parameters;
+mod placed;
+mod reached;
+mod references;
+mod responses;
+mod tags;
+
+pub use documents::document;
+pub use laws::{documents_define, documents_list, documents_sound};
