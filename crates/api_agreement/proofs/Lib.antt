@@ -1,0 +1,10 @@
+mod Each
+mod SlotsApart
+mod OperationSlots
+mod TypedBodies
+mod PageQueries
+mod SlotsAgree
+mod RequestsAgree
+mod Firsts
+mod AcceptedSlots
+mod AcceptedTogether

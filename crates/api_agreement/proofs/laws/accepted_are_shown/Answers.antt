@@ -1,0 +1,5 @@
+use Rattle.api_agreement.proofs.AcceptedSlots.{shown_slots}
+use Rattle.api_agreement.proofs.laws.accepted_are_shown.Goals as goal
+
+pub returns : goal.returns
+returns c = shown_slots

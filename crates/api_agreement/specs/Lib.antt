@@ -1,0 +1,2 @@
+pub mod ShownSlots
+pub mod Agreement
