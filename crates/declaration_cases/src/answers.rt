@@ -1,5 +1,6 @@
 //! What the calls of cases answer.
 use crate::causes::causes_told;
+use crate::documents::document_told;
 use crate::extracts::extracted;
 use crate::limits::{body_limit, page_limit};
 use crate::look_ups::found;
@@ -13,7 +14,7 @@ use schema_values::Json;
 use std::alloc::Global;
 
 /// The names that members of a case have.
-const MEMBERS: [&str; 27] = [
+const MEMBERS: [&str; 29] = [
     "case",
     "like",
     "call",
@@ -41,6 +42,8 @@ const MEMBERS: [&str; 27] = [
     "greatest",
     "default",
     "request_body_max_bytes",
+    "title",
+    "info",
 ];
 
 /// The calls of cases of declarations.
@@ -62,6 +65,7 @@ impl AnswersCases for DeclarationCases {
             "tags" => settings_told(alloc, case),
             "look_up" => found(alloc, case),
             "cause" => causes_told(alloc, case),
+            "document" => document_told(alloc, case),
             "path_params" => path_params_told(alloc, case),
             "page_limit" => page_limit(alloc, case),
             "body_limit" => body_limit(alloc, case),

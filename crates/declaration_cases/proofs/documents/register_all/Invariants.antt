@@ -1,0 +1,8 @@
+use Rattle.std.proofs.Common.{map}
+use Rattle.api_registration.specs.EndpointIndexes.{IsIndexed}
+use Rattle.declaration_cases.specs.contracts.endpoint.PlainEndpointDeclared.TheImpl.{declared-value}
+use Rattle.declaration_cases.proofs.documents.register_all.Given as goal
+
+-- the index is that of the endpoints that are registered so far
+abbrev pub invariant-loop-one : goal.invariant-loop-one
+invariant-loop-one l = IsIndexed (map declared-value.it l.registered) l.index

@@ -1,0 +1,147 @@
+//! The document of the endpoints of a case. `"title"` and `"version"` name the API, and `"info"`
+//! says more of it: `{"description", "terms_of_service", "contact":{"name", "url", "email"},
+//! "license":{"name", "url"}}`.
+ghost use Rattle.std.specs.Prelude.{All, IsTrue, map};
+ghost use Rattle.handler_shapes.specs.ShapeChecks.{ShapePasses};
+ghost use Rattle.api_registration.specs.EndpointIndexes.{IsIndexed};
+
+use crate::endpoint::PlainEndpoint;
+use crate::members::{items_at, text_or};
+use crate::registered::{register, settings_at};
+use crate::requests::version_at;
+use api_declarations::{Declaration, Declared};
+use api_documents::document;
+use api_registration::{ApiDescriptionRegisterError, EndpointIndex};
+use case_notation::{CaseError, check_names, form, given, maybe_text, text_of};
+use handler_shapes::shape_passes;
+use openapi_values::{Contact, Info, License, Part};
+use schema_values::{Json, List, Text};
+use semver::Version;
+use std::alloc::{AllocError, Global};
+use tag_config::TagConfig;
+
+/// The document of the endpoints of a case, or why one of them may not be registered.
+pub fn document_told(alloc: Global, case: &Json) -> Result<Json, CaseError> {
+    let settings = settings_at(alloc, case)?;
+    let mut registered = List::new(alloc);
+    let mut index = EndpointIndex::new(alloc);
+    let endpoints = items_at(case, "endpoints")?;
+    match register_all(alloc, &settings, &mut registered, &mut index, endpoints)? {
+        Some(error) => Ok(form(alloc, "refused", error_told(alloc, &error)?)?),
+        None => document_of(alloc, case, &settings, registered.as_slice()),
+    }
+}
+
+// Registers the endpoints that are noted, up to the first that may not be, of which the error is told.
+fn register_all(
+    alloc: Global,
+    settings: &TagConfig,
+    registered: &mut List<PlainEndpoint>,
+    index: &mut EndpointIndex,
+    noted: &[Json],
+) -> Result<Option<ApiDescriptionRegisterError>, CaseError>
+    requires { IsIndexed (map ⟦<PlainEndpoint as Declared>⟧.declared registered.old) index.old }
+{
+    for one in noted {
+        if let Some(error) = register(alloc, settings, registered, index, one)? {
+            return Ok(Some(error));
+        }
+    }
+    Ok(None)
+}
+
+fn error_told(alloc: Global, error: &ApiDescriptionRegisterError) -> Result<Json, AllocError> {
+    let (cause, id) = (error.cause(), error.operation_id());
+    let told = format!(in alloc; "{error}, {cause:?} of {id}")?;
+    Ok(Json::Text(Text::from_string(told)))
+}
+
+fn document_of(
+    alloc: Global,
+    case: &Json,
+    settings: &TagConfig,
+    endpoints: &[PlainEndpoint],
+) -> Result<Json, CaseError> {
+    let declarations = declarations_of(alloc, endpoints)?;
+    if !all_pass(declarations.as_slice()) {
+        return Err(CaseError::Expected("shapes that pass their checks"));
+    }
+    written(alloc, case, settings, declarations.as_slice())
+}
+
+fn declarations_of<'e>(
+    alloc: Global,
+    endpoints: &'e [PlainEndpoint],
+) -> Result<Vec<Declaration<'e>>, AllocError> {
+    let mut declarations = Vec::new(alloc);
+    for endpoint in endpoints {
+        declarations.push(endpoint.declaration())?;
+    }
+    Ok(declarations)
+}
+
+fn all_pass(declarations: &[Declaration<'_>]) -> bool
+    ensures { IsTrue result → All (λ d. ShapePasses d.shape) declarations.now }
+{
+    for declaration in declarations {
+        if !shape_passes(declaration.shape) {
+            return false;
+        }
+    }
+    true
+}
+
+fn written(
+    alloc: Global,
+    case: &Json,
+    settings: &TagConfig,
+    declarations: &[Declaration<'_>],
+) -> Result<Json, CaseError>
+    requires { All (λ d. ShapePasses d.shape) declarations.now }
+{
+    let version = version_at(alloc, case)?;
+    let info = info_of(alloc, case, &version)?;
+    let document = document(alloc, declarations, settings, &info, &version)?;
+    Ok(document.to_json(alloc)?)
+}
+
+fn info_of(alloc: Global, case: &Json, version: &Version) -> Result<Info, CaseError> {
+    let noted = case.get("info").unwrap_or(&Json::Null);
+    if case.get("info").is_some() {
+        check_names(
+            noted,
+            &["description", "terms_of_service", "contact", "license"],
+        )?;
+    }
+    Ok(Info {
+        title: text_or(alloc, case, "title", "sample")?,
+        version: Text::from_string(format!(in alloc; "{version}")?),
+        description: maybe_text(alloc, noted.get("description"))?,
+        terms_of_service: maybe_text(alloc, noted.get("terms_of_service"))?,
+        contact: contact_of(alloc, noted)?,
+        license: license_of(alloc, noted)?,
+    })
+}
+
+fn contact_of(alloc: Global, noted: &Json) -> Result<Option<Contact>, CaseError> {
+    let Some(contact) = noted.get("contact") else {
+        return Ok(None);
+    };
+    check_names(contact, &["name", "url", "email"])?;
+    Ok(Some(Contact {
+        name: maybe_text(alloc, contact.get("name"))?,
+        url: maybe_text(alloc, contact.get("url"))?,
+        email: maybe_text(alloc, contact.get("email"))?,
+    }))
+}
+
+fn license_of(alloc: Global, noted: &Json) -> Result<Option<License>, CaseError> {
+    let Some(license) = noted.get("license") else {
+        return Ok(None);
+    };
+    check_names(license, &["name", "url"])?;
+    Ok(Some(License {
+        name: text_of(given(license, "name")?)?.copy(alloc)?,
+        url: maybe_text(alloc, license.get("url"))?,
+    }))
+}
