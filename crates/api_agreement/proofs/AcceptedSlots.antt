@@ -4,6 +4,7 @@ use Rattle.std.proofs.Common.{◌≡◌, ℕ, ◌+◌, ◌≤◌, Bool, true, fa
 use Rattle.std.proofs.Common.{Some, None, IsTrue, bytes_eq, codes, refl, sym, ◌∙◌, ap, subst, arith, inl, inr}
 use Rattle.std.proofs.lemmas.Bool.{cases_lt, lt-ltb, or_left, or_right}
 use Rattle.std.proofs.lemmas.List.Elements.{All-contains, All-contains_itself}
+use Rattle.std.proofs.lemmas.List.Folds.{list_any_at}
 use Rattle.std.proofs.lemmas.List.Kept.{AllPairs-cons}
 use Rattle.std.proofs.lemmas.List.Sums.{sum_by-cons}
 use Rattle.std.proofs.lemmas.Slice.Eq.{bytes_eq-Decides}
@@ -88,11 +89,7 @@ module _ {A : Type 0} (p : A → Bool) where
   ]
 
   stands : (xs : List A) (x : A) → Contains xs x → p x ≡ true → list_any p xs ≡ true
-  stands [] x c e = absurd (omega (arith, c.1))
-  stands (y ∷ xs) x c e = elim (contains_cases y xs x c) [
-    | inl same ↦ or_left _ _ (ap p same ∙ e)
-    | inr later ↦ or_right _ _ (stands xs x later e)
-  ]
+  stands xs x c e = list_any_at p xs c.0 x c.1 (ap p c.2 ∙ e)
 
 abbrev AreFew : List Slot → Type 0
 AreFew slots = list_any takes_pages slots ≡ true → count_by takes_query slots ≤ 1
