@@ -1,0 +1,5 @@
+pub mod Structs
+pub mod AskedNames
+pub mod SchemasInOrder
+pub mod OneMore
+pub mod ShownSlots

@@ -1,0 +1,7 @@
+pub mod Structs
+pub mod ByBytes
+pub mod Values
+pub mod Parameters
+pub mod Modes
+pub mod Listed
+pub mod Shown
