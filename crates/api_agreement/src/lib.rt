@@ -3,4 +3,6 @@
 
 mod laws;
 
-pub use laws::{accepted_agree, accepted_are_shown, accepted_may_be_listed, requests_agree};
+pub use laws::{
+    accepted_agree, accepted_are_listed, accepted_are_shown, accepted_may_be_listed, requests_agree,
+};
