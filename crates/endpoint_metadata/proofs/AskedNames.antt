@@ -69,18 +69,20 @@ module _ (table : List Definition) where
   -- what is asked for by some of the slots
   pub ask_within : (slots : List Slot) (i : ℕ) (names : PageNames) → AskFor table (take i slots) names
       → AskFor table slots names
-  ask_within slots i names asks =
-      (asks.0,
-          subst (λ (xs : List Slot). Contains xs asks.0) (take-append-drop i slots)
-          (Contains-append_left (take i slots) (drop i slots) asks.0 asks.1), asks.2)
+  ask_within slots i names asks = (
+    asks.0,
+    subst (λ (xs : List Slot). Contains xs asks.0) (take-append-drop i slots)
+        (Contains-append_left (take i slots) (drop i slots) asks.0 asks.1),
+    asks.2,
+  )
 
   -- the mode stays where one more slot is not of pages
   pub mode_kept : (slots : List Slot) (slot : Slot) (m : ExtensionMode) → asked_names table slot ≡ None
       → m ≡ mode_of (first_asked table slots) → m ≡ mode_of (first_asked table (slots ++ slot ∷ []))
   mode_kept slots slot m none is =
       is ∙ ap mode_of
-          (sym (pages_last slots slot ∙ ap (option_or (first_asked table slots)) none
-          ∙ or_none (first_asked table slots)))
+      (sym (pages_last slots slot ∙ ap (option_or (first_asked table slots)) none
+      ∙ or_none (first_asked table slots)))
 
   -- and it is that of one more slot of pages, where this asks for the same names as the first
   pub mode_joined : (slots : List Slot) (slot : Slot) (names : PageNames) → asked_names table slot ≡ Some names
@@ -98,7 +100,7 @@ module _ (table : List Definition) where
 
   module _ (slots : List Slot) (slot : Slot) (alike : AskAlike table slots)
       (same : (first names : PageNames) → first_asked table slots ≡ Some first → asked_names table slot ≡ Some names
-          → first ≡ names) where
+      → first ≡ names) where
     as_last : (one other : PageNames) → AskFor table slots one → asked_names table slot ≡ Some other → one ≡ other
     as_last one other asks is = by_first (first_asked table slots) refl
       where

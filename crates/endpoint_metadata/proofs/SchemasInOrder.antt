@@ -64,9 +64,10 @@ others_before : (es : List Definition) (i : ℕ) (e : Definition) → AreDistinc
     → AllByRecursion (λ d. (get_or es i e).name ≢ d.name) (take i es)
 others_before [] i e apart less = absurd (omega (arith, less))
 others_before (d ∷ es) zero e apart less = tt
-others_before (d ∷ es) (suc i) e apart less =
-    (λ same. at_place (λ other. d.name ≢ other) es i e apart.0 (omega (arith, less)) (sym same),
-        others_before es i e apart.1 (omega (arith, less)))
+others_before (d ∷ es) (suc i) e apart less = (
+  λ same. at_place (λ other. d.name ≢ other) es i e apart.0 (omega (arith, less)) (sym same),
+  others_before es i e apart.1 (omega (arith, less)),
+)
 
 by_characters : (schema : Definition → Schema) (ds : List Definition) (es : Entries) (name : List ℕ)
     → named_schemas es ≡ map (λ d. (d.name, schema d)) ds
@@ -83,11 +84,11 @@ by_characters schema (d ∷ ds) (e ∷ es) name same others =
 pub next_is_new : (schema : Definition → Schema) (table : List Definition) (i : ℕ) (e : Definition) (es : Entries)
     (name : List ℕ) → AreDistinct (map definition_name table) → i < length table → e ≡ get_or table i e
     → named_schemas es ≡ map (λ d. (d.name, schema d)) (take i table) → e.name ≡ chars name
-        → AllByRecursion (λ other. name ≢ other) (names_by_bytes es)
+    → AllByRecursion (λ other. name ≢ other) (names_by_bytes es)
 next_is_new schema table i e es name apart less is so_far named =
     by_characters schema (take i table) es name so_far
-        (subst (λ (n : List ℕ). AllByRecursion (λ d. n ≢ d.name) (take i table)) (ap (λ d. d.name) (sym is) ∙ named)
-        (others_before table i e apart less))
+    (subst (λ (n : List ℕ). AllByRecursion (λ d. n ≢ d.name) (take i table)) (ap (λ d. d.name) (sym is) ∙ named)
+    (others_before table i e apart less))
 
 -- ---- the entries of a map in turn
 key_at : (P : String Global → Type 0) (done : Entries) (e : String Global × Schema) (rest : Entries)
@@ -102,9 +103,10 @@ not_among [] e rest apart = tt
 not_among (d ∷ done) e rest apart =
     let keys = keys_of (done ++ e ∷ rest) in
     let differs : string_eq d.0 e.0 ≡ false =
-        key_at (λ k. string_eq d.0 k ≡ false) done e rest (IsDistinct-head string_eq d.0 keys apart) in
-    (λ same. true≢false (sym ((bytes_eq-Decides (string_bytes d.0) (string_bytes e.0)).1 (sym same)) ∙ differs),
-        not_among done e rest (IsDistinct-tail string_eq d.0 keys apart))
+    key_at (λ k. string_eq d.0 k ≡ false) done e rest (IsDistinct-head string_eq d.0 keys apart) in (
+      λ same. true≢false (sym ((bytes_eq-Decides (string_bytes d.0) (string_bytes e.0)).1 (sym same)) ∙ differs),
+      not_among done e rest (IsDistinct-tail string_eq d.0 keys apart),
+    )
 
 same_names : (es fs : Entries) → entries_by_bytes es ≡ entries_by_bytes fs → names_by_bytes es ≡ names_by_bytes fs
 same_names es fs same = names_of es ∙ ap (map (λ entry. entry.0)) same ∙ sym (names_of fs)

@@ -72,8 +72,8 @@ limit_same table =
     let is = desc.outs-Int U32 (Some (pos 1)) None in
     let itself : in_query (OptionOf number) ≡ OptionOf number = rw (desc.outs-Option number, is) refl in
     ap (as_parameter (codes "query") limit_field false)
-        (ap (schema_json table) itself
-        ∙ option_anywhere table number (drawn_row table number level is ∙ sym (drawn_row [] number level is)))
+    (ap (schema_json table) itself
+    ∙ option_anywhere table number (drawn_row table number level is ∙ sym (drawn_row [] number level is)))
 
 abbrev words : Desc
 words = Words None None None
@@ -85,8 +85,8 @@ token_same table =
     let is = desc.outs-Text None None None in
     let itself : in_query (OptionOf words) ≡ OptionOf words = rw (desc.outs-Option words, is) refl in
     ap (as_parameter (codes "query") token_field false)
-        (ap (schema_json table) itself
-        ∙ option_anywhere table words (drawn_row table words level is ∙ sym (drawn_row [] words level is)))
+    (ap (schema_json table) itself
+    ∙ option_anywhere table words (drawn_row table words level is ∙ sym (drawn_row [] words level is)))
 
 -- the parameters of pages in the order of their names
 pages_sorted : (table : List Definition) (fields : List Field)
@@ -95,13 +95,13 @@ pages_sorted : (table : List Definition) (fields : List Field)
 pages_sorted table fields =
     map_sorted field_name parameter_name (scan_parameter table) (λ f. refl) (limit_field ∷ token_field ∷ fields)
     ∙ ap₂ (λ (limit token : Parameter). sorted_by parameter_name (limit ∷ token ∷ map (scan_parameter table) fields))
-        (limit_same table) (token_same table)
+    (limit_same table) (token_same table)
 
 module _
     (written : (table : List Definition) (desc : Desc)
     → json_written None (schema_value table desc) ≡ schema_json table desc)
     (titled : (table : List Definition) (desc : Desc) (name : List ℕ)
-        → json_written (Some name) (schema_value table desc) ≡ schema_json_titled table name desc)
+    → json_written (Some name) (schema_value table desc) ≡ schema_json_titled table name desc)
     (kind : ApiEndpointBodyContentType) (table : List Definition) where
   in_path : (f : Field)
       → shown (field_parameter location.Path table f) ≡ Some (parameter_of (codes "path") (λ d. d) table f)
@@ -133,7 +133,7 @@ module _
       (sorted_by field_name (listed_fields table desc))
   slot_shown (slot.PagedQuery scan selector selector_table) =
       all_shown (page_parameter table) shown (scan_parameter table) in_pages
-          (sorted_by field_name (limit_field ∷ token_field ∷ listed_fields table scan))
+      (sorted_by field_name (limit_field ∷ token_field ∷ listed_fields table scan))
       ∙ pages_sorted table (listed_fields table scan)
   slot_shown (slot.TypedBody desc name) = refl
   slot_shown slot.RawBody = refl
@@ -163,7 +163,7 @@ module _
       no_body (field_parameter location.Header table) (λ f. refl) (sorted_by field_name (listed_fields table desc)) rest
   body_shown (slot.PagedQuery scan selector selector_table) rest =
       no_body (page_parameter table) (λ f. refl)
-          (sorted_by field_name (limit_field ∷ token_field ∷ listed_fields table scan)) rest
+      (sorted_by field_name (limit_field ∷ token_field ∷ listed_fields table scan)) rest
   body_shown (slot.TypedBody desc name) rest = ap (λ json. body_under kind true json ∷ rest) (titled table desc name)
   body_shown slot.RawBody rest = ap (λ json. body_under Bytes true json ∷ rest) (written table binary_type)
   body_shown slot.StreamBody rest = ap (λ json. body_under Bytes true json ∷ rest) (written table binary_type)

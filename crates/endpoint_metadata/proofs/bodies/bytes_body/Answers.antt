@@ -21,7 +21,7 @@ returns c =
     let table = c.args.table.now in
     let binary = schema_value table binary_type in
     let schema_is : c.in_ok-schema.schema ≡ binary =
-        c.in_ok-schema.ensures.plain refl ∙ ap (schema_value table) (c.get.ensures ∙ c.in_ok-binary.ensures) in
+    c.in_ok-schema.ensures.plain refl ∙ ap (schema_value table) (c.get.ensures ∙ c.in_ok-binary.ensures) in
     ap parameter_value c.new_body.ensures
     ∙ ap (λ schema. of_parts schema c.new.result.entries c.new-examples.result) schema_is
     ∙ ap (λ entries. of_parts binary entries c.new-examples.result) c.new.ensures.empty

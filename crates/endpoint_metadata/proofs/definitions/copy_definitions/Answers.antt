@@ -14,11 +14,11 @@ define-requires c =
     let done = map deref_pair l.yielded in
     let entry : String Global × Schema = (c.in-Some.name.now, c.in-Some.schema.now) in
     let split =
-        sym start.0 ∙ rest_so_far deref_pair l.yielded c.into_iter-name-iterator.result l.name-iterator l.yielded_by
-        ∙ ap (λ es. done ++ es) c.in-Some.ensures.steps in
+    sym start.0 ∙ rest_so_far deref_pair l.yielded c.into_iter-name-iterator.result l.name-iterator l.yielded_by
+    ∙ ap (λ es. done ++ es) c.in-Some.ensures.steps in
     rw c.as_str.ensures.value
     (next_is_new_copy c.args.definitions.now.entries done entry c.next.new.self l.copies.entries split start.4
-        l.invariant)
+    l.invariant)
 
 pub returns : goal.returns
 returns c =
@@ -26,7 +26,7 @@ returns c =
     let start = c.into_iter-name-iterator.ensures.into_iter_gives in
     let entries = c.args.definitions.now.entries in
     let all =
-        YieldsList-end
-        (YieldsList-from_rest entries start.0) l.yielded l.name-iterator l.yielded_by c.next.result c.next.new.self
-        c.in-None.is c.next.ensures.steps in
+    YieldsList-end
+    (YieldsList-from_rest entries start.0) l.yielded l.name-iterator l.yielded_by c.next.result c.next.new.self
+    c.in-None.is c.next.ensures.steps in
     named_same l.copies.entries entries (l.invariant ∙ ap entries_by_bytes all.0)

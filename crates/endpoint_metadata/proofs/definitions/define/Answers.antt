@@ -12,8 +12,8 @@ returns c =
     let name = c.in_ok-name.name in
     let schema = c.args.schema in
     let is_new =
-        subst (λ (bytes : List ℕ). AllByRecursion (λ other. bytes ≢ other) (names_by_bytes entries))
-        (sym c.in_ok-name.ensures.ok) c.requires in
+    subst (λ (bytes : List ℕ). AllByRecursion (λ other. bytes ≢ other) (names_by_bytes entries))
+    (sym c.in_ok-name.ensures.ok) c.requires in
     ap entries_by_bytes (c.in_ok-insert.ensures.entries ∙ new_last entries name schema is_new)
     ∙ map_push (λ (entry : String Global × Schema). (string_bytes entry.0, entry.1)) entries (name, schema)
     ∙ ap (λ (bytes : List ℕ). entries_by_bytes entries ++ (bytes, schema) ∷ []) c.in_ok-name.ensures.ok

@@ -17,8 +17,8 @@ define-requires c =
     let inside : i < length table = rw (← items) (omega arith) in
     let so_far = rw items at c.loop-definition.invariant in
     next_is_new
-        (definition_value table) table i e c.loop-definition.definitions.entries c.as_str.result.now
-        c.definitions-definition-items.ensures.distinct inside is so_far c.as_str.ensures
+    (definition_value table) table i e c.loop-definition.definitions.entries c.as_str.result.now
+    c.definitions-definition-items.ensures.distinct inside is so_far c.as_str.ensures
 
 pub loop-definition-preserved : goal.loop-definition-preserved
 loop-definition-preserved c =
@@ -31,7 +31,7 @@ loop-definition-preserved c =
     let row : Definition → List ℕ × Schema = λ d. (d.name, definition_value table d) in
     let inside : i < length items = omega arith in
     let is_row : ◌≡◌ {A = List ℕ × Schema} (chars name, schema) (row e) =
-        cc (c.as_str.ensures, c.in_ok-schema.ensures) in
+    cc (c.as_str.ensures, c.in_ok-schema.ensures) in
     named_last c.loop-definition.definitions.entries c.define.new.definitions.entries name schema c.in_ok-define.ensures
     ∙ ap (λ (names : SchemasInOrder). names ++ (chars name, schema) ∷ []) c.loop-definition.invariant
     ∙ ap (λ (entry : List ℕ × Schema). map row (take i items) ++ entry ∷ []) (is_row ∙ ap row c.definition-item.is)

@@ -7,4 +7,4 @@ use Rattle.endpoint_metadata.proofs.definitions.definitions_of.Given as goal
 abbrev pub invariant-loop-definition : goal.invariant-loop-definition
 invariant-loop-definition l =
     named_schemas l.definitions.entries
-        ≡ map (λ e. (e.name, definition_value l.table e)) (take l.definition-index l.definition-items)
+    ≡ map (λ e. (e.name, definition_value l.table e)) (take l.definition-index l.definition-items)

@@ -8,15 +8,15 @@ pub resolved-requires : goal.resolved-requires
 resolved-requires t c =
     let name = c.in-Ref.name in
     let less =
-        fewer_behind c.args.table.now c.requires.guarded c.args.desc.now name c.in-Some.definition.now
-        (ap out-Desc c.in-Ref.is ∙ desc.outs-Ref name) (sym c.in-Some.ensures) in
+    fewer_behind c.args.table.now c.requires.guarded c.args.desc.now name c.in-Some.definition.now
+    (ap out-Desc c.in-Ref.is ∙ desc.outs-Ref name) (sym c.in-Some.ensures) in
     (omega (arith, c.decreases, less), c.requires)
 
 pub returns-in-Some : goal.returns-in-Some
 returns-in-Some t c =
     c.resolved.ensures
-        ∙ sym (at_name c.args.table.now c.requires.guarded c.args.desc.now c.in-Ref.name
-        (Some c.in-Some.definition.now) c.in-Ref.is (sym c.in-Some.ensures))
+    ∙ sym (at_name c.args.table.now c.requires.guarded c.args.desc.now c.in-Ref.name
+    (Some c.in-Some.definition.now) c.in-Ref.is (sym c.in-Some.ensures))
 
 pub returns-in-None : goal.returns-in-None
 returns-in-None t c =

@@ -9,7 +9,7 @@ pub loop-slot-preserved : goal.loop-slot-preserved
 loop-slot-preserved c =
     let P = IsListedSlot c.args.table.now in
     All-more P c.args.slots.now c.loop-slot.slot-index c.slot-item.result (omega arith) c.loop-slot.invariant
-        (subst P c.slot-item.is (c.is_listed.ensures.0 c.if-not-is_listed.false))
+    (subst P c.slot-item.is (c.is_listed.ensures.0 c.if-not-is_listed.false))
 
 pub returns : goal.returns
 returns c =

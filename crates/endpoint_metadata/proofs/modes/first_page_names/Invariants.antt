@@ -8,4 +8,4 @@ use Rattle.endpoint_metadata.proofs.modes.first_page_names.Given as goal
 abbrev pub invariant-loop-field : goal.invariant-loop-field
 invariant-loop-field l =
     l.names ≡ map field_name
-        (filter (λ f. is_required f.presence) (map (λ f. f.now) (take l.field-index l.field-items)))
+    (filter (λ f. is_required f.presence) (map (λ f. f.now) (take l.field-index l.field-items)))

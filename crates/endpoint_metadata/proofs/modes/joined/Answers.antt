@@ -11,7 +11,7 @@ returns-then-eq-clause-joined c =
 pub returns-then-eq-clause-same : goal.returns-then-eq-clause-same
 returns-then-eq-clause-same c first is =
     let same =
-        (slice_eq-Decides bytes_eq-Decides c.in-Paginated.first c.args.names c.eq.result c.eq.ensures).0 c.if-eq.true in
+    (slice_eq-Decides bytes_eq-Decides c.in-Paginated.first c.args.names c.eq.result c.eq.ensures).0 c.if-eq.true in
     cc (is, same, c.in-Paginated.is)
 
 pub returns-clause-differ : goal.returns-clause-differ

@@ -21,7 +21,7 @@ loop-slot-preserved c =
           let names = w.in-Some.names in
           let some : asked_names table slot ≡ Some names = sym c.in_ok-names.ensures ∙ w.in-Some.is in
           let same : (first : PageNames) → first_asked table before ≡ Some first → first ≡ names =
-              λ first is. w.in_ok-mode.ensures.same first (so_far.mode ∙ ap mode_of is) in
+          λ first is. w.in_ok-mode.ensures.same first (so_far.mode ∙ ap mode_of is) in
           record {
             mode = w.mode-is ∙ w.in_ok-mode.ensures.joined ∙ mode_joined table before slot names some same
                 ∙ ap (λ slots. mode_of (first_asked table slots)) (sym more);
@@ -48,11 +48,16 @@ returns-in_err-mode-clause-incompatible c =
     let names = c.in-Some.names in
     let differ = c.in_err-mode.ensures.differ in
     let first_is : first_asked table (take i slots) ≡ Some differ.0 =
-        paginated (first_asked table (take i slots)) differ.0 (sym c.loop-slot.invariant.mode ∙ differ.1) in
+    paginated (first_asked table (take i slots)) differ.0 (sym c.loop-slot.invariant.mode ∙ differ.1) in
     let inside : Contains slots slot =
-        subst (λ (s : Slot). Contains slots s) (sym c.slot-item.is) (Contains-get_or slots i slot (omega arith)) in
+    subst (λ (s : Slot). Contains slots s) (sym c.slot-item.is) (Contains-get_or slots i slot (omega arith)) in
     let asks : AskFor table slots names = (slot, inside, sym c.in_ok-names.ensures ∙ c.in-Some.is) in
     let exit = err_from_is_err_and c.from_residual-in_err-mode.result c.from_residual-in_err-mode.ensures.1 in
     rw exit.1
-        (λ is. (differ.0, names, ask_within table slots i differ.0 (first_asks table (take i slots) differ.0 first_is),
-        asks, differ.2))
+    (λ is. (
+      differ.0,
+      names,
+      ask_within table slots i differ.0 (first_asks table (take i slots) differ.0 first_is),
+      asks,
+      differ.2,
+    ))

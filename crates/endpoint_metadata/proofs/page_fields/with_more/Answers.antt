@@ -13,6 +13,6 @@ returns c =
     ap (map field_of) c.in_ok-sort_by_name.ensures.sorted
     ∙ map_sorted (λ (f : Bor Field). field_name f.now) field_name field_of (λ f. refl) c.loop-field.fields.items
     ∙ ap (sorted_by field_name)
-        (c.loop-field.invariant
-        ∙ ap (λ (fields : List Field). c.args.limit.now ∷ c.args.token.now ∷ fields)
-        (take_all c.loop-field.field-index more (omega arith)))
+    (c.loop-field.invariant
+    ∙ ap (λ (fields : List Field). c.args.limit.now ∷ c.args.token.now ∷ fields)
+    (take_all c.loop-field.field-index more (omega arith)))

@@ -13,6 +13,6 @@ loop-field-preserved c =
     let of_field : Bor Field → ParameterValue = λ f. page_parameter c.args.table.now f.now in
     let before = parameter_values c.args.told.now in
     one_more before (map of_field (take i items)) c.loop-field.told c.push.new.self c.in_ok-page_parameter.field-0
-        (of_field field) c.in_ok-push.ensures.ok c.in_ok-page_parameter.ensures c.loop-field.invariant
+    (of_field field) c.in_ok-push.ensures.ok c.in_ok-page_parameter.ensures c.loop-field.invariant
     ∙ ap (λ (values : List ParameterValue). before ++ values)
-        (one_further of_field items i field (omega arith) c.field-item.is)
+    (one_further of_field items i field (omega arith) c.field-item.is)

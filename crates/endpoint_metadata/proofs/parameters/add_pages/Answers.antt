@@ -19,11 +19,11 @@ returns c =
     let in_order =
     c.in_ok-fields.ensures
     ∙ ap₂ (λ (limit token : Field). sorted_by field_name (limit ∷ token ∷ c.listed_fields.result.now))
-        (c.get.ensures ∙ c.in_ok-limit.ensures) (c.get-2.ensures ∙ c.in_ok-token.ensures)
+    (c.get.ensures ∙ c.in_ok-limit.ensures) (c.get-2.ensures ∙ c.in_ok-token.ensures)
     ∙ ap (λ (fields : List Field). sorted_by field_name (limit_field ∷ token_field ∷ fields)) c.listed_fields.ensures in
     let all : map (λ (f : Bor Field). page_parameter table f.now) c.as_slice.result.now ≡ listed_pages table scanned =
     ap (map (λ (f : Bor Field). page_parameter table f.now)) c.as_slice.ensures.value
-        ∙ sym (map-map (page_parameter table) field_of fields) ∙ ap (map (page_parameter table)) in_order in
+    ∙ sym (map-map (page_parameter table) field_of fields) ∙ ap (map (page_parameter table)) in_order in
     subst (λ (values : List ParameterValue). OnOk c.add_page_fields.result
-        (parameter_values c.add_page_fields.new.told ≡ parameter_values c.args.told.now ++ values)) all
-        c.add_page_fields.ensures
+    (parameter_values c.add_page_fields.new.told ≡ parameter_values c.args.told.now ++ values)) all
+    c.add_page_fields.ensures

@@ -16,7 +16,7 @@ loop-field-preserved c =
     let before = parameter_values c.args.told.now in
     let so_far = map field_of (take i items) in
     one_more before (map of_field so_far) c.loop-field.told c.push.new.self c.in_ok-field_parameter.field-0
-        (of_field field.now) c.in_ok-push.ensures.ok c.in_ok-field_parameter.ensures c.loop-field.invariant
+    (of_field field.now) c.in_ok-push.ensures.ok c.in_ok-field_parameter.ensures c.loop-field.invariant
     ∙ ap (λ (values : List ParameterValue). before ++ values) (sym (map_push of_field so_far field.now))
     ∙ ap (λ (fields : List Field). before ++ map of_field fields)
-        (one_further field_of items i field (omega arith) c.field-item.is)
+    (one_further field_of items i field (omega arith) c.field-item.is)

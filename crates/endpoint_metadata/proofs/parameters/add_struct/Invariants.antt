@@ -8,4 +8,4 @@ abbrev pub invariant-loop-field : goal.invariant-loop-field
 invariant-loop-field l =
     parameter_values l.told
     ≡ parameter_values l.initial.told ++ map (field_parameter l.location l.table)
-        (map (λ f. f.now) (take l.field-index l.field-items))
+    (map (λ f. f.now) (take l.field-index l.field-items))
