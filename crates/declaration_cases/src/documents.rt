@@ -84,11 +84,17 @@ fn all_pass(declarations: &[Declaration<'_>]) -> bool
     ensures { IsTrue result → All (λ d. ShapePasses d.shape) declarations.now }
 {
     for declaration in declarations {
-        if !shape_passes(declaration.shape) {
+        if !passes(declaration) {
             return false;
         }
     }
     true
+}
+
+fn passes(declaration: &Declaration<'_>) -> bool
+    ensures { IsTrue result → ShapePasses declaration.now.shape }
+{
+    shape_passes(declaration.shape)
 }
 
 fn written(

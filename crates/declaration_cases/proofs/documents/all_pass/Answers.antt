@@ -14,7 +14,7 @@ pub loop-declaration-preserved : goal.loop-declaration-preserved
 loop-declaration-preserved c =
     All-more Passes c.args.declarations.now c.loop-declaration.declaration-index c.declaration-item.result (omega arith)
     c.loop-declaration.invariant
-    (subst Passes c.declaration-item.is (c.shape_passes.ensures.pass.0 c.if-not-shape_passes.false))
+    (subst Passes c.declaration-item.is (c.passes.ensures c.if-not-passes.false))
 
 pub returns : goal.returns
 returns c =
