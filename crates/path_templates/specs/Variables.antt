@@ -1,10 +1,11 @@
 -- Which variables a request gives for a template: exactly those that it names, one text for a variable, and the
 -- components that are left of the path for a wildcard.
-use Rattle.std.specs.Prelude.{◌&&◌, ℕ, Bool, true, false, List, IsTrue, Option, Some, None, bytes_eq}
+use Rattle.std.specs.Prelude.{◌≡◌, ◌&&◌, ℕ, Bool, true, false, List, IsTrue, Option, Some, None, bytes_eq}
 use Rattle.std.specs.List.{list_all, list_any}
 use Rattle.std.specs.Map.{lookup}
 use Rattle.schema_values.specs.declared.variables.VariableValue.{VariableValue}
 use Rattle.schema_values.specs.declared.variables.VariableValue.TheVariants.{String, Components}
+use Rattle.path_templates.specs.Segments.{segments_of}
 use Rattle.path_templates.specs.Templates.{has_name}
 use Rattle.path_templates.specs.declared.segment.PathSegment.{PathSegment}
 use Rattle.path_templates.specs.declared.segment.PathSegment.TheVariants.{Literal, VarnameSegment, VarnameWildcard}
@@ -47,3 +48,9 @@ variables_match segments variables =
 -- the variables are those of the template
 abbrev pub VariablesMatch : List PathSegment → Variables → Type 0
 VariablesMatch segments variables = IsTrue (variables_match segments variables)
+
+-- a path is a template, and the variables are those of it
+pub record IsFilledBy (path : List ℕ) (variables : Variables) : Type 0 where
+  pub segments : List PathSegment
+  pub template : segments_of path ≡ Some segments
+  pub given : VariablesMatch segments variables
