@@ -1,5 +1,5 @@
 //! Ids of requests.
-ghost use Rattle.std.specs.Prelude.{◌≡◌, ◌↔◌, IfOk, OnOk, IsErrOf};
+ghost use Rattle.std.specs.Prelude.{◌≡◌, ◌↔◌, IfOk, IsErrOf};
 ghost use Rattle.std.specs.Str.{chars, encode_utf8_all};
 ghost use Rattle.http_header.specs.FieldValue.{IsFieldValue, plain_value};
 
@@ -68,7 +68,7 @@ impl RequestId {
     /// The id of a text. `BadRequestId` exactly where a header field may not hold the text.
     pub fn new(alloc: Global, text: &str) -> Result<RequestId, RequestIdError>
         ensures ok { IfOk result (λ id. id ≡ chars text.now) }
-        ensures valid { OnOk result (IsFieldValue text.now) }
+        ensures valid { ¬ IsErrOf result RequestIdError.BadRequestId → IsFieldValue text.now }
         ensures bad { IsErrOf result RequestIdError.BadRequestId ↔ ¬ (IsFieldValue text.now) }
     {
         let value = match HeaderValue::from_str(alloc, text) {
