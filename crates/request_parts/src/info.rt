@@ -27,11 +27,13 @@ impl RequestInfo {
         headers: HeaderList,
         remote_addr: Text,
     ) -> RequestInfo
-        ensures method { result.method ≡ method }
-        ensures uri { result.uri ≡ uri }
-        ensures version { result.version ≡ version }
-        ensures headers { result.headers ≡ headers }
-        ensures remote_addr { result.remote_addr ≡ remote_addr }
+        ensures { result ≡ record {
+            method = method;
+            uri = uri;
+            version = version;
+            headers = headers;
+            remote_addr = remote_addr;
+        } }
     {
         RequestInfo {
             method,
