@@ -1,7 +1,7 @@
 //! Look-up among declared endpoints.
-ghost use Rattle.std.specs.Prelude.{◌≡◌, IfOk, IsOk, None, option_map, slice_get};
+ghost use Rattle.std.specs.Prelude.{◌≡◌, IfOk, IsOk, None, map, option_map, slice_get};
 ghost use Rattle.semver.specs.Identifiers.{parts_of};
-ghost use Rattle.api_declarations.specs.Keys.{keys_by, template_keys};
+ghost use Rattle.api_declarations.specs.Keys.{template_keys};
 ghost use Rattle.path_templates.specs.Places.{IsIndexOf, first_at, found_or};
 ghost use Rattle.api_declarations.specs.Serving.{endpoint_for, serves};
 ghost use Rattle.path_templates.specs.Templates.{trimmed};
@@ -82,7 +82,7 @@ pub fn endpoint_at<'s, E: Declared>(
     method: &Method,
     template: &Text,
 ) -> Result<Option<&'s E>, AllocError>
-    requires { IsIndexOf (keys_by template_keys E.declared endpoints.now) index.now }
+    requires { IsIndexOf (map template_keys (map E.declared endpoints.now)) index.now }
     ensures found { IfOk result (λ found. option_map (λ e. e.now) found
         ≡ endpoint_for E.declared (parts_of version.now) method.now template.now endpoints.now) }
     ensures without_memory { trimmed template.now ≡ template.now → IsOk result }
