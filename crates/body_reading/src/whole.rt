@@ -1,6 +1,6 @@
 //! Bodies that are read whole.
 ghost use Rattle.std.specs.Prelude.{◌≡◌, ◌+◌, ◌-◌, ◌^◌, ◌<◌, ◌⊎◌, ◌++◌, IfSome, IsErrOf};
-ghost use Rattle.std.specs.Prelude.{OnOk, Err, length};
+ghost use Rattle.std.specs.Prelude.{ℕ, OnOk, Err, length};
 ghost use Rattle.http_bodies.specs.Frames.{data_of};
 ghost use Rattle.http_bodies.specs.Sources.{GoesOn, HasFailed};
 ghost use Rattle.body_reading.specs.Whole.{IsCutShort, Reads, TakesAtMost, TakesRoom, whole};
@@ -90,6 +90,9 @@ pub fn read_whole<S: FrameSource>(
     // What came of any source, at most one frame more than the budget, and what the answer tells
     // of it: content, size and number of frames, each with its cause.
     ensures came { Reads limit budget (S.state source.old).left (S.state source.new).left result }
+
+    // A size is told of a limit below 2^64-1 alone: this one is never passed.
+    ensures below { (sum : ℕ) → result ≡ Err (BodyError.BodyTooLarge sum) → limit < 2 ^ 64 - 1 }
 
     // A fault comes only where the count of faults rose, and a count that rose is told as that
     // fault.
