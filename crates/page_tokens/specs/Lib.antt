@@ -5,3 +5,4 @@ pub mod Tokens
 pub mod Orders
 pub mod Pages
 pub mod NextPages
+pub mod Texts
