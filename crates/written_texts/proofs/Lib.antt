@@ -10,6 +10,7 @@ pub mod FlatFields
 pub mod ParameterLists
 pub mod ScanTexts
 pub mod PageTexts
+pub mod PageLists
 pub mod FormObjects
 pub mod FormSteps
 pub mod FormSchemas

@@ -47,7 +47,7 @@ use Rattle.written_texts.proofs.Whole.{holds_where}
 
 -- ---- `limit` and `page_token`, whose types are options without a table
 
-none_guarded : IsGuarded []
+pub none_guarded : IsGuarded []
 none_guarded e c = absurd (omega (arith, c.1))
 
 -- the schema of an option over what has no annotations
@@ -66,7 +66,7 @@ module _ (doc : Json) (text : List ℕ) where
       ∙ ap (λ (o : Told). is_ok (just o)) (sym same)
       ∙ ap (λ (o : Told). is_ok o) (sym (text_row [] text none_guarded (OptionOf x) (Desc-F.Option x) (desc.outs-Option x)))
 
-  limit_text : text_admitted doc (schema_json [] limit_field.desc) text ≡ is_ok (text_told [] text limit_field.desc)
+  pub limit_text : text_admitted doc (schema_json [] limit_field.desc) text ≡ is_ok (text_told [] text limit_field.desc)
   limit_text =
       let x = Int U32 (Some (pos 1)) None in
       option_text x _ _ (drawn_row [] x (Desc-F.Int U32 (Some (pos 1)) None) (desc.outs-Int U32 (Some (pos 1)) None))
@@ -111,7 +111,7 @@ module _ (doc : Json) (pairs : List NamedText) where
         | inr none ↦ absurd (omega (arith, none.1))
       ]
 
-  limit_where : IsTrue limit_holds ↔ HasLimit pairs
+  pub limit_where : IsTrue limit_holds ↔ HasLimit pairs
   limit_where = holds_where limit_holds (pairs_told [] Refuse pairs (StructOf (limit_field ∷ []) false)) limit_told
 
   token_holds : (o : Option (List ℕ)) → stands_or_not (text_admitted doc (schema_json [] token_field.desc)) false o ≡ true

@@ -1,7 +1,8 @@
 -- The parameters that an operation in pages lists: one for each field of what it scans, `limit` and `page_token`, none of
 -- them required. The names that a request for the first page must have are those of its extension `x-dropshot-pagination`
 -- (OpenAPI 3.0.3, Parameter Object and Specification Extensions; what pages ask is this project's own).
-use Rattle.std.specs.Prelude.{◌≢◌, ℕ, pos, true, false, IsTrue, List, [], ◌∷◌, ◌++◌, map, filter, Some, None, codes, Contains}
+use Rattle.std.specs.Prelude.{◌≡◌, ◌≢◌, ◌≤◌, ⊤, ℕ, pos, true, false, not, IsTrue, List, [], ◌∷◌, ◌++◌, map, filter, Some, None, codes, Contains}
+use Rattle.std.specs.List.{list_all}
 use Rattle.schema_values.specs.declared.json_value.Json.{Json}
 use Rattle.schema_values.specs.Order.{sorted_by}
 use Rattle.request_words.specs.declared.pairs.NamedText.{NamedText}
@@ -18,6 +19,7 @@ use Rattle.descriptors.specs.Definitions.{field_name}
 use Rattle.typed_values.specs.Schemas.{in_query}
 use Rattle.flat_maps.specs.declared.repeats.Repeats.TheVariants.{Refuse}
 use Rattle.flat_maps.specs.Pairs.{PairsDenote}
+use Rattle.flat_maps.specs.Texts.{number_in}
 use Rattle.written_texts.specs.FieldParameters.{is_required, parameter_of, AllHold}
 
 -- a field as it is listed in a query, but not required
@@ -66,6 +68,20 @@ pub record PageParametersHold (doc : Json) (table : List Definition) (request : 
 -- the pair `limit` stands at most once, and is a number of items where it stands
 abbrev pub HasLimit : List NamedText → Type 0
 HasLimit pairs = (tree : Tree) × PairsDenote [] (StructOf (limit_field ∷ []) false) Refuse pairs tree
+
+-- a text is a number of items, from 1 to 4294967295
+abbrev pub IsItemCount : List ℕ → Type 0
+IsItemCount text = (n : ℕ) × (number_in U32 text ≡ Some (pos n)) × (1 ≤ n) × (n ≤ 4294967295)
+
+-- the texts under one name: none, or one that is a number of items
+abbrev pub AreItemCount : List (List ℕ) → Type 0
+AreItemCount [] = ⊤
+AreItemCount (text ∷ []) = IsItemCount text
+AreItemCount (text ∷ other ∷ texts) = ⊥
+
+-- none of some parameters is required
+abbrev pub NoneRequired : List Parameter → Type 0
+NoneRequired parameters = IsTrue (list_all (λ p. not p.required) parameters)
 
 -- no field has a name
 abbrev pub NoneNamed : List ℕ → List Field → Type 0

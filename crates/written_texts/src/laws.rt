@@ -2,7 +2,7 @@ ghost use Rattle.std.specs.Prelude.{◌≡◌, ◌↔◌, ℕ, Bool, false, IsTr
 ghost use Rattle.schema_values.specs.declared.json_value.Json.{Json as JsonValue};
 ghost use Rattle.request_words.specs.declared.pairs.NamedText.{NamedText as Pair};
 ghost use Rattle.request_words.specs.declared.request.WireRequest.{WireRequest as Request};
-ghost use Rattle.request_words.specs.Pairs.{query_pairs};
+ghost use Rattle.request_words.specs.Pairs.{query_pairs, values_of};
 ghost use Rattle.openapi_values.specs.declared.parameter.Parameter.{Parameter};
 ghost use Rattle.openapi_values.specs.FormAdmits.{FormAdmits};
 ghost use Rattle.openapi_values.specs.Pages.{has_token};
@@ -24,7 +24,8 @@ ghost use Rattle.written_texts.specs.FieldParameters.{AllHold, AllRequired, path
 ghost use Rattle.written_texts.specs.FieldParameters.{query_parameters, header_parameters};
 ghost use Rattle.written_texts.specs.FlatStructs.{IsFlatStruct, DefinesFields};
 ghost use Rattle.header_texts.specs.HeaderTexts.{HeadersDenote};
-ghost use Rattle.written_texts.specs.PageParameters.{HasLimit, NoneNamed, PageParametersHold};
+ghost use Rattle.written_texts.specs.PageParameters.{AreItemCount, HasLimit, NoneNamed, NoneRequired};
+ghost use Rattle.written_texts.specs.PageParameters.{PageParametersHold, page_parameters};
 ghost use Rattle.handler_shapes.specs.ScalarTypes.{IsScalarType};
 
 /// The schema of a scalar type admits exactly the texts that denote a tree; so it does under a
@@ -93,6 +94,16 @@ pub fn pages_agree()
         → IsTrue (has_token (query_pairs request.query))
         → PageParametersHold doc table request before fields after
         ↔ HasLimit (query_pairs request.query) }
+{}
+
+/// None of the parameters that an operation in pages lists is required, as a request for a later
+/// page has a token in the place of the others; and `limit` is allowed not to stand, or to stand once
+/// as a whole number from 1 to 4294967295.
+pub fn page_parameters_are()
+    ensures optional { (table : List Entry) (fields : List Part)
+        → NoneRequired (page_parameters table fields) }
+    ensures limit { (pairs : List Pair)
+        → HasLimit pairs ↔ AreItemCount (values_of (codes "limit") pairs) }
 {}
 
 /// The header parameters that are listed for the fields of a struct hold of a request exactly where

@@ -4,5 +4,6 @@
 mod laws;
 
 pub use laws::{
-    forms_agree, headers_agree, pages_agree, queries_agree, texts_agree, variables_agree,
+    forms_agree, headers_agree, page_parameters_are, pages_agree, queries_agree, texts_agree,
+    variables_agree,
 };
