@@ -1,14 +1,22 @@
-use Rattle.std.proofs.Common.{◌+◌, [], ◌∷◌, arith, refl, rules, subst, sym}
-use Rattle.body_reading.specs.Streams.{StreamState}
-use Rattle.http_bodies.specs.declared.frame.Frame.TheVariants.{Trailers}
-use Rattle.body_reading.proofs.Passing.{Passes, judged_advances, judged_taken, passes_more, passes_none, passes_taken}
+use Rattle.std.proofs.Common.{◌+◌, ◌-◌, [], ◌∷◌, Some, arith, refl, rules, subst, sym}
+use Rattle.std.specs.Prelude.{IfOk}
+use Rattle.http_bodies.specs.Bodies.{frames_of}
+use Rattle.http_bodies.specs.declared.frame.Frame.TheVariants.{Bytes, Trailers}
+use Rattle.body_reading.specs.Streams.{Advances, StreamState, room_of}
+use Rattle.body_reading.specs.Whole.{TakesAtMost}
+use Rattle.body_reading.proofs.Passing.{Passes, TakesFirst, judged_advances, judged_taken, passes_more, passes_none}
+use Rattle.body_reading.proofs.Passing.{passes_taken}
 use Rattle.body_reading.proofs.streaming.StreamingBody.next_content.Goals as goal
+use Rattle.body_reading.proofs.streaming.StreamingBody.next_content.Goals.{After-judge}
 
 pub passing-init : goal.passing-init
 passing-init c = passes_none c.args.self.now
 
-pub returns-in-Ok-Some-Bytes-clause-advances : goal.returns-in-Ok-Some-Bytes-clause-advances
-returns-in-Ok-Some-Bytes-clause-advances c =
+-- a frame with content came, and was judged: what this says of a content that is given, and what was taken
+content_came : (c : After-judge) → IfOk c.judge.result (λ next. Advances c.args.self.now c.judge.new.self)
+    × TakesAtMost (room_of c.args.self.now + 1 - room_of c.judge.new.self)
+    (Some (frames_of c.args.self.now.body)) (Some (frames_of c.judge.new.self.body))
+content_came c =
     let gives = rw (c.in-Ok-Some-Bytes.field-0-is, c.in-Ok-Some-Bytes.field-0-0-is) at c.in-Ok-Some-Bytes.ensures.gives in
     let faults = c.in-Ok-Some-Bytes.ensures.counts (λ failed. search rules) in
     let now : StreamState = record {
@@ -21,41 +29,27 @@ returns-in-Ok-Some-Bytes-clause-advances c =
     } in
     let mid : StreamState = record now { body = c.next_frame.new.self } in
     let passes = subst (λ (s : StreamState). Passes c.args.self.now s) (sym c.self.view_is) c.passing.invariant in
-    judged_advances c.args.self.now now mid c.judge.new.self c.in-Ok-Some-Bytes.content c.judge.result passes
-    (record {
+    let took : TakesFirst now mid (Bytes c.in-Ok-Some-Bytes.content) = record {
       gives = gives;
       limits = record { cap = refl; budget = refl };
       sum = refl;
       closed = refl;
       faults = faults;
       same = c.next_frame.ensures.goes_on.same;
-    })
-    refl c.judge.ensures.counted
+    } in (
+      judged_advances c.args.self.now now mid c.judge.new.self c.in-Ok-Some-Bytes.content c.judge.result passes took
+          refl c.judge.ensures.counted,
+      judged_taken c.args.self.now now mid c.judge.new.self c.in-Ok-Some-Bytes.content c.judge.result passes took
+          refl c.judge.ensures.counted c.judge.ensures.kept,
+    )
+
+pub returns-in-Ok-Some-Bytes-clause-advances : goal.returns-in-Ok-Some-Bytes-clause-advances
+returns-in-Ok-Some-Bytes-clause-advances c =
+    (content_came (goal.at.returns-in-Ok-Some-Bytes-clause-advances c).After-judge).0
 
 pub returns-in-Ok-Some-Bytes-clause-taken : goal.returns-in-Ok-Some-Bytes-clause-taken
 returns-in-Ok-Some-Bytes-clause-taken c =
-    let gives = rw (c.in-Ok-Some-Bytes.field-0-is, c.in-Ok-Some-Bytes.field-0-0-is) at c.in-Ok-Some-Bytes.ensures.gives in
-    let faults = c.in-Ok-Some-Bytes.ensures.counts (λ failed. search rules) in
-    let now : StreamState = record {
-      body = c.self.inside.body;
-      cap = c.self.inside.cap;
-      budget = c.self.inside.budget;
-      sum = c.self.inside.sum;
-      frames = c.self.inside.frames;
-      closed = c.self.inside.closed;
-    } in
-    let mid : StreamState = record now { body = c.next_frame.new.self } in
-    let passes = subst (λ (s : StreamState). Passes c.args.self.now s) (sym c.self.view_is) c.passing.invariant in
-    judged_taken c.args.self.now now mid c.judge.new.self c.in-Ok-Some-Bytes.content c.judge.result passes
-    (record {
-      gives = gives;
-      limits = record { cap = refl; budget = refl };
-      sum = refl;
-      closed = refl;
-      faults = faults;
-      same = c.next_frame.ensures.goes_on.same;
-    })
-    refl c.judge.ensures.counted c.judge.ensures.kept
+    (content_came (goal.at.returns-in-Ok-Some-Bytes-clause-taken c).After-judge).1
 
 pub returns-then-self-clause-taken : goal.returns-then-self-clause-taken
 returns-then-self-clause-taken c =
