@@ -42,17 +42,35 @@ impl fmt::Display for HttpError {
     }
 }
 
-/// Writes the fields by their names.
+/// Writes the fields by their names; under `{:#?}`, which no clause describes, each on lines of its own.
 impl fmt::Debug for HttpError {
+    ghost use Rattle.http_status.specs.Texts.{error_debug_text};
+
+    ghost debug_output = { error_debug_text };
+
     fn fmt<W: fmt::Write>(&self, f: &mut fmt::Formatter<W>) -> fmt::Result {
-        f.debug_struct("HttpError")
-            .field("status_code", &self.status_code)
-            .field("error_code", &self.error_code)
-            .field("external_message", &self.external_message)
-            .field("internal_message", &self.internal_message)
-            .field("headers", &self.headers.as_ref().map(|list| list.lines()))
-            .finish()
+        if f.alternate() {
+            return fields_on_lines(self, f);
+        }
+        let headers = self.headers.as_ref().map(|list| list.lines());
+        write!(
+            f,
+            "HttpError {{ status_code: {:?}, error_code: {:?}, external_message: {:?}, \
+             internal_message: {:?}, headers: {headers:?} }}",
+            self.status_code, self.error_code, self.external_message, self.internal_message
+        )
     }
+}
+
+// Writes the fields as `{:#?}` does.
+fn fields_on_lines<W: fmt::Write>(error: &HttpError, f: &mut fmt::Formatter<W>) -> fmt::Result {
+    f.debug_struct("HttpError")
+        .field("status_code", &error.status_code)
+        .field("error_code", &error.error_code)
+        .field("external_message", &error.external_message)
+        .field("internal_message", &error.internal_message)
+        .field("headers", &error.headers.as_ref().map(|list| list.lines()))
+        .finish()
 }
 
 impl HttpError {

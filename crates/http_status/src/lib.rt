@@ -22,7 +22,7 @@ pub use header_lists::HeaderList;
 pub use http_bodies::{
     Body, DumpError, Frame, FrameError, FrameSource, MemoryFrames, SafeFrames, http_dump_body,
 };
-pub use laws::error_bodies_are_typed;
+pub use laws::{constants_have_texts, error_bodies_are_typed};
 pub use refusal::HttpRefusal;
 pub use request_id::{RequestId, RequestIdError};
 pub use response::Response;
