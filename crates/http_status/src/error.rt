@@ -1,9 +1,11 @@
 //! Errors that are answered.
 ghost use Rattle.std.specs.Prelude.{◌≡◌, IfOk};
+ghost use Rattle.std.specs.Option.{option_copied};
 ghost use Rattle.http_status.specs.Errors.{bad_request, client_error, client_error_phrase};
 ghost use Rattle.http_status.specs.Errors.{internal_error, not_found, unavailable};
 
 use header_lists::HeaderList;
+use http_header::{HeaderName, HeaderValue};
 use schema_values::{Text, copy_text};
 use status_codes::{ClientErrorStatusCode, ErrorStatusCode};
 use std::alloc::{AllocError, Global};
@@ -52,7 +54,7 @@ impl fmt::Debug for HttpError {
         if f.alternate() {
             return fields_on_lines(self, f);
         }
-        let headers = self.headers.as_ref().map(|list| list.lines());
+        let headers = listed(self);
         write!(
             f,
             "HttpError {{ status_code: {:?}, error_code: {:?}, external_message: {:?}, \
@@ -69,8 +71,15 @@ fn fields_on_lines<W: fmt::Write>(error: &HttpError, f: &mut fmt::Formatter<W>) 
         .field("error_code", &error.error_code)
         .field("external_message", &error.external_message)
         .field("internal_message", &error.internal_message)
-        .field("headers", &error.headers.as_ref().map(|list| list.lines()))
+        .field("headers", &listed(error))
         .finish()
+}
+
+// The header lines, if the error has a list of its own.
+fn listed(error: &HttpError) -> Option<&[(HeaderName, HeaderValue)]>
+    ensures { option_copied result ≡ error.now.headers }
+{
+    Some(error.headers.as_ref()?.lines())
 }
 
 impl HttpError {
