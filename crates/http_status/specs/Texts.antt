@@ -26,18 +26,15 @@ text_debug text = debug_str (encode_utf8_all text)
 abbrev pub lines_debug : Option (List Line) → Option (List ℕ)
 lines_debug = debug_option (debug_list (λ line. None))
 
--- the fields by their names, with this debug text of the lines
-abbrev pub fields_debug : HttpError → Option (List ℕ) → Option (List ℕ)
-fields_debug error lines =
+-- the fields by their names, where the debug text of each is said
+abbrev pub error_debug_text : HttpError → Option (List ℕ)
+error_debug_text error =
     Some (codes "HttpError { status_code: ") ++? Some (decimal error.status_code)
     ++? Some (codes ", error_code: ") ++? debug_option text_debug error.error_code
     ++? Some (codes ", external_message: ") ++? text_debug error.external_message
     ++? Some (codes ", internal_message: ") ++? text_debug error.internal_message
-    ++? Some (codes ", headers: ") ++? lines ++? Some (codes " }")
-
--- the debug text of an error, where that of each field is said
-abbrev pub error_debug_text : HttpError → Option (List ℕ)
-error_debug_text error = fields_debug error (lines_debug error.headers)
+    ++? Some (codes ", headers: ") ++? lines_debug error.headers
+    ++? Some (codes " }")
 
 -- an error that is answered as it is
 abbrev pub refusal_text : HttpRefusal → List ℕ
