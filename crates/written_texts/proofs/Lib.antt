@@ -8,6 +8,7 @@ pub mod FieldTexts
 pub mod Places
 pub mod FlatFields
 pub mod ParameterLists
+pub mod ListedFields
 pub mod ScanTexts
 pub mod PageTexts
 pub mod PageLists

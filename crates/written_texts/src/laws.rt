@@ -23,6 +23,8 @@ ghost use Rattle.written_texts.specs.Agrees.{AdmitsTexts};
 ghost use Rattle.written_texts.specs.FieldParameters.{AllHold, AllRequired, path_parameters};
 ghost use Rattle.written_texts.specs.FieldParameters.{query_parameters, header_parameters};
 ghost use Rattle.written_texts.specs.FlatStructs.{IsFlatStruct, DefinesFields};
+ghost use Rattle.written_texts.specs.ListedFields.{HeaderShows, IsParameterOf, ListsFields};
+ghost use Rattle.written_texts.specs.ListedFields.{PathShows, QueryShows};
 ghost use Rattle.header_texts.specs.HeaderTexts.{HeadersDenote};
 ghost use Rattle.written_texts.specs.PageParameters.{AreItemCount, HasLimit, NoneNamed, NoneRequired};
 ghost use Rattle.written_texts.specs.PageParameters.{PageParametersHold, page_parameters};
@@ -48,6 +50,19 @@ pub fn texts_agree()
     ensures query { (doc : JsonValue) (table : List Entry) (desc : Descriptor)
         → IsWritten doc table desc → IsScalarType table desc
         → AdmitsTexts doc (schema_json table (in_query desc)) table desc }
+{}
+
+/// For the fields of a struct one parameter each is listed, in the order of their names, with the
+/// field's name and description, required exactly where the field is. Its schema is that of the
+/// type which its place shows: in a path the field's own; in a query the reference of an option
+/// over one, and else the field's own; in headers what an option is over, and else the field's own.
+pub fn fields_are_listed()
+    ensures path { (table : List Entry) (fields : List Part)
+        → ListsFields (IsParameterOf PathShows (codes "path") table) fields (path_parameters table fields) }
+    ensures query { (table : List Entry) (fields : List Part)
+        → ListsFields (IsParameterOf QueryShows (codes "query") table) fields (query_parameters table fields) }
+    ensures header { (table : List Entry) (fields : List Part)
+        → ListsFields (IsParameterOf HeaderShows (codes "header") table) fields (header_parameters table fields) }
 {}
 
 /// The parameters of a path that are listed for the fields of a struct, each of which must be

@@ -4,6 +4,6 @@
 mod laws;
 
 pub use laws::{
-    forms_agree, headers_agree, page_parameters_are, pages_agree, queries_agree, texts_agree,
-    variables_agree,
+    fields_are_listed, forms_agree, headers_agree, page_parameters_are, pages_agree, queries_agree,
+    texts_agree, variables_agree,
 };
