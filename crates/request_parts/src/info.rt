@@ -28,11 +28,11 @@ impl RequestInfo {
         remote_addr: Text,
     ) -> RequestInfo
         ensures { result ≡ record {
-            method = method;
-            uri = uri;
-            version = version;
-            headers = headers;
-            remote_addr = remote_addr;
+          method = method;
+          uri = uri;
+          version = version;
+          headers = headers;
+          remote_addr = remote_addr;
         } }
     {
         RequestInfo {
