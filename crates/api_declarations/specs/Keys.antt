@@ -1,5 +1,5 @@
 -- The keys by which endpoints are indexed: their templates, and the shapes of these.
-use Rattle.std.specs.Prelude.{ℕ, List, [], ◌∷◌, Option, Some, None, map}
+use Rattle.std.specs.Prelude.{ℕ, List, [], ◌∷◌, Option, Some, None}
 use Rattle.path_templates.specs.Shapes.{path_shape}
 use Rattle.path_templates.specs.Templates.{trimmed}
 use Rattle.api_declarations.specs.Values.{DeclarationValue}
@@ -16,8 +16,3 @@ template_keys d = trimmed d.path ∷ []
 -- the shape of a declaration's template, if its path is one
 abbrev pub shape_keys : DeclarationValue → List (List ℕ)
 shape_keys d = key_if (path_shape d.path)
-
--- the keys of each of some things, by their declarations
-abbrev pub keys_by : {A : Type 0} → (DeclarationValue → List (List ℕ)) → (A → DeclarationValue) → List A
-    → List (List (List ℕ))
-keys_by keys declared = map (λ e. keys (declared e))

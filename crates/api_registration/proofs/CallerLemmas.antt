@@ -1,22 +1,13 @@
--- Endpoints that are accepted one behind the other, and their index: the lemmas that callers cite.
-use Rattle.std.proofs.Common.{◌≡◌, ℕ, Bool, true, false, List, [], ◌∷◌, ◌++◌, Some, map, subst, sym, append_assoc}
+-- Endpoints that are accepted one behind the other: the lemmas that callers cite.
+use Rattle.std.proofs.Common.{◌≡◌, Bool, true, false, List, [], ◌∷◌, ◌++◌, Some, map, subst, sym, append_assoc}
 use Rattle.std.specs.Prelude.{if◌then◌else◌, All, find}
 use Rattle.std.proofs.lemmas.List.{append-nil}
 use Rattle.std.proofs.lemmas.List.Elements.{All-cons, All-nil}
-use Rattle.std.proofs.lemmas.Simd.{map-map}
 use Rattle.handler_shapes.specs.ShapeChecks.{ShapePasses}
-use Rattle.path_templates.specs.Places.{IsIndexOf}
-use Rattle.api_declarations.specs.Keys.{keys_by, template_keys}
 use Rattle.api_declarations.specs.Values.{DeclarationValue}
 use Rattle.tag_config.specs.Configurations.{Configuration}
-use Rattle.api_registration.specs.EndpointIndexes.{IsIndexed}
 use Rattle.api_registration.specs.Registering.{AreAccepted, MayRegister}
 use Rattle.api_registration.specs.declared.cause.RegisterCause.TheVariants as cause
-use Rattle.api_registration.specs.declared.index.EndpointIndex.{EndpointIndex}
-
--- what an index of endpoints has by templates is asked with by `endpoint_at`
-pub templates_indexed : {A : Type 0} (declared : A → DeclarationValue) (es : List A) (index : EndpointIndex) → IsIndexed (map declared es) index → IsIndexOf (keys_by template_keys declared es) index.templates
-templates_indexed declared es index is = subst (λ (keys : List (List (List ℕ))). IsIndexOf keys index.templates) (map-map template_keys declared es) is.templates
 
 module _ (tags : Configuration) where
   -- one more at the end
