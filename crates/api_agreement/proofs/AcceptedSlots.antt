@@ -31,11 +31,12 @@ use Rattle.handler_shapes.specs.ShapeChecks.{ShapePasses, SlotPasses}
 use Rattle.handler_shapes.specs.SlotFields.{struct_fields}
 use Rattle.tag_config.specs.Configurations.{Configuration}
 use Rattle.api_declarations.specs.Values.{DeclarationValue}
+use Rattle.endpoint_parameters.specs.Parameters.{Parameter, field_of, fields_of_level, fields_of_resolved}
+use Rattle.endpoint_parameters.specs.Parameters.{fields_of_struct, in_header, in_path, in_query, parameters}
+use Rattle.endpoint_parameters.specs.Parameters.{parameters_of_slot}
+use Rattle.endpoint_parameters.specs.ParameterTypes.{IsScalarOrRest, MayBeAbsent}
+use Rattle.endpoint_parameters.proofs.CallerLemmas.{none_holds}
 use Rattle.api_registration.specs.declared.cause.RegisterCause.TheVariants as cause
-use Rattle.api_registration.specs.Parameters.{Parameter, field_of, fields_of_level, fields_of_resolved}
-use Rattle.api_registration.specs.Parameters.{fields_of_struct, in_header, in_path, in_query, parameters}
-use Rattle.api_registration.specs.Parameters.{parameters_of_slot}
-use Rattle.api_registration.specs.ParameterTypes.{IsScalarOrRest, MayBeAbsent}
 use Rattle.api_registration.specs.Paths.{path_wildcard}
 use Rattle.api_registration.specs.Registering.{MayRegister}
 use Rattle.api_registration.specs.Slots.{IsReadAs, TakesReadBody, has_query_beside_pages, is_page_name}
@@ -43,7 +44,7 @@ use Rattle.api_registration.specs.Slots.{takes_page_name, takes_pages, takes_que
 use Rattle.api_registration.specs.Types.{IsOpenStruct}
 use Rattle.api_agreement.specs.ShownSlots.{AreScanned, HasShownSlots, IsBodyType, IsOfPages, IsOfQuery, IsShown}
 use Rattle.api_agreement.specs.ShownSlots.{ReadApart}
-use Rattle.api_agreement.proofs.Firsts.{fails_of, is_there, joined_of, made_of, neither, none_holds}
+use Rattle.api_agreement.proofs.Elements.{fails_of, is_there, joined_of, made_of, neither}
 
 -- ---- a slot of pages is alone among those of the query
 

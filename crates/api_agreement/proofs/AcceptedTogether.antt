@@ -22,6 +22,7 @@ use Rattle.tag_config.specs.Configurations.{Configuration}
 use Rattle.api_declarations.specs.Serving.{holds}
 use Rattle.api_declarations.specs.Values.{DeclarationValue}
 use Rattle.api_declarations.proofs.CallerLemmas.{held}
+use Rattle.endpoint_parameters.proofs.CallerLemmas.{none_holds}
 use Rattle.api_registration.specs.declared.cause.RegisterCause.TheVariants as cause
 use Rattle.api_registration.specs.Clashes.{DefinesOtherwise, DiffersIn, ServesSame}
 use Rattle.api_registration.specs.Registering.{AreAccepted, MayRegister}
@@ -30,7 +31,7 @@ use Rattle.api_documents.specs.Accepted.{HasListedMethod, MayBeListed, TablesAgr
 use Rattle.api_documents.specs.ErrorNames.{same_code}
 use Rattle.api_documents.specs.Listed.{is_listed, listed, path_of}
 use Rattle.api_documents.proofs.CallerLemmas.{chosen, same_code-is, same_code-refl}
-use Rattle.api_agreement.proofs.Firsts.{is_there, none_holds}
+use Rattle.api_agreement.proofs.Elements.{is_there}
 
 -- ---- a fact of each two
 

@@ -5,6 +5,6 @@ mod TypedBodies
 mod PageQueries
 mod SlotsAgree
 mod RequestsAgree
-mod Firsts
+mod Elements
 mod AcceptedSlots
 mod AcceptedTogether

@@ -9,11 +9,11 @@ use Rattle.descriptors.specs.Definitions.{entry_of}
 use Rattle.descriptors.proofs.CallerLemmas.{entry_name}
 use Rattle.api_versions.specs.Overlaps.{Overlaps}
 use Rattle.api_declarations.specs.Values.{DeclarationValue}
+use Rattle.endpoint_parameters.specs.Firsts.{IsFirstOf, NoneOf}
+use Rattle.endpoint_parameters.proofs.CallerLemmas.{among, first-map, none-map, none_not_first}
+use Rattle.endpoint_parameters.specs.Told.{quoted}
 use Rattle.api_registration.specs.Clashes.{DefinesOneOtherwise, DefinesOtherwise, DiffersIn, IsDefinedOtherwise, IsShownBeside}
 use Rattle.api_registration.specs.EndpointIndexes.{StandsFor}
-use Rattle.api_registration.specs.Firsts.{IsFirstOf, NoneOf}
-use Rattle.api_registration.specs.Registering.{quoted}
-use Rattle.api_registration.proofs.Firsts.{among, first-map, none-map, none_not_first}
 
 -- a definition differs where the other of its name is not equal
 pub differs_from : (table : List Definition) (d other : Definition) (equal : Bool) → entry_of table d.name ≡ Some other → IsTrue equal ↔ (other ≡ d)

@@ -6,9 +6,9 @@ use Rattle.std.proofs.lemmas.List.Elements.{All-contains}
 use Rattle.handler_shapes.specs.ShapeLengths.{ShapeHasShortLengths}
 use Rattle.api_declarations.specs.Values.{DeclarationValue}
 use Rattle.tag_config.specs.Configurations.{Configuration}
+use Rattle.endpoint_parameters.proofs.CallerLemmas.{first_at}
 use Rattle.api_registration.specs.declared.cause.RegisterCause.{RegisterCause}
 use Rattle.api_registration.specs.declared.cause.RegisterCause.TheVariants as cause
-use Rattle.api_registration.proofs.Firsts.{first_at}
 use Rattle.api_registration.specs.Registering.{causes, Clears, Stands, Tells, IsFirstTold, MayRegister}
 
 -- a cause does not stand; where the types are supported, lengths have 32 bits

@@ -8,9 +8,9 @@ use Rattle.path_templates.specs.Places.{places_at}
 use Rattle.path_templates.specs.Shapes.{path_shape}
 use Rattle.api_declarations.specs.Keys.{key_if}
 use Rattle.api_declarations.specs.Values.{DeclarationValue}
+use Rattle.endpoint_parameters.specs.Firsts.{IsFirstPlace, IsSuchAt}
 use Rattle.api_registration.specs.Clashes.{DefinesOneOtherwise, IsDefinedOtherwise, ServesSame}
 use Rattle.api_registration.specs.EndpointIndexes.{HasPlace, IsIndexed, StandsAt}
-use Rattle.api_registration.specs.Firsts.{IsFirstPlace, IsSuchAt}
 use Rattle.api_registration.specs.declared.index.EndpointIndex.{EndpointIndex}
 use Rattle.api_registration.proofs.DefinitionClashes.{differs_there}
 

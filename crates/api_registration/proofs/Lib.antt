@@ -1,13 +1,8 @@
-pub mod Firsts
-pub mod FirstPlaces
 pub mod FirstTold
 pub mod Configured
-pub mod Chains
-pub mod Resolving
 pub mod Covering
 pub mod StandIns
 pub mod Indexed
 pub mod DefinitionClashes
 pub mod FoundByIndex
-pub mod ParameterNames
 pub mod CallerLemmas

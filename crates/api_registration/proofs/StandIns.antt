@@ -7,8 +7,8 @@ use Rattle.descriptors.specs.declared.table.Definition.{Definition}
 use Rattle.path_templates.specs.Places.{places_at}
 use Rattle.path_templates.specs.declared.place_index.PlaceIndex.{PlaceIndex}
 use Rattle.api_declarations.specs.Values.{DeclarationValue}
+use Rattle.endpoint_parameters.specs.Firsts.{IsSuchAtOneOf}
 use Rattle.api_registration.specs.EndpointIndexes.{CoversDefinitions, HasPlace, IsStoodFor, Keeps, StandsFor}
-use Rattle.api_registration.specs.Firsts.{IsSuchAtOneOf}
 use Rattle.api_registration.proofs.Covering.{before_or_last, stands_before}
 
 -- an endpoint that has its place stands for one behind all of them

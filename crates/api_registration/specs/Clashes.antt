@@ -6,7 +6,7 @@ use Rattle.descriptors.specs.Definitions.{entry_of}
 use Rattle.api_versions.specs.Overlaps.{Overlaps}
 use Rattle.api_declarations.specs.Values.{DeclarationValue}
 use Rattle.path_templates.specs.Shapes.{path_shape}
-use Rattle.api_registration.specs.Firsts.{IsFirstOf}
+use Rattle.endpoint_parameters.specs.Firsts.{IsFirstOf}
 
 -- another endpoint serves the method, in versions that overlap
 pub record IsCalledBeside (e other : DeclarationValue) : Type 0 where

@@ -7,7 +7,7 @@ use Rattle.path_templates.specs.Places.{IsIndexOf, places_at}
 use Rattle.path_templates.specs.declared.place_index.PlaceIndex.{PlaceIndex}
 use Rattle.api_declarations.specs.Keys.{shape_keys, template_keys}
 use Rattle.api_declarations.specs.Values.{DeclarationValue}
-use Rattle.api_registration.specs.Firsts.{IsSuchAt}
+use Rattle.endpoint_parameters.specs.Firsts.{IsSuchAt}
 use Rattle.api_registration.specs.declared.index.EndpointIndex.{EndpointIndex}
 
 -- a place stands in an index at each of some keys

@@ -1,12 +1,7 @@
-pub mod Firsts
 pub mod Texts
 pub mod Names
-pub mod Parameters
-pub mod ParameterCodes
-pub mod Steps
 pub mod Tags
 pub mod Paths
-pub mod ParameterTypes
 pub mod Types
 pub mod Slots
 pub mod Codes

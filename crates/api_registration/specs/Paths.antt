@@ -4,7 +4,7 @@ use Rattle.openapi_values.specs.Admits.{method_member}
 use Rattle.api_declarations.specs.Values.{DeclarationValue}
 use Rattle.path_templates.specs.Segments.{segments_of, template_names, wildcard_of}
 use Rattle.api_registration.specs.Names.{missing_in, listing, between}
-use Rattle.api_registration.specs.Parameters.{parameters, path_names}
+use Rattle.endpoint_parameters.specs.Parameters.{parameters, path_names}
 
 -- the path is no template
 abbrev pub HasBadTemplate : DeclarationValue → Type 0

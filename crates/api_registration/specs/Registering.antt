@@ -1,15 +1,16 @@
 -- When an endpoint may be registered behind others, and the first cause why it may not.
-use Rattle.std.specs.Prelude.{◌≡◌, ⊤, ℕ, List, [], ◌∷◌, ◌++◌, All, Option, MatchOption, codes}
+use Rattle.std.specs.Prelude.{◌≡◌, ⊤, ℕ, List, [], ◌∷◌, ◌++◌, All, codes}
 use Rattle.std.specs.Fmt.{decimal}
 use Rattle.handler_shapes.specs.BodySlots.{BodyComesLast}
 use Rattle.api_declarations.specs.Values.{DeclarationValue}
 use Rattle.tag_config.specs.Configurations.{Configuration}
+use Rattle.endpoint_parameters.specs.Firsts.{IsFirstOf}
+use Rattle.endpoint_parameters.specs.Parameters.{parameters}
+use Rattle.endpoint_parameters.specs.Told.{Says, SaysFirst, quoted}
+use Rattle.endpoint_parameters.specs.ParameterTypes.{MayBeAbsent, IsNoScalar, IsScalarOrRest, IsNoStringList}
+use Rattle.endpoint_parameters.specs.ParameterTypes.{IsInBoth, IsDoubled, IsNoHeaderName}
 use Rattle.api_registration.specs.Clashes.{ServesSame, DefinesOtherwise}
 use Rattle.api_registration.specs.Codes.{HasErrorAsSuccess, LacksErrorType}
-use Rattle.api_registration.specs.Firsts.{IsFirstOf}
-use Rattle.api_registration.specs.Parameters.{Parameter, name_of, parameters}
-use Rattle.api_registration.specs.ParameterTypes.{MayBeAbsent, IsNoScalar, IsScalarOrRest, IsNoStringList}
-use Rattle.api_registration.specs.ParameterTypes.{IsInBoth, IsDoubled, IsNoHeaderName}
 use Rattle.api_registration.specs.Paths.{HasBadTemplate, template_reason, HasBadMethod, HasVisibleWildcard}
 use Rattle.api_registration.specs.Paths.{path_wildcard, HasPathMismatch, mismatch_message, unconsumed, unspecified}
 use Rattle.api_registration.specs.Slots.{HasEarlyBody, HasBadForm, HasReadBodies, HasBadPagination}
@@ -44,22 +45,6 @@ causes =
     ∷ cause.PathClash
     ∷ cause.DefinitionClash
     ∷ []
-
--- what was tried is told by a message, or by none where it is not so
-abbrev pub IsTried : (List ℕ → Type 0) → Option (List ℕ) → Type 0
-IsTried Tells told = MatchOption told ((message : List ℕ) → ¬ Tells message) Tells
-
--- a fact holds, and is told by a text
-abbrev pub Says : Type 0 → List ℕ → List ℕ → Type 0
-Says Fact text message = Fact × (message ≡ text)
-
--- the first parameter of which something holds is told by a text of its name
-abbrev pub SaysFirst : List Parameter → (Parameter → Type 0) → (List ℕ → List ℕ) → List ℕ → Type 0
-SaysFirst ps Holds text message = (p : Parameter) × IsFirstOf Holds ps p × (message ≡ text (name_of p))
-
--- a name in quotation marks between two texts
-abbrev pub quoted : List ℕ → List ℕ → List ℕ → List ℕ
-quoted before after name = before ++ codes "'" ++ name ++ codes "'" ++ after
 
 -- Where a cause stands against an endpoint behind those before it, and how it is told: one row for each cause.
 abbrev pub Tells : Configuration → List DeclarationValue → DeclarationValue → RegisterCause → List ℕ → Type 0

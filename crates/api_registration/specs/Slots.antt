@@ -12,7 +12,7 @@ use Rattle.handler_shapes.specs.SlotFields.{struct_fields}
 use Rattle.handler_shapes.specs.declared.slot.Slot.{Slot}
 use Rattle.handler_shapes.specs.declared.slot.Slot.TheVariants as slot
 use Rattle.api_declarations.specs.Values.{DeclarationValue}
-use Rattle.api_registration.specs.Parameters.{fields_of_struct}
+use Rattle.endpoint_parameters.specs.Parameters.{fields_of_struct}
 
 -- A slot that is not the last takes the body: two of them do, or the one that does is not the last.
 abbrev pub HasEarlyBody : DeclarationValue → Type 0

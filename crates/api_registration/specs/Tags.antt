@@ -3,7 +3,7 @@ use Rattle.std.specs.Prelude.{◌≡◌, ◌≢◌, ℕ, false, IsTrue, List, []
 use Rattle.api_declarations.specs.Values.{DeclarationValue}
 use Rattle.tag_config.specs.Configurations.{Configuration}
 use Rattle.tag_config.specs.declared.policy.EndpointTagPolicy.TheVariants.{AtLeastOne, ExactlyOne}
-use Rattle.api_registration.specs.Firsts.{IsFirstOf}
+use Rattle.endpoint_parameters.specs.Firsts.{IsFirstOf}
 
 -- documents show the endpoint, at least one tag is asked for, and it has none
 pub record LacksTag (config : Configuration) (e : DeclarationValue) : Type 0 where

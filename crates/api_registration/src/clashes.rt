@@ -4,10 +4,10 @@ ghost use Rattle.api_versions.specs.Overlaps.{Overlaps};
 ghost use Rattle.path_templates.specs.Segments.{segments_of};
 ghost use Rattle.path_templates.specs.Shapes.{path_shape};
 ghost use Rattle.api_declarations.specs.Values.{DeclarationValue};
+ghost use Rattle.endpoint_parameters.specs.Firsts.{IsFirstOf, IsSuchAt, NoneOf};
+ghost use Rattle.endpoint_parameters.specs.Told.{IsTried};
 ghost use Rattle.api_registration.specs.Clashes.{IsCalledBeside, ServesSame};
 ghost use Rattle.api_registration.specs.EndpointIndexes.{IsIndexed};
-ghost use Rattle.api_registration.specs.Firsts.{IsFirstOf, IsSuchAt, NoneOf};
-ghost use Rattle.api_registration.specs.Registering.{IsTried};
 
 use crate::index::EndpointIndex;
 use crate::paths::{path_shape, push_method};

@@ -1,8 +1,8 @@
 //! The causes that stand against the codes with which an endpoint answers.
 ghost use Rattle.std.specs.Prelude.{◌≡◌, ◌++◌, ◌↔◌, ◌≤◌, ℕ, IfOk, IsTrue, codes};
 ghost use Rattle.std.specs.Fmt.{decimal};
+ghost use Rattle.endpoint_parameters.specs.Told.{IsTried, Says};
 ghost use Rattle.api_registration.specs.Codes.{HasErrorAsSuccess, LacksErrorType};
-ghost use Rattle.api_registration.specs.Registering.{IsTried, Says};
 
 use api_declarations::Declaration;
 use http::StatusCode;

@@ -1,17 +1,17 @@
 //! The cause that stands against an endpoint beside those that define a name otherwise.
 ghost use Rattle.std.specs.Prelude.{◌≡◌, ◌++◌, ◌↔◌, IfOk, IsTrue, MatchOption, codes, map};
 ghost use Rattle.api_declarations.specs.Values.{DeclarationValue};
+ghost use Rattle.endpoint_parameters.specs.Firsts.{IsFirstOf, NoneOf};
+ghost use Rattle.endpoint_parameters.specs.Told.{IsTried, quoted};
 ghost use Rattle.api_registration.specs.Clashes.{DefinesOneOtherwise, DefinesOtherwise, DiffersIn};
 ghost use Rattle.api_registration.specs.Clashes.{IsDefinedOtherwise, IsShownBeside};
 ghost use Rattle.api_registration.specs.EndpointIndexes.{IsIndexed};
-ghost use Rattle.api_registration.specs.Firsts.{IsFirstOf, NoneOf};
-ghost use Rattle.api_registration.specs.Registering.{IsTried, quoted};
 
 use crate::clashes::overlap;
-use crate::first::{Condition, first_of, first_place};
 use crate::index::EndpointIndex;
 use api_declarations::{Declaration, Declared};
 use descriptors::{Definition, DescTable};
+use endpoint_parameters::{Condition, first_of, first_place};
 use schema_values::Text;
 use std::alloc::{AllocError, Global};
 

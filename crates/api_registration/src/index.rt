@@ -8,10 +8,10 @@ ghost use Rattle.api_declarations.specs.Keys.{shape_keys};
 ghost use Rattle.api_registration.specs.EndpointIndexes.{HasPlace, IsIndexed, Keeps, StandsAt};
 ghost use Rattle.api_registration.specs.EndpointIndexes.{StandsFor};
 
-use crate::first::{Condition, is_any};
 use crate::paths::path_shape;
 use api_declarations::{Declaration, Declared};
 use descriptors::{Definition, DescTable};
+use endpoint_parameters::{Condition, is_any};
 use path_templates::{PlaceIndex, without_trailing_slash};
 use schema_values::Text;
 use std::alloc::{AllocError, Global};

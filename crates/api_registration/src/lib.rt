@@ -6,17 +6,12 @@ mod clashes;
 mod codes;
 mod definition_clashes;
 mod error;
-mod first;
 mod index;
 mod names;
-mod parameter;
-mod parameter_causes;
 mod paths;
 mod refusals;
-mod resolved;
 mod slots;
 mod tags;
-mod told;
 mod types;
 
 pub use cause::RegisterCause;

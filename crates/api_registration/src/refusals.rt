@@ -3,12 +3,12 @@ ghost use Rattle.std.specs.Prelude.{◌≡◌, ◌++◌, All, IfNone, IfOk, Matc
 ghost use Rattle.std.specs.Option.{option_copied};
 ghost use Rattle.handler_shapes.specs.ShapeLengths.{ShapeHasShortLengths};
 ghost use Rattle.path_templates.specs.Segments.{segments_of};
+ghost use Rattle.endpoint_parameters.specs.Parameters.{parameters};
+ghost use Rattle.endpoint_parameters.specs.Told.{IsTried, SaysFirst, quoted};
+ghost use Rattle.endpoint_parameters.specs.ParameterTypes.{IsNoScalar, IsNoStringList};
+ghost use Rattle.endpoint_parameters.specs.ParameterTypes.{IsScalarOrRest};
 ghost use Rattle.api_registration.specs.EndpointIndexes.{IsIndexed};
-ghost use Rattle.api_registration.specs.Parameters.{parameters};
-ghost use Rattle.api_registration.specs.Registering.{IsTried, MayRegister, RefusedBy, SaysFirst};
-ghost use Rattle.api_registration.specs.Registering.{Clears, Tells, quoted};
-ghost use Rattle.api_registration.specs.ParameterTypes.{IsNoScalar, IsNoStringList};
-ghost use Rattle.api_registration.specs.ParameterTypes.{IsScalarOrRest};
+ghost use Rattle.api_registration.specs.Registering.{Clears, MayRegister, RefusedBy, Tells};
 
 use crate::cause::{CAUSES, RegisterCause};
 use crate::clashes::path_clash_told;
@@ -16,18 +16,17 @@ use crate::codes::{bad_success_code_told, no_error_schema_told};
 use crate::definition_clashes::definition_clash_told;
 use crate::error::ApiDescriptionRegisterError;
 use crate::index::EndpointIndex;
-use crate::parameter::{Parameter, parameters};
-use crate::parameter_causes::{
-    BadHeaderName, Doubled, InBoth, MayBeAbsent, NotScalar, NotStringList,
-};
 use crate::paths::{
     bad_method_told, bad_template_told, mismatch_told, visible_wildcard_told, wildcard,
 };
 use crate::slots::{bad_form_told, bad_pagination_told, two_bodies_told};
 use crate::tags::{at_least_one_told, exactly_one_told, invalid_tag_told};
-use crate::told::tell_first;
 use crate::types::unsupported_schema_told;
 use api_declarations::{Declaration, Declared};
+use endpoint_parameters::{
+    BadHeaderName, Doubled, InBoth, MayBeAbsent, NotScalar, NotStringList, Parameter, parameters,
+    tell_first,
+};
 use path_templates::Template;
 use schema_values::Text;
 use std::alloc::{AllocError, Global};

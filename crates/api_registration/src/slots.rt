@@ -4,16 +4,15 @@ ghost use Rattle.std.specs.List.{list_any};
 ghost use Rattle.descriptors.specs.declared.desc.Field.{Field as FieldValue};
 ghost use Rattle.handler_shapes.specs.BodySlots.{BodyComesLast};
 ghost use Rattle.handler_shapes.specs.ScalarTypes.{IsScalarType};
-ghost use Rattle.api_registration.specs.Registering.{IsTried, Says};
+ghost use Rattle.endpoint_parameters.specs.Told.{IsTried, Says};
 ghost use Rattle.api_registration.specs.Slots.{HasBadForm, HasBadPagination, HasEarlyBody};
 ghost use Rattle.api_registration.specs.Slots.{HasReadBodies, IsForm, IsReadAs};
 ghost use Rattle.api_registration.specs.Slots.{has_query_beside_pages, is_page_name};
 ghost use Rattle.api_registration.specs.Slots.{takes_page_name, takes_pages, takes_query};
 
-use crate::first::{Condition, first_of};
-use crate::resolved::{fields_of_struct, is_scalar, open_fields};
 use api_declarations::Declaration;
 use descriptors::{Desc, DescTable, Field};
+use endpoint_parameters::{Condition, fields_of_struct, first_of, is_scalar, open_fields};
 use handler_shapes::{Slot, body_comes_last};
 use request_parts::ApiEndpointBodyContentType;
 use schema_values::Text;

@@ -1,10 +1,10 @@
 //! The causes that stand against the tags of an endpoint.
 ghost use Rattle.std.specs.Prelude.{◌≡◌, ◌++◌, ◌↔◌, ℕ, List as ListOf, IfOk, IsTrue, codes};
-ghost use Rattle.api_registration.specs.Registering.{IsTried, Says};
+ghost use Rattle.endpoint_parameters.specs.Told.{IsTried, Says};
 ghost use Rattle.api_registration.specs.Tags.{HasUnknownTag, LacksOnlyTag, LacksTag};
 
-use crate::first::{Condition, first_of};
 use api_declarations::Declaration;
+use endpoint_parameters::{Condition, first_of};
 use schema_values::Text;
 use std::alloc::{AllocError, Global};
 use tag_config::{EndpointTagPolicy, TagConfig};

@@ -2,13 +2,13 @@
 ghost use Rattle.std.specs.Prelude.{◌↔◌, Contains, IfNone, IfOk, IfSome, IsTrue, codes};
 ghost use Rattle.handler_shapes.specs.ShapeLengths.{ShapeHasShortLengths};
 ghost use Rattle.handler_shapes.specs.declared.slot.Slot.{Slot as SlotValue};
-ghost use Rattle.api_registration.specs.Registering.{IsTried, Says};
+ghost use Rattle.endpoint_parameters.specs.Told.{IsTried, Says};
 ghost use Rattle.api_registration.specs.Types.{HasUnsupportedSchema, IsOpenStruct, IsSupported};
 ghost use Rattle.api_registration.specs.Types.{TakesOpenStruct};
 
-use crate::resolved::open_fields;
 use api_declarations::Declaration;
 use descriptors::{Desc, DescTable};
+use endpoint_parameters::open_fields;
 use handler_shapes::{HandlerShape, Slot, shape_passes};
 use schema_values::Text;
 use std::alloc::{AllocError, Global};

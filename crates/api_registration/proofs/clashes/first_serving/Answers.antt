@@ -1,8 +1,8 @@
 use Rattle.std.proofs.Common.{List, ℕ, ◌+◌, length, subst, sym, take, arith, ◌∙◌}
 use Rattle.std.proofs.lemmas.List.{take_all}
+use Rattle.endpoint_parameters.specs.Firsts.{IsFirstPlace}
+use Rattle.endpoint_parameters.proofs.CallerLemmas.{earlier_found, first_lent, none_found}
 use Rattle.api_registration.specs.Clashes.{ServesSame}
-use Rattle.api_registration.specs.Firsts.{IsFirstPlace}
-use Rattle.api_registration.proofs.FirstPlaces.{earlier_found, first_lent, none_found}
 use Rattle.api_registration.proofs.FoundByIndex.{none_serving}
 use Rattle.api_registration.proofs.clashes.first_serving.Goals as goal
 use Rattle.api_registration.proofs.clashes.first_serving.Goals.{then-place-first+in_ok-serves_same_at+then-branch, else-place-first}

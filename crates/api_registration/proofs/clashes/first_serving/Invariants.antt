@@ -1,6 +1,6 @@
 use Rattle.std.proofs.Common.{length, take}
+use Rattle.endpoint_parameters.specs.Firsts.{IsFirstPlace}
 use Rattle.api_registration.specs.Clashes.{ServesSame}
-use Rattle.api_registration.specs.Firsts.{IsFirstPlace}
 use Rattle.api_registration.proofs.clashes.first_serving.Given as goal
 
 -- the first of the places so far where an endpoint serves the same

@@ -1,7 +1,7 @@
 use Rattle.std.proofs.Common.{◌++◌, codes, ap, ◌∙◌, map}
 use Rattle.api_declarations.specs.Values.{DeclarationValue}
+use Rattle.endpoint_parameters.proofs.CallerLemmas.{first-map, none-map, none_not_first}
 use Rattle.api_registration.specs.Clashes.{ServesSame}
-use Rattle.api_registration.proofs.Firsts.{first-map, none-map, none_not_first}
 use Rattle.api_registration.proofs.clashes.path_clash_told.Goals as goal
 
 pub returns-in-Some-2 : goal.returns-in-Some-2

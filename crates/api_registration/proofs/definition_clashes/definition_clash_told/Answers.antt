@@ -1,6 +1,6 @@
 use Rattle.std.proofs.Common.{◌++◌, codes, ap, ◌∙◌}
 use Rattle.api_declarations.specs.Values.{DeclarationValue}
-use Rattle.api_registration.specs.Registering.{quoted}
+use Rattle.endpoint_parameters.specs.Told.{quoted}
 use Rattle.api_registration.proofs.DefinitionClashes.{clash_told, none_told, some_differs}
 use Rattle.api_registration.proofs.definition_clashes.definition_clash_told.Goals as goal
 

@@ -2,9 +2,9 @@ use Rattle.std.proofs.Common.{◌≡◌, ◌+◌, ◌<◌, List, ap, arith, get_
 use Rattle.std.proofs.lemmas.List.{take_all}
 use Rattle.descriptors.specs.declared.table.Definition.{Definition}
 use Rattle.api_declarations.specs.Values.{DeclarationValue}
+use Rattle.endpoint_parameters.specs.Firsts.{IsFirstPlace}
+use Rattle.endpoint_parameters.proofs.CallerLemmas.{first_lent}
 use Rattle.api_registration.specs.Clashes.{DefinesOneOtherwise, IsDefinedOtherwise}
-use Rattle.api_registration.specs.Firsts.{IsFirstPlace}
-use Rattle.api_registration.proofs.FirstPlaces.{first_lent}
 use Rattle.api_registration.proofs.FoundByIndex.{IsFirstBy, first_by_more, none_defining}
 use Rattle.api_registration.proofs.definition_clashes.first_defining.Goals as goal
 

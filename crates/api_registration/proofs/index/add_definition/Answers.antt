@@ -2,8 +2,8 @@ use Rattle.std.proofs.Common.{inl, inr, subst, List, ℕ, length}
 use Rattle.std.specs.Prelude.{Contains}
 use Rattle.std.proofs.lemmas.Result.{on_ok_weaker}
 use Rattle.path_templates.specs.Places.{places_at}
+use Rattle.endpoint_parameters.specs.Firsts.{IsSuchAtOneOf}
 use Rattle.api_registration.specs.EndpointIndexes.{StandsFor}
-use Rattle.api_registration.specs.Firsts.{IsSuchAtOneOf}
 use Rattle.api_registration.proofs.Covering.{keeps_tried, stands_added}
 use Rattle.api_registration.proofs.StandIns.{stood_for}
 use Rattle.api_registration.proofs.index.add_definition.Goals as goal
@@ -14,7 +14,7 @@ returns-then-is_any-clause-added g c =
     let e = c.args.endpoint.now in
     let d = c.args.definition.now in
     inr (stood_for declared c.args.before.now c.args.index.now e d
-    (subst (IsSuchAtOneOf (λ x. StandsFor e d (declared x)) c.args.before.now) c.at.ensures (c.is_any.ensures c.if-is_any.true)))
+    (subst (IsSuchAtOneOf (λ x. StandsFor e d (declared x)) c.args.before.now) c.at.ensures (c.is_any.ensures.0 c.if-is_any.true)))
 
 pub returns-clause-kept : goal.returns-clause-kept
 returns-clause-kept g c =

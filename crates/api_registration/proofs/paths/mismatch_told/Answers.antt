@@ -2,7 +2,7 @@ use Rattle.std.proofs.Common.{◌≡◌, [], ap, ap₂, option_map, sym, unwrap_
 use Rattle.path_templates.specs.Segments.{template_names}
 use Rattle.path_templates.specs.Templates.{names_of}
 use Rattle.api_registration.specs.Names.{missing_in}
-use Rattle.api_registration.specs.Parameters.{parameters, path_names}
+use Rattle.endpoint_parameters.specs.Parameters.{parameters, path_names}
 use Rattle.api_registration.proofs.paths.mismatch_told.Goals as goal
 
 pub returns-then-is_empty-2 : goal.returns-then-is_empty-2

@@ -1,6 +1,6 @@
 use Rattle.std.proofs.Common.{subst}
 use Rattle.std.specs.Prelude.{Contains}
-use Rattle.api_registration.proofs.Firsts.{among}
+use Rattle.endpoint_parameters.proofs.CallerLemmas.{among}
 use Rattle.api_registration.proofs.slots.bad_form_told.Goals as goal
 
 pub returns-in_ok-from_ascii-in-Some-clause-told : goal.returns-in_ok-from_ascii-in-Some-clause-told

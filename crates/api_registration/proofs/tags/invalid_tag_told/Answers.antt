@@ -1,7 +1,7 @@
 use Rattle.std.proofs.Common.{ap, subst, ◌∙◌}
-use Rattle.api_registration.specs.Firsts.{NoneOf}
+use Rattle.endpoint_parameters.specs.Firsts.{NoneOf}
+use Rattle.endpoint_parameters.proofs.CallerLemmas.{none_not_first}
 use Rattle.api_registration.specs.Tags.{IsUnknownTag}
-use Rattle.api_registration.proofs.Firsts.{none_not_first}
 use Rattle.api_registration.proofs.tags.invalid_tag_told.Goals as goal
 
 pub returns-in_default : goal.returns-in_default

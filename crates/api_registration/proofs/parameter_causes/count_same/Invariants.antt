@@ -1,8 +1,0 @@
-use Rattle.std.proofs.Common.{◌≡◌, ◌+◌, drop}
-use Rattle.std.specs.Prelude.{count_by}
-use Rattle.api_registration.specs.Parameters.{is_same_parameter}
-use Rattle.api_registration.proofs.parameter_causes.count_same.Given as goal
-
-abbrev pub invariant-loop-other : goal.invariant-loop-other
-invariant-loop-other l =
-    count_by (is_same_parameter l.parameter) l.parameters ≡ l.count + count_by (is_same_parameter l.parameter) (drop l.other-index l.parameters)

@@ -1,4 +1,0 @@
-use Rattle.api_registration.proofs.resolved.+resolved_within.Given as goal
-
-abbrev pub decreases-resolved_within : goal.decreases-resolved_within
-decreases-resolved_within l = l.steps
