@@ -5,4 +5,6 @@ pub mod StandIns
 pub mod Indexed
 pub mod DefinitionClashes
 pub mod FoundByIndex
+pub mod Accepted
+pub mod ServedOnce
 pub mod CallerLemmas

@@ -8,3 +8,4 @@ pub mod Codes
 pub mod Clashes
 pub mod EndpointIndexes
 pub mod Registering
+pub mod Accepted

@@ -113,8 +113,3 @@ pub record IsFirstTold (tags : Configuration) (before : List DeclarationValue) (
 pub record RefusedBy (tags : Configuration) (before : List DeclarationValue) (e : DeclarationValue) (error : ApiDescriptionRegisterError) : Type 0 where
   pub told : IsFirstTold tags before e error.cause error.message
   pub operation_id : error.operation_id ≡ e.operation_id
-
--- each endpoint may be registered behind those before it
-abbrev pub AreAccepted : Configuration → List DeclarationValue → List DeclarationValue → Type 0
-AreAccepted tags before [] = ⊤
-AreAccepted tags before (e ∷ es) = MayRegister tags before e × AreAccepted tags (before ++ e ∷ []) es
