@@ -21,13 +21,13 @@ use Rattle.handler_shapes.specs.declared.slot.Slot.TheVariants.{Path, Query, Hea
 use Rattle.handler_shapes.specs.declared.slot.Slot.TheVariants.{StreamBody}
 use Rattle.handler_shapes.specs.ShapeChecks.{ShapePasses, SlotPasses}
 use Rattle.api_extract.specs.Denotes.{GivenArgs, Terms, args_by, args_told, before_args, slot_told}
-use Rattle.api_extract.specs.Extraction.{extracted}
+use Rattle.api_extract.specs.Extraction.{IsWithin, extracted}
 use Rattle.api_extract.specs.Refusals.{GivenArg}
 use Rattle.api_declarations.specs.Values.{DeclarationValue}
 use Rattle.api_documents.specs.Drawn.{IsDrawn}
 use Rattle.api_documents.specs.ErrorNames.{NamedErrorValue}
 use Rattle.api_documents.specs.Operations.{operation_of}
-use Rattle.api_agreement.specs.Agreement.{Agrees, DenotesArguments, GivesArguments, IsAdmitted, IsWithin}
+use Rattle.api_agreement.specs.Agreement.{Agrees, DenotesArguments, GivesArguments, IsAdmitted}
 use Rattle.api_agreement.specs.Agreement.{SendsNoToken, sent, terms_of}
 use Rattle.api_agreement.specs.ShownSlots.{HasShownSlots, IsShown}
 use Rattle.api_agreement.proofs.Each.{each_of}

@@ -1,6 +1,6 @@
 -- What the document of endpoints says of requests: of those to an operation it admits exactly the ones that denote
 -- arguments for the slots of the endpoint (OpenAPI 3.0.3, Operation Object).
-use Rattle.std.specs.Prelude.{◌≡◌, ◌≤◌, ◌↔◌, ◌⊎◌, ℕ, false, List, None, IsOk, length}
+use Rattle.std.specs.Prelude.{◌≡◌, ◌↔◌, ◌⊎◌, ℕ, false, List, None, IsOk}
 use Rattle.schema_values.specs.declared.json_value.Json.{Json}
 use Rattle.request_words.specs.declared.request.WireRequest.{WireRequest}
 use Rattle.request_words.specs.Pairs.{query_pairs}
@@ -12,7 +12,7 @@ use Rattle.request_parts.specs.Requests.{Request}
 use Rattle.request_parts.specs.Wire.{wire_of}
 use Rattle.handler_shapes.specs.declared.arguments.Arg.{Arg}
 use Rattle.api_extract.specs.Denotes.{Denotes, Terms, terms}
-use Rattle.api_extract.specs.Extraction.{extracted}
+use Rattle.api_extract.specs.Extraction.{IsWithin, extracted}
 use Rattle.api_declarations.specs.Values.{DeclarationValue}
 use Rattle.api_documents.specs.Listed.{path_of}
 use Rattle.api_documents.specs.Parameters.{pages_of}
@@ -36,11 +36,6 @@ abbrev pub SendsNoToken : DeclarationValue → WireRequest → Type 0
 SendsNoToken d request = (pages_of d.shape.table d.shape.slots ≡ None) ⊎ (has_token (query_pairs request.query) ≡ false)
 
 -- ---- the same of a request whose body comes in frames
-
--- a body has no more frames than the budget, and no more content than the limit
-pub record IsWithin (terms : Terms) (body : BodyState) : Type 0 where
-  pub frames : length (frames_of body) ≤ terms.budget
-  pub content : length (all_data (frames_of body)) ≤ terms.limit
 
 -- a request and the whole content of its body, as it is sent
 abbrev pub sent : Request → BodyState → WireRequest

@@ -41,7 +41,7 @@ module _ (terms : Terms) (request : Request) (body : BodyState) (slot : Slot) (r
       ap (λ (b : Bool). cond b (of_read exact (λ bytes. slot_told terms (wire_of request bytes) body slot))
       (slot_told terms (wire_of request []) body slot)) reads
 
-  error_is : (error : BodyError) (exact : Result (List ℕ) BodyError) → Err error ≡ exact
+  pub error_is : (error : BodyError) (exact : Result (List ℕ) BodyError) → Err error ≡ exact
       → slot_given terms request exact body slot ≡ Err (reading_error error)
   error_is error exact is =
       of_exact exact

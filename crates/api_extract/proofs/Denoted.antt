@@ -37,7 +37,7 @@ read_data limit budget frames content =
     by_above None false e = cc e
 
 -- arguments, or a refusal
-abbrev IsTelling : {T : Type 0} → Result T ExtractError → Type 0
+abbrev pub IsTelling : {T : Type 0} → Result T ExtractError → Type 0
 IsTelling (Ok given) = Unit {0}
 IsTelling (Err (errors.Refused fault message)) = Unit {0}
 IsTelling (Err errors.BodyFault) = ⊥

@@ -6,14 +6,12 @@ use Rattle.std.specs.List.{AllByRecursion, list_any}
 use Rattle.std.specs.declared.result.Result.{Result}
 use Rattle.http_bodies.specs.Bodies.{BodyState}
 use Rattle.body_reading.specs.declared.whole.BodyError.{BodyError}
-use Rattle.request_parts.specs.declared.content_type.ApiEndpointBodyContentType.{ApiEndpointBodyContentType}
 use Rattle.request_parts.specs.Requests.{Request}
 use Rattle.handler_shapes.specs.declared.slot.Slot.{Slot}
 use Rattle.handler_shapes.specs.declared.slot.Slot.TheVariants.{Path, Query, Header, PagedQuery, TypedBody, RawBody}
 use Rattle.handler_shapes.specs.declared.slot.Slot.TheVariants.{StreamBody}
 use Rattle.handler_shapes.specs.BodySlots.{BodyComesLast, takes_body}
-use Rattle.descriptors.specs.declared.table.Definition.{Definition}
-use Rattle.api_extract.specs.Denotes.{GivenArgs, args_by, before_args, terms}
+use Rattle.api_extract.specs.Denotes.{GivenArgs, Terms, args_by, before_args}
 use Rattle.api_extract.specs.Extraction.{plainly_told, reads_body, slot_given, takes_stream}
 use Rattle.api_extract.specs.Refusals.{GivenArg}
 use Rattle.api_extract.proofs.SlotLists.{args_joined, behind}
@@ -92,24 +90,23 @@ same_args : (one other : Slot → GivenArg) → ((slot : Slot) → TakesNone slo
 same_args one other same [] h = refl
 same_args one other same (slot ∷ slots) h = ap₂ before_args (same slot h.0) (same_args one other same slots h.1)
 
-module _ (table : List Definition) (kind : ApiEndpointBodyContentType) (limit budget : ℕ) (request : Request)
-    (body : BodyState) where
-  plain_given : (read : Result (List ℕ) BodyError) (slot : Slot) → TakesNone slot
-      → slot_given (terms table kind limit budget) request read body slot ≡ plainly_told table request slot
-  plain_given read (Path desc) h = refl
-  plain_given read (Query desc) h = refl
-  plain_given read (Header desc) h = refl
-  plain_given read (PagedQuery scan selector selector_table) h = refl
-  plain_given read (TypedBody desc name) h = absurd (cc h)
-  plain_given read RawBody h = absurd (cc h)
-  plain_given read StreamBody h = absurd (cc h)
+module _ (terms : Terms) (request : Request) (read : Result (List ℕ) BodyError) (body : BodyState) where
+  plain_given : (slot : Slot) → TakesNone slot
+      → slot_given terms request read body slot ≡ plainly_told terms.table request slot
+  plain_given (Path desc) h = refl
+  plain_given (Query desc) h = refl
+  plain_given (Header desc) h = refl
+  plain_given (PagedQuery scan selector selector_table) h = refl
+  plain_given (TypedBody desc name) h = absurd (cc h)
+  plain_given RawBody h = absurd (cc h)
+  plain_given StreamBody h = absurd (cc h)
 
-  pub given_joined : (read : Result (List ℕ) BodyError) (front rest : List Slot) → AllByRecursion TakesNone front
-      → args_by (slot_given (terms table kind limit budget) request read body) (front ++ rest)
-      ≡ behind (args_by (plainly_told table request) front)
-      (args_by (slot_given (terms table kind limit budget) request read body) rest)
-  given_joined read front rest h =
-      let given = slot_given (terms table kind limit budget) request read body in
+  pub given_joined : (front rest : List Slot) → AllByRecursion TakesNone front
+      → args_by (slot_given terms request read body) (front ++ rest)
+      ≡ behind (args_by (plainly_told terms.table request) front)
+      (args_by (slot_given terms request read body) rest)
+  given_joined front rest h =
+      let given = slot_given terms request read body in
       args_joined given front rest
       ∙ ap (λ (some : GivenArgs). behind some (args_by given rest))
-      (same_args given (plainly_told table request) (plain_given read) front h)
+      (same_args given (plainly_told terms.table request) plain_given front h)

@@ -1,15 +1,18 @@
 -- An answer for all slots, by those for the slots before the body and for the slot that takes it.
-use Rattle.std.proofs.Common.{◌≡◌, ◌⊎◌, inl, inr, ℕ, Bool, true, false, ◌||◌, not, List, [], ◌∷◌, ◌++◌, filter, Option}
+use Rattle.std.proofs.Common.{◌≡◌, ◌⊎◌, inl, inr, ℕ, Bool, true, false, not, List, [], ◌∷◌, ◌++◌, filter, Option}
 use Rattle.std.proofs.Common.{Some, None, All, refl, sym, ◌∙◌, ap, subst, append-nil}
+use Rattle.std.proofs.Math.Bool.{or-false}
 use Rattle.std.proofs.lemmas.List.Elements.{recursion_from_All}
 use Rattle.std.specs.Prelude.{IfSome, IsErr, IsErrAnd, IsErrOf, IsOk, IsTrue, MatchOption, OnOk, is_ok}
 use Rattle.std.specs.List.{AllByRecursion, list_any}
+use Rattle.std.specs.declared.result.Result.{Result}
 use Rattle.std.specs.declared.result.Result.TheVariants.{Ok, Err}
 use Rattle.http_bodies.specs.Bodies.{BodyState, frames_of, never_failing}
 use Rattle.http_bodies.specs.Frames.{SourceState}
 use Rattle.http_bodies.specs.declared.frame.Frame.{Frame}
 use Rattle.body_reading.specs.Gathered.{GathersInto}
 use Rattle.body_reading.specs.Whole.{whole}
+use Rattle.body_reading.specs.declared.whole.BodyError.{BodyError}
 use Rattle.request_parts.specs.declared.content_type.ApiEndpointBodyContentType.{ApiEndpointBodyContentType}
 use Rattle.request_parts.specs.declared.content_type.ApiEndpointBodyContentType.TheVariants.{Bytes}
 use Rattle.request_parts.specs.Requests.{Request}
@@ -21,14 +24,15 @@ use Rattle.descriptors.specs.declared.table.Definition.{Definition}
 use Rattle.api_extract.specs.declared.extract_error.ExtractError.{ExtractError}
 use Rattle.api_extract.specs.declared.extract_error.ExtractError.TheVariants as errors
 use Rattle.api_extract.specs.Answers.{IsGiven}
-use Rattle.api_extract.specs.Denotes.{GivenArgs, args_by, terms}
-use Rattle.api_extract.specs.Extraction.{ComesOf, ComesTo, IsCutShort, IsOfReading, IsPushed, ReadsFor, extracted}
-use Rattle.api_extract.specs.Extraction.{plainly_told, reads_body, shared_told, slot_extracted, takes_stream}
+use Rattle.api_extract.specs.Denotes.{GivenArgs, Terms, args_by, terms}
+use Rattle.api_extract.specs.Extraction.{AsksForBody, ComesOf, ComesTo, IsCutShort, IsOfReading, IsPushed, ReadsFor}
+use Rattle.api_extract.specs.Extraction.{extracted, plainly_told, reads_body, shared_told, slot_extracted}
+use Rattle.api_extract.specs.Extraction.{slot_given, takes_stream}
 use Rattle.api_extract.specs.Refusals.{GivenArg}
 use Rattle.api_extract.proofs.FrontSlots.{IsBodyAlone, OnlyBodies, TakesNone, any_behind, given_joined, keeps_front}
 use Rattle.api_extract.proofs.FrontSlots.{reads_only, streams_only, takes_only}
 use Rattle.api_extract.proofs.GivenAnswers.{given_comes, given_not_reading, given_or_ran_out}
-use Rattle.api_extract.proofs.NoFaults.{args_not_reading, slot_not_reading}
+use Rattle.api_extract.proofs.NoFaults.{args_not_reading, slot_tells}
 use Rattle.api_extract.proofs.SlotLists.{all_before, args_before, behind, error_behind, none_behind, one_arg, one_error}
 
 -- ---- the slots before the body, which take none, and what stands behind them
@@ -53,29 +57,24 @@ module _ {X : Type 0} (slot_of : X → Slot) (slots front : List Slot) where
   parted (Some last) none joined takes =
       record { none = recursion_from_All TakesNone front none; joined = joined; alone = takes }
 
-or_none : (b : Bool) → (b || false) ≡ b
-or_none true = refl
-or_none false = refl
-
 module _ (slots front rest : List Slot) (parts : ArePartedAs slots front rest) where
-  any_joined : (test : Slot → Bool) → OnlyBodies test → list_any test slots ≡ list_any test rest
+  pub any_joined : (test : Slot → Bool) → OnlyBodies test → list_any test slots ≡ list_any test rest
   any_joined test only = ap (list_any test) parts.joined ∙ any_behind test only front rest parts.none
 
-  shared_joined : (table : List Definition) (request : Request)
+  pub shared_joined : (table : List Definition) (request : Request)
       → shared_told table slots request ≡ args_by (plainly_told table request) front
   shared_joined table request =
       ap (λ (some : List Slot). args_by (plainly_told table request)
       (filter (λ slot. not (takes_body slot)) some)) parts.joined
       ∙ ap (args_by (plainly_told table request)) (keeps_front front rest parts.none parts.alone)
 
-  all_joined : (table : List Definition) (kind : ApiEndpointBodyContentType) (limit budget : ℕ) (request : Request)
-      (body : BodyState)
-      → extracted (terms table kind limit budget) slots request body
-      ≡ behind (args_by (plainly_told table request) front)
-      (args_by (slot_extracted (terms table kind limit budget) request body) rest)
-  all_joined table kind limit budget request body =
-      ap (args_by (slot_extracted (terms table kind limit budget) request body)) parts.joined
-      ∙ given_joined table kind limit budget request body (whole limit budget (frames_of body)) front rest parts.none
+  pub all_joined : (terms : Terms) (request : Request) (read : Result (List ℕ) BodyError) (body : BodyState)
+      → args_by (slot_given terms request read body) slots
+      ≡ behind (args_by (plainly_told terms.table request) front)
+      (args_by (slot_given terms request read body) rest)
+  all_joined terms request read body =
+      ap (args_by (slot_given terms request read body)) parts.joined
+      ∙ given_joined terms request read body front rest parts.none
 
 -- ---- the slots before the body give an error, which is the answer
 
@@ -107,7 +106,8 @@ module _ (table : List Definition) (request : Request) (slots : List Slot) (resu
       elim (given_comes result told h.given) [
         | inl cut ↦ inl cut
         | inr is ↦ inr (sym (
-            all_joined slots h.front h.rest h.parts table kind limit budget request body
+            all_joined slots h.front h.rest h.parts (terms table kind limit budget) request
+            (whole limit budget (frames_of body)) body
             ∙ ap (λ (some : GivenArgs). behind some rest) (sym is) ∙ error_first result rest h.error))
       ]
 
@@ -133,7 +133,7 @@ module _ (table : List Definition) (request : Request) (slots : List Slot) (resu
       absurd (
       given_not_reading result told h.given
       (args_not_reading (plainly_told table request)
-      (slot_not_reading (terms table Bytes 0 0) (wire_of request []) (never_failing [])) h.front) e)
+      (slot_tells (terms table Bytes 0 0) (wire_of request []) (never_failing [])) h.front) e)
 
 -- ---- the slots before the body give arguments
 
@@ -152,7 +152,8 @@ module _ (table : List Definition) (request : Request) (slots rest : List Slot) 
       → extracted (terms table kind limit budget) slots request body
       ≡ args_before args (args_by (slot_extracted (terms table kind limit budget) request body) rest)
   given_all kind limit budget body =
-      all_joined slots h.front rest h.parts table kind limit budget request body
+      all_joined slots h.front rest h.parts (terms table kind limit budget) request
+      (whole limit budget (frames_of body)) body
       ∙ ap (λ (some : GivenArgs). behind some
       (args_by (slot_extracted (terms table kind limit budget) request body) rest)) h.given
 
@@ -252,7 +253,7 @@ pub record IsAnsweredBehind (table : List Definition) (request : Request) (slots
 module _ (table : List Definition) (request : Request) (slots : List Slot) (slot : Slot) (last : GivenArg)
     (result : GivenArgs) (h : IsAnsweredBehind table request slots slot last result) where
   last_alone : (test : Slot → Bool) → OnlyBodies test → list_any test slots ≡ test slot
-  last_alone test only = any_joined slots h.front.front (slot ∷ []) h.front.parts test only ∙ or_none (test slot)
+  last_alone test only = any_joined slots h.front.front (slot ∷ []) h.front.parts test only ∙ or-false (test slot)
 
   pub last_comes : (kind : ApiEndpointBodyContentType) (limit budget : ℕ) (body : BodyState)
       → ComesTo last (slot_extracted (terms table kind limit budget) request body slot)
@@ -278,12 +279,11 @@ module _ (table : List Definition) (request : Request) (slots : List Slot) (slot
   }
 
   pub last_asked : (IsErrAnd last IsOfReading → reads_body slot ≡ true) → IsErrAnd result IsOfReading
-      → IsTrue (list_any reads_body slots) × IsOk (shared_told table slots request)
-  last_asked reads e = (
-    last_alone reads_body reads_only
-        ∙ reads (pushed_reading h.args last result h.pushed e),
-    given_ok table request slots (slot ∷ []) h.args h.front,
-  )
+      → AsksForBody table slots request
+  last_asked reads e = record {
+    reads = last_alone reads_body reads_only ∙ reads (pushed_reading h.args last result h.pushed e);
+    shared = given_ok table request slots (slot ∷ []) h.args h.front;
+  }
 
   pub last_read : (limit budget : ℕ) (old new : Option (List Frame))
       → (reads_body slot ≡ true → ReadsFor limit budget old new last) → IsTrue (list_any reads_body slots)

@@ -5,14 +5,15 @@ pub mod NamedPairs
 pub mod SlotLists
 pub mod FrontSlots
 pub mod Denoted
+pub mod NoFaults
 pub mod PageFits
 pub mod ArgFits
 pub mod Limits
 pub mod Cuts
 pub mod GivenAnswers
-pub mod NoFaults
 pub mod SizeCauses
 pub mod Joined
 pub mod Comes
 pub mod Contents
+pub mod AnswerCauses
 pub mod ShownMedia

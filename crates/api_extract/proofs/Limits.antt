@@ -1,5 +1,5 @@
 -- A body within its limits is read, and gives what the request denotes.
-use Rattle.std.proofs.Common.{◌≡◌, ◌≤◌, ℕ, List, [], ◌∷◌, length, refl, ap, ap₂}
+use Rattle.std.proofs.Common.{◌≡◌, ℕ, List, [], ◌∷◌, refl, ◌∙◌, ap, ap₂}
 use Rattle.std.specs.declared.result.Result.{Result}
 use Rattle.std.specs.declared.result.Result.TheVariants.{Ok}
 use Rattle.http_bodies.specs.Bodies.{BodyState, frames_of}
@@ -13,36 +13,38 @@ use Rattle.handler_shapes.specs.declared.slot.Slot.{Slot}
 use Rattle.handler_shapes.specs.declared.slot.Slot.TheVariants.{Path, Query, Header, PagedQuery, TypedBody, RawBody}
 use Rattle.handler_shapes.specs.declared.slot.Slot.TheVariants.{StreamBody}
 use Rattle.api_extract.specs.Denotes.{Terms, args_by, args_told, before_args, slot_told}
-use Rattle.api_extract.specs.Extraction.{extracted, of_read, slot_extracted}
+use Rattle.api_extract.specs.Extraction.{IsWithin, extracted, slot_extracted, slot_given}
 
-module _ (terms : Terms) (request : Request) (body : BodyState)
-    (reads : whole terms.limit terms.budget (frames_of body) ≡ Ok (all_data (frames_of body))) where
-  of_data : (slot : Slot)
-      → of_read (whole terms.limit terms.budget (frames_of body))
-      (λ bytes. slot_told terms (wire_of request bytes) body slot) ≡ slot_told terms
-      (wire_of request (all_data (frames_of body))) body slot
-  of_data slot =
-      ap (λ (r : Result (List ℕ) BodyError). of_read r
-      (λ bytes. slot_told terms (wire_of request bytes) body slot)) reads
+module _ (terms : Terms) (request : Request) (body : BodyState) where
+  -- what is given of a content that was read is what the request denotes with it
+  slot_of_content : (bytes : List ℕ) (slot : Slot)
+      → slot_given terms request (Ok bytes) body slot ≡ slot_told terms (wire_of request bytes) body slot
+  slot_of_content bytes (Path desc) = refl
+  slot_of_content bytes (Query desc) = refl
+  slot_of_content bytes (Header desc) = refl
+  slot_of_content bytes (PagedQuery scan selector selector_table) = refl
+  slot_of_content bytes (TypedBody desc name) = refl
+  slot_of_content bytes RawBody = refl
+  slot_of_content bytes StreamBody = refl
 
-  same_slot : (slot : Slot)
-      → slot_extracted terms request body slot ≡ slot_told terms (wire_of request (all_data (frames_of body))) body slot
-  same_slot (Path desc) = refl
-  same_slot (Query desc) = refl
-  same_slot (Header desc) = refl
-  same_slot (PagedQuery scan selector selector_table) = refl
-  same_slot (TypedBody desc name) = of_data (TypedBody desc name)
-  same_slot RawBody = of_data RawBody
-  same_slot StreamBody = refl
+  pub all_of_content : (bytes : List ℕ) (slots : List Slot)
+      → args_by (slot_given terms request (Ok bytes) body) slots
+      ≡ args_told terms slots (wire_of request bytes) body
+  all_of_content bytes [] = refl
+  all_of_content bytes (slot ∷ slots) = ap₂ before_args (slot_of_content bytes slot) (all_of_content bytes slots)
 
-  same_slots : (slots : List Slot)
-      → args_by (slot_extracted terms request body) slots
-      ≡ args_by (slot_told terms (wire_of request (all_data (frames_of body))) body) slots
-  same_slots [] = refl
-  same_slots (slot ∷ slots) = ap₂ before_args (same_slot slot) (same_slots slots)
+  module _ (within : IsWithin terms body) where
+    all_read : whole terms.limit terms.budget (frames_of body) ≡ Ok (all_data (frames_of body))
+    all_read = whole_read terms.limit terms.budget (frames_of body) within.frames within.content
 
-pub read_within : (terms : Terms) (slots : List Slot) (request : Request) (body : BodyState)
-    → length (frames_of body) ≤ terms.budget → length (all_data (frames_of body)) ≤ terms.limit
-    → extracted terms slots request body ≡ args_told terms slots (wire_of request (all_data (frames_of body))) body
-read_within terms slots request body few small =
-    same_slots terms request body (whole_read terms.limit terms.budget (frames_of body) few small) slots
+    pub slot_within : (slot : Slot) → slot_extracted terms request body slot
+        ≡ slot_told terms (wire_of request (all_data (frames_of body))) body slot
+    slot_within slot =
+        ap (λ (r : Result (List ℕ) BodyError). slot_given terms request r body slot) all_read
+        ∙ slot_of_content (all_data (frames_of body)) slot
+
+    pub read_within : (slots : List Slot) → extracted terms slots request body
+        ≡ args_told terms slots (wire_of request (all_data (frames_of body))) body
+    read_within slots =
+        ap (λ (r : Result (List ℕ) BodyError). args_by (slot_given terms request r body) slots) all_read
+        ∙ all_of_content (all_data (frames_of body)) slots

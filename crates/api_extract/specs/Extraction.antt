@@ -1,7 +1,7 @@
 -- What comes of a request whose body comes in frames: the first slot of path, query or headers that denotes nothing is
 -- told before the body is touched; then what reading the body tells, and then what the body denotes.
-use Rattle.std.specs.Prelude.{◌≡◌, ◌⊎◌, ◌+◌, ◌≤◌, length, IfOk, OnOk, ℕ, ⊤, Bool, true, false, not, if◌then◌else◌}
-use Rattle.std.specs.Prelude.{List, [], ◌∷◌, ◌++◌, filter, Option, Result}
+use Rattle.std.specs.Prelude.{◌≡◌, ◌⊎◌, ◌+◌, ◌≤◌, length, IfOk, IsOk, IsTrue, OnOk, ℕ, ⊤, Bool, true, false, not}
+use Rattle.std.specs.Prelude.{List, [], ◌∷◌, ◌++◌, filter, if◌then◌else◌, Option, Result}
 use Rattle.std.specs.List.{list_any}
 use Rattle.std.specs.declared.result.Result.TheVariants.{Ok, Err}
 use Rattle.http_bodies.specs.Bodies.{BodyState, never_failing, frames_of}
@@ -59,6 +59,11 @@ slot_extracted terms request body = slot_given terms request (whole terms.limit 
 abbrev pub extracted : Terms → List Slot → Request → BodyState → GivenArgs
 extracted terms slots request body = args_by (slot_extracted terms request body) slots
 
+-- a body has no more frames than the budget, and no more content than the limit
+pub record IsWithin (terms : Terms) (body : BodyState) : Type 0 where
+  pub frames : length (frames_of body) ≤ terms.budget
+  pub content : length (all_data (frames_of body)) ≤ terms.limit
+
 -- what a slot of path, query or headers is given, whatever the body is
 abbrev pub plainly_told : List Definition → Request → Slot → GivenArg
 plainly_told table request = slot_told (terms table Bytes 0 0) (wire_of request []) (never_failing [])
@@ -66,6 +71,11 @@ plainly_told table request = slot_told (terms table Bytes 0 0) (wire_of request 
 -- what the slots of path, query and headers are given; it is asked before the body is touched
 abbrev pub shared_told : List Definition → List Slot → Request → GivenArgs
 shared_told table slots request = args_by (plainly_told table request) (filter (λ slot. not (takes_body slot)) slots)
+
+-- a slot reads the body, and those of path, query and headers are given their arguments
+pub record AsksForBody (table : List Definition) (slots : List Slot) (request : Request) : Type 0 where
+  pub reads : IsTrue (list_any reads_body slots)
+  pub shared : IsOk (shared_told table slots request)
 
 -- the definitions and the slots pass their checks, and the body comes last
 pub record AreServed (table : List Definition) (slots : List Slot) : Type 0 where

@@ -6,4 +6,6 @@ pub mod PageQueries
 pub mod Answers
 pub mod Denotes
 pub mod Extraction
+pub mod Causes
+pub mod Cuts
 pub mod PathParams

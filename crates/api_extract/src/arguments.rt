@@ -1,6 +1,6 @@
 //! The arguments that a request gives the slots of a handler.
 ghost use Rattle.std.specs.Prelude.{◌≡◌, ◌⊎◌, ◌+◌, ◌-◌, ◌^◌, ◌<◌, [], ℕ, List, Some, false};
-ghost use Rattle.std.specs.Prelude.{IfOk, IsErrAnd, IsErrOf, IsOk, IsTrue, OnOk};
+ghost use Rattle.std.specs.Prelude.{IfOk, IsErrAnd, IsErrOf, IsTrue, OnOk};
 ghost use Rattle.std.specs.List.{list_any};
 ghost use Rattle.http_bodies.specs.Bodies.{frames_of, never_failing, state_of};
 ghost use Rattle.http_bodies.specs.Frames.{all_data};
@@ -12,8 +12,8 @@ ghost use Rattle.handler_shapes.specs.Arguments.{ArgsFit};
 ghost use Rattle.handler_shapes.specs.BodySlots.{takes_body};
 ghost use Rattle.api_extract.specs.declared.extract_error.ExtractError.{ExtractError as Extract};
 ghost use Rattle.api_extract.specs.Denotes.{Denotes, args_told, terms};
-ghost use Rattle.api_extract.specs.Extraction.{AreServed, ComesTo, IsOfReading, ReadsFor};
-ghost use Rattle.api_extract.specs.Extraction.{extracted, reads_body, shared_told, takes_stream};
+ghost use Rattle.api_extract.specs.Extraction.{AreServed, AsksForBody, ComesTo, IsOfReading};
+ghost use Rattle.api_extract.specs.Extraction.{ReadsFor, extracted, shared_told, takes_stream};
 
 use crate::bodies::{Reading, body_argument};
 use crate::extract_error::ExtractError;
@@ -81,10 +81,8 @@ pub fn extract(
     // A fault of the body, its size and the number of its frames are told only where a slot reads
     // it, behind slots that are given their arguments. There each of them has its cause in the
     // frames that came, and else the body was read to its end.
-    ensures asked { IsErrAnd result IsOfReading → IsTrue (list_any reads_body slots.now)
-        × IsOk (shared_told table.now slots.now request.now) }
-    ensures read { IsTrue (list_any reads_body slots.now)
-        → IsOk (shared_told table.now slots.now request.now)
+    ensures asked { IsErrAnd result IsOfReading → AsksForBody table.now slots.now request.now }
+    ensures read { AsksForBody table.now slots.now request.now
         → ReadsFor limit budget (Some (frames_of body.old)) (Some (frames_of body.new)) result }
 
     // A fault comes only where the count of faults rose; a count that rose is told as that fault,

@@ -1,14 +1,14 @@
 //! The same of a source of frames of one's own.
 ghost use Rattle.std.specs.Prelude.{◌≡◌, ◌⊎◌, ◌-◌, ◌^◌, ◌<◌, false};
-ghost use Rattle.std.specs.Prelude.{IfOk, IsErrAnd, IsErrOf, IsOk, IsTrue};
+ghost use Rattle.std.specs.Prelude.{IfOk, IsErrAnd, IsErrOf, IsTrue};
 ghost use Rattle.std.specs.List.{list_any};
 ghost use Rattle.http_bodies.specs.Sources.{GoesOn, HasFailed};
 ghost use Rattle.handler_shapes.specs.Arguments.{ArgsFit};
 ghost use Rattle.handler_shapes.specs.BodySlots.{takes_body};
 ghost use Rattle.api_extract.specs.declared.extract_error.ExtractError.{ExtractError as Extract};
 ghost use Rattle.api_extract.specs.Denotes.{terms};
-ghost use Rattle.api_extract.specs.Extraction.{AreServed, ComesFrom, IsOfReading, ReadsFor};
-ghost use Rattle.api_extract.specs.Extraction.{reads_body, shared_told, takes_stream};
+ghost use Rattle.api_extract.specs.Extraction.{AreServed, AsksForBody, ComesFrom, IsOfReading};
+ghost use Rattle.api_extract.specs.Extraction.{ReadsFor, shared_told, takes_stream};
 
 use crate::bodies::{Reading, source_argument};
 use crate::extract_error::ExtractError;
@@ -54,10 +54,8 @@ pub fn extract_from<S: FrameSource>(
     // A fault of the body, its size and the number of its frames are told only where a slot reads
     // it, behind slots that are given their arguments. There each of them has its cause in the
     // frames that came, and else the body was read to its end.
-    ensures asked { IsErrAnd result IsOfReading → IsTrue (list_any reads_body slots.now)
-        × IsOk (shared_told table.now slots.now request.now) }
-    ensures read { IsTrue (list_any reads_body slots.now)
-        → IsOk (shared_told table.now slots.now request.now)
+    ensures asked { IsErrAnd result IsOfReading → AsksForBody table.now slots.now request.now }
+    ensures read { AsksForBody table.now slots.now request.now
         → ReadsFor limit budget (S.state source.old).left (S.state source.new).left result }
 
     // A fault comes only where the count of faults rose; a count that rose is told as that fault,

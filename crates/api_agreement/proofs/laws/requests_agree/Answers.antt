@@ -22,4 +22,4 @@ returns c = λ version ds configured info may d is shown.
     (c.documents_define.ensures (listed version ds) configured info may.passing may.definitions d here)
     (λ request. c.operations_admitted.ensures document (path_of d) d.method (operation_of named d) request at)
     (λ terms request body within.
-    c.requests_within_limits_are_read.ensures terms d.shape.slots request body within.frames within.content)
+    c.requests_within_limits_are_read.ensures terms d.shape.slots request body within)

@@ -50,8 +50,8 @@ returns-in_err-args c =
       moved =
           IfOk-from_err result (λ _. IsTrue (list_any takes_stream slots) → c.args.body.now ≡ never_failing []) error;
       asked = λ e. front_not_reading table request slots result told e;
-      read = λ reads ok. front_read table request slots result told c.args.limit c.args.budget
-          (Some (frames_of c.args.body.now)) (Some (frames_of c.args.body.now)) ok;
+      read = λ asks. front_read table request slots result told c.args.limit c.args.budget
+          (Some (frames_of c.args.body.now)) (Some (frames_of c.args.body.now)) asks.shared;
       fault = λ e. front_not_reading table request slots result told (fault_of_reading result e);
       counts = λ h. inr refl;
     }
@@ -90,9 +90,9 @@ returns-in-Some c =
       most = c.body_argument.ensures.most;
       moved = last_moved table request slots slot last result behind c.body_argument.ensures.moved;
       asked = last_asked table request slots slot last result behind c.body_argument.ensures.asked;
-      read = λ reads ok. last_read table request slots slot last result behind c.args.limit c.args.budget
+      read = λ asks. last_read table request slots slot last result behind c.args.limit c.args.budget
           (Some (frames_of c.args.body.now)) (Some (frames_of c.body_argument.new.body))
-          c.body_argument.ensures.read reads;
+          c.body_argument.ensures.read asks.reads;
       fault = last_fault table request slots slot last result behind c.body_argument.ensures.fault;
       counts = last_counts table request slots slot last result behind c.body_argument.ensures.counts;
     }
@@ -125,7 +125,7 @@ returns-in-None c =
       most = inr (record { came = []; taken = refl; most = omega arith });
       moved = λ streams. no_stream table request slots args front streams;
       asked = λ e. absurd e;
-      read = λ reads ok. no_reader table request slots args front reads;
+      read = λ asks. no_reader table request slots args front asks.reads;
       fault = λ e. absurd (cc e);
       counts = λ h. inr refl;
     }

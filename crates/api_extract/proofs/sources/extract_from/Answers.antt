@@ -52,8 +52,8 @@ returns-in_err-args g c =
       untouched = λ other e. refl;
       unasked = λ e. refl;
       asked = λ e. front_not_reading table request slots result told e;
-      read = λ reads ok. front_read table request slots result told c.args.limit c.args.budget
-          (g.S.FrameSource.state c.args.source.now).left (g.S.FrameSource.state c.args.source.now).left ok;
+      read = λ asks. front_read table request slots result told c.args.limit c.args.budget
+          (g.S.FrameSource.state c.args.source.now).left (g.S.FrameSource.state c.args.source.now).left asks.shared;
       fault = λ e. front_not_reading table request slots result told (fault_of_reading result e);
       counts = λ h. inr refl;
       goes_on = record { later = omega arith; same = refl };
@@ -94,9 +94,9 @@ returns-in-Some g c =
       untouched = λ other e. last_early table request slots slot last result behind other e;
       unasked = λ e. last_unasked table request slots slot last result behind e;
       asked = last_asked table request slots slot last result behind c.source_argument.ensures.asked;
-      read = λ reads ok. last_read table request slots slot last result behind c.args.limit c.args.budget
+      read = λ asks. last_read table request slots slot last result behind c.args.limit c.args.budget
           (g.S.FrameSource.state c.args.source.now).left (g.S.FrameSource.state c.source_argument.new.source).left
-          c.source_argument.ensures.read reads;
+          c.source_argument.ensures.read asks.reads;
       fault = last_fault table request slots slot last result behind c.source_argument.ensures.fault;
       counts = last_counts table request slots slot last result behind c.source_argument.ensures.counts;
       goes_on = c.source_argument.ensures.goes_on;
@@ -131,7 +131,7 @@ returns-in-None g c =
       untouched = λ other e. refl;
       unasked = λ e. refl;
       asked = λ e. absurd e;
-      read = λ reads ok. no_reader table request slots args front reads;
+      read = λ asks. no_reader table request slots args front asks.reads;
       fault = λ e. absurd (cc e);
       counts = λ h. inr refl;
       goes_on = record { later = omega arith; same = refl };
