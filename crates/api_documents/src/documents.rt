@@ -4,8 +4,11 @@ ghost use Rattle.std.specs.List.{flat_map};
 ghost use Rattle.semver.specs.Identifiers.{parts_of};
 ghost use Rattle.handler_shapes.specs.ShapeChecks.{ShapePasses};
 ghost use Rattle.path_templates.specs.Places.{places_at};
-ghost use Rattle.api_documents.specs.Documents.{document_of};
+ghost use Rattle.api_documents.specs.Components.{components_of};
+ghost use Rattle.api_documents.specs.Documents.{document_of, errors_of};
 ghost use Rattle.api_documents.specs.ErrorNames.{listed_errors, with_error};
+ghost use Rattle.api_documents.specs.Listed.{listed};
+ghost use Rattle.api_documents.specs.Operations.{path_items};
 ghost use Rattle.api_documents.specs.Places.{at_places};
 
 use crate::components::components;
@@ -14,7 +17,7 @@ use crate::listed::{ListedPaths, at_method, listed_paths};
 use crate::operations::path_items;
 use crate::tags::tags;
 use api_declarations::Declaration;
-use openapi_values::{Info, OpenApi, Part};
+use openapi_values::{Components, Info, OpenApi, Part, PathItem};
 use schema_values::{List, Text};
 use semver::Version;
 use std::alloc::{AllocError, Global};
@@ -34,13 +37,10 @@ pub fn document(
     ensures { IfOk result (λ document. document ≡ document_of declarations.now
         tag_config.now.tags info.now (parts_of version.now)) }
 {
-    let listed_paths = listed_paths(alloc, declarations, version)?;
-    let named = named_errors(alloc, declarations, &listed_paths)?;
     let openapi = Text::from_ascii(alloc, "3.0.3")?;
-    let tags = tags(alloc, &tag_config.tags, declarations, version)?;
-    let paths = path_items(alloc, named.as_slice(), declarations, &listed_paths)?;
-    let components = components(alloc, named.as_slice(), declarations, version)?;
     let info = info.copy(alloc)?;
+    let tags = tags(alloc, &tag_config.tags, declarations, version)?;
+    let (paths, components) = paths_and_components(alloc, declarations, version)?;
     Ok(OpenApi {
         openapi,
         info,
@@ -48,6 +48,27 @@ pub fn document(
         components,
         tags,
     })
+}
+
+// The operations of the listed endpoints, and what they refer to.
+fn paths_and_components(
+    alloc: Global,
+    declarations: &[Declaration<'_>],
+    version: &Version,
+) -> Result<(List<(Text, PathItem)>, Components), AllocError>
+    requires { All (λ d. ShapePasses d.shape) declarations.now }
+    ensures paths { IfOk result (λ made. made.0
+        ≡ path_items (errors_of (listed (parts_of version.now) declarations.now))
+        (listed (parts_of version.now) declarations.now)) }
+    ensures components { IfOk result (λ made. made.1
+        ≡ components_of (errors_of (listed (parts_of version.now) declarations.now))
+        (listed (parts_of version.now) declarations.now)) }
+{
+    let listed_paths = listed_paths(alloc, declarations, version)?;
+    let named = named_errors(alloc, declarations, &listed_paths)?;
+    let paths = path_items(alloc, named.as_slice(), declarations, &listed_paths)?;
+    let components = components(alloc, named.as_slice(), declarations, version)?;
+    Ok((paths, components))
 }
 
 // The errors of the listed endpoints under their names, which are given in the order of the operations.
