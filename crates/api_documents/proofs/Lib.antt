@@ -14,6 +14,7 @@ mod Reaching
 mod ReferenceRows
 mod Roots
 pub mod SameDescs
+mod SharedErrors
 mod SameSchemas
 mod SameTables
 mod SchemasFound

@@ -7,13 +7,17 @@ use Rattle.std.proofs.lemmas.Slice.Eq.{bytes_eq-Decides}
 use Rattle.schema_values.specs.Sound.{AreDistinct}
 use Rattle.schema_values.proofs.CallerLemmas.{AreDistinct-sorted, contains_cases}
 use Rattle.openapi_values.specs.declared.info.Info.{Info}
+use Rattle.openapi_values.specs.declared.operation.Operation.{Operation}
+use Rattle.openapi_values.specs.Find.{operation_in}
+use Rattle.openapi_values.specs.Operation.{operation_json}
 use Rattle.openapi_values.specs.SoundParts.{names_of_map}
+use Rattle.openapi_values.proofs.CallerLemmas.{operation-stands}
 use Rattle.semver.specs.Parse.{Parts}
 use Rattle.api_declarations.specs.Values.{DeclarationValue}
 use Rattle.api_documents.specs.Accepted.{AreApart, MayBeListed}
-use Rattle.api_documents.specs.Documents.{document_of, errors_of}
+use Rattle.api_documents.specs.Documents.{document_json_of, document_of, errors_of}
 use Rattle.api_documents.specs.Listed.{endpoint_of, is_listed, listed, path_of, paths_in_order, stands_at}
-use Rattle.api_documents.specs.Lists.{IsListed, Lists}
+use Rattle.api_documents.specs.Lists.{IsListed, Lists, ListsWritten}
 use Rattle.api_documents.specs.Operations.{operation_of, path_item_of}
 use Rattle.api_documents.specs.Tags.{Configured}
 use Rattle.api_documents.proofs.Chosen.{chosen, first_pair, found, kept, later_pairs}
@@ -92,3 +96,19 @@ module _ (version : Parts) (ds : List DeclarationValue) (configured : Configured
           → (d : DeclarationValue) × IsListed version ds d × (path_of d ≡ path) × (d.method ≡ method)
       by_found path method None is some = absurd (cc some)
       by_found path method (Some d) is some = as_listed path method d is
+
+  was_some : (o : Option Operation) → IsSome (option_map operation_json o) → IsSome o
+  was_some None some = absurd (cc some)
+  was_some (Some operation) some = refl
+
+  pub lists_written
+      : ListsWritten (errors_of (listed version ds)) (document_json_of ds configured info version) version ds
+  lists_written = record {
+    each = λ d is.
+        operation-stands (document_of ds configured info version) (path_of d) d.method
+        ∙ ap (option_map operation_json) (lists_endpoints.each d is);
+    only = λ path method some.
+        lists_endpoints.only path method
+        (was_some (operation_in (document_of ds configured info version) path method)
+        (subst IsSome (operation-stands (document_of ds configured info version) path method) some));
+  }

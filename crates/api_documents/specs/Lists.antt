@@ -2,8 +2,11 @@
 -- and whose ranges hold the version, each once (OpenAPI 3.0.3, Paths Object and Path Item Object).
 use Rattle.std.specs.Prelude.{◌≡◌, ℕ, List, Some, IsSome, IsTrue, Contains}
 use Rattle.schema_values.specs.Sound.{AreDistinct}
+use Rattle.schema_values.specs.declared.json_value.Json.{Json}
 use Rattle.openapi_values.specs.declared.document.OpenApi.{OpenApi}
+use Rattle.openapi_values.specs.Admits.{operation_at}
 use Rattle.openapi_values.specs.Find.{operation_in}
+use Rattle.openapi_values.specs.Operation.{operation_json}
 use Rattle.openapi_values.specs.SoundParts.{names_of_map}
 use Rattle.semver.specs.Parse.{Parts}
 use Rattle.api_versions.specs.Ranges.{Holds}
@@ -27,3 +30,12 @@ pub record Lists (named : List NamedErrorValue) (document : OpenApi) (version : 
   pub only : (path method : List ℕ) → IsSome (operation_in document path method)
       → (d : DeclarationValue) × IsListed version ds d × (path_of d ≡ path) × (d.method ≡ method)
   pub once : AreDistinct (names_of_map document.paths)
+
+-- the same of what is written: what stands at the path and method of a listed endpoint is its operation as JSON, and
+-- nothing stands at others
+pub record ListsWritten (named : List NamedErrorValue) (document : Json) (version : Parts)
+    (ds : List DeclarationValue) : Type 0 where
+  pub each : (d : DeclarationValue) → IsListed version ds d
+      → operation_at document (path_of d) d.method ≡ Some (operation_json (operation_of named d))
+  pub only : (path method : List ℕ) → IsSome (operation_at document path method)
+      → (d : DeclarationValue) × IsListed version ds d × (path_of d ≡ path) × (d.method ≡ method)

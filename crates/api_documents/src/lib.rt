@@ -16,4 +16,4 @@ mod responses;
 mod tags;
 
 pub use documents::document;
-pub use laws::{documents_define, documents_list, documents_sound};
+pub use laws::{documents_define, documents_list, documents_sound, same_errors_are_equal};
