@@ -1,13 +1,14 @@
--- The name that the search for a number finds is free: among one number more than there are names one is free.
+-- The name that the search for a number finds is free, and the number the least: among one number more than there are
+-- names one is free.
 use Rattle.std.proofs.Common.{◌≡◌, ℕ, zero, suc, ◌+◌, ◌<◌, ◌≤◌, ◌^◌, true, false, cond, List, [], ◌∷◌, ◌++◌, length}
-use Rattle.std.proofs.Common.{refl, sym, ◌∙◌, arith, inl, inr}
+use Rattle.std.proofs.Common.{refl, sym, ◌∙◌, ap, subst, arith, inl, inr, Bool}
 use Rattle.std.specs.Prelude.{bytes_eq}
 use Rattle.std.specs.Fmt.{decimal}
-use Rattle.std.proofs.lemmas.Bool.{cases_Bool, or_cases, true≢false}
+use Rattle.std.proofs.lemmas.Bool.{cases_Bool, cases_lt, or_cases, true≢false}
 use Rattle.std.proofs.lemmas.Fmt.{decimal_injective}
 use Rattle.std.proofs.lemmas.Slice.Eq.{bytes_eq-Decides}
 use Rattle.std.proofs.lemmas.List.{append_cancel_left}
-use Rattle.api_documents.specs.ErrorNames.{free_from, free_name, is_taken}
+use Rattle.api_documents.specs.ErrorNames.{IsLeastFree, free_from, free_name, is_taken}
 
 -- names without the first that is this one
 without : List ℕ → List (List ℕ) → List (List ℕ)
@@ -86,3 +87,51 @@ module _ (names : List (List ℕ)) (name : List ℕ) where
         (record { covers = λ k above below t. t }))
     | inr free ↦ rw free free
   ]
+
+  -- ---- the number that is found is the least
+
+  from_start : (more number : ℕ) → number ≤ free_from names name number more
+  from_start zero number = omega arith
+  from_start (suc more) number = by_test (is_taken names (name ++ decimal number)) (from_start more (number + 1))
+    where
+      by_test : (b : Bool) → number + 1 ≤ free_from names name (number + 1) more
+          → number ≤ cond b (free_from names name (number + 1) more) number
+      by_test true later = omega (arith, later)
+      by_test false later = omega arith
+
+  taken_before : (more number k : ℕ) → number ≤ k → k < free_from names name number more
+      → is_taken names (name ++ decimal k) ≡ true
+  taken_before zero number k above below = absurd (omega (arith, above, below))
+  taken_before (suc more) number k above below =
+      by_test (is_taken names (name ++ decimal number)) refl below (taken_before more (number + 1) k)
+    where
+      by_test : (b : Bool) → is_taken names (name ++ decimal number) ≡ b
+          → k < cond b (free_from names name (number + 1) more) number
+          → (number + 1 ≤ k → k < free_from names name (number + 1) more → is_taken names (name ++ decimal k) ≡ true)
+          → is_taken names (name ++ decimal k) ≡ true
+      by_test true taken inside later = elim (cases_lt number k) [
+        | inl past ↦ later (omega (arith, past)) inside
+        | inr here ↦
+            let same : number ≡ k = omega (arith, above, here) in
+            subst (λ (n : ℕ). is_taken names (name ++ decimal n) ≡ true) same taken
+      ]
+      by_test false free inside later = absurd (omega (arith, above, inside))
+
+  -- a name that is free is given itself
+  pub free_itself : is_taken names name ≡ false → free_name names name ≡ name
+  free_itself free = ap (λ (b : Bool). cond b (name ++ decimal (free_from names name 2 (length names))) name) free
+
+  -- one that is taken is given with the least number that makes it free
+  pub least_found : length names + 2 < 2 ^ 64 → is_taken names name ≡ true
+      → (number : ℕ) × IsLeastFree names name number × (free_name names name ≡ name ++ decimal number)
+  unfolding at
+  least_found small taken = (
+    free_from names name 2 (length names),
+    record {
+      from_two = from_start (length names) 2;
+      free = free_among (length names) 2 names (omega arith) (omega (arith, small))
+          (record { covers = λ k above below t. t });
+      least = λ k above below. taken_before (length names) 2 k above below;
+    },
+    ap (λ (b : Bool). cond b (name ++ decimal (free_from names name 2 (length names))) name) taken,
+  )

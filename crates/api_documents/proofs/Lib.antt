@@ -4,10 +4,12 @@ mod Covered
 mod DocumentParts
 mod ErrorLoops
 mod FreeNames
+mod DistinctNames
 mod FreeNumbers
 mod Growing
 mod ListedOperations
 mod ListsEndpoints
+mod Joined
 mod OrderedNames
 mod PlacesFound
 mod Reaching
@@ -18,6 +20,8 @@ mod SharedErrors
 mod SameSchemas
 mod SameTables
 mod SchemasFound
+mod ErrorCounts
+mod ErrorsFound
 mod DecimalTexts
 mod SoundParameters
 mod SoundOperations

@@ -33,7 +33,7 @@ stands_itself d =
     and_from _ _ ((bytes_eq-Decides (path_of d) (path_of d)).1 refl) ((bytes_eq-Decides d.method d.method).1 refl)
 
 -- where no two have a path and a method in common, each is the one of its own
-found_itself : (ds : List DeclarationValue) → AreApart ds → (d : DeclarationValue) → Contains ds d
+pub found_itself : (ds : List DeclarationValue) → AreApart ds → (d : DeclarationValue) → Contains ds d
     → endpoint_of ds (path_of d) d.method ≡ Some d
 found_itself [] apart d c = absurd (omega (arith, c.1))
 found_itself (other ∷ ds) apart d c =

@@ -86,10 +86,10 @@ module _ {X : Type 0} where
   or_assoc None p false x = refl
 
 module _ {X : Type 0} (name : List ℕ) where
-  abbrev found : List (List ℕ × X) → Option X
+  abbrev pub found : List (List ℕ × X) → Option X
   found entries = lookup (is_at (text_order name)) entries
 
-  value_found : (entries : List (List ℕ × X)) → value_at name entries ≡ found entries
+  pub value_found : (entries : List (List ℕ × X)) → value_at name entries ≡ found entries
   value_found [] = refl
   value_found (entry ∷ entries) =
       rw (is_eq-slice_cmp name entry.0)
@@ -142,7 +142,7 @@ module _ {X : Type 0} (name : List ℕ) where
           ∙ or_none (found entries)
 
   -- the first of a name stands
-  found_all : (xs entries : List (List ℕ × X))
+  pub found_all : (xs entries : List (List ℕ × X))
       → found (fold with_entry entries xs) ≡ option_or (found entries) (found xs)
   found_all [] entries = or_none (found entries)
   found_all (x ∷ xs) entries =
@@ -152,7 +152,7 @@ module _ {X : Type 0} (name : List ℕ) where
 
 -- ---- the definitions that are reached
 
-schema_of : List Definition → Definition → Json
+pub schema_of : List Definition → Definition → Json
 schema_of table e = schema_json_described table e.description e.desc
 
 module _ (table : List Definition) (name : List ℕ) (q : List ℕ → Bool) where
@@ -192,7 +192,7 @@ abbrev pub leads_to : DeclarationValue → List ℕ → Bool
 leads_to d name = is_among name (reached_within d.shape.table (roots_of d.shape) (length d.shape.table))
 
 module _ (name : List ℕ) where
-  found_joined : {X : Type 0} (xs ys : List (List ℕ × X))
+  pub found_joined : {X : Type 0} (xs ys : List (List ℕ × X))
       → found name (xs ++ ys) ≡ option_or (found name xs) (found name ys)
   found_joined [] ys = refl
   found_joined (x ∷ xs) ys = by_test (is_at (text_order name) x.0) (found_joined xs ys)
@@ -202,7 +202,7 @@ module _ (name : List ℕ) where
       by_test true h = refl
       by_test false h = h
 
-  own_found : (d : DeclarationValue)
+  pub own_found : (d : DeclarationValue)
       → found name (schema_entries d)
       ≡ cond (leads_to d name) (option_map (schema_of d.shape.table) (entry_of d.shape.table name)) None
   own_found d = found_filtered d.shape.table name (leads_to d) d.shape.table

@@ -1,7 +1,7 @@
 -- The names of the responses of errors in a document (OpenAPI 3.0.3, Components Object; the names are this project's
 -- own). Errors of one name and descriptor share a response, whose name is given where the first of them is listed.
-use Rattle.std.specs.Prelude.{ℕ, zero, suc, ◌+◌, ◌==◌, Bool, true, false, ◌&&◌, List, [], ◌∷◌, ◌++◌, length, map, find}
-use Rattle.std.specs.Prelude.{fold, is_some, option_and_then, option_map, Option, if◌then◌else◌, bytes_eq}
+use Rattle.std.specs.Prelude.{◌≡◌, ℕ, zero, suc, ◌+◌, ◌<◌, ◌≤◌, ◌==◌, Bool, true, false, ◌&&◌, List, [], ◌∷◌, ◌++◌}
+use Rattle.std.specs.Prelude.{length, map, find, fold, is_some, option_and_then, option_map, Option, if◌then◌else◌, bytes_eq}
 use Rattle.std.specs.Fmt.{decimal}
 use Rattle.std.specs.List.{filter_map, list_any}
 use Rattle.std.specs.Option.{option_map_or}
@@ -84,6 +84,12 @@ free_from names name number (suc more) =
 -- are names is tried, so one of them does
 abbrev pub free_name : List (List ℕ) → List ℕ → List ℕ
 free_name names name = if is_taken names name then name ++ decimal (free_from names name 2 (length names)) else name
+
+-- of the numbers from 2 on it is the least that makes a name free
+pub record IsLeastFree (names : List (List ℕ)) (name : List ℕ) (number : ℕ) : Type 0 where
+  pub from_two : 2 ≤ number
+  pub free : is_taken names (name ++ decimal number) ≡ false
+  pub least : (k : ℕ) → 2 ≤ k → k < number → is_taken names (name ++ decimal k) ≡ true
 
 -- the named error that is the same as an error
 abbrev pub shared_by : ApiEndpointErrorResponse → List NamedErrorValue → Option NamedErrorValue

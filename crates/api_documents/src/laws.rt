@@ -1,9 +1,10 @@
-//! What the document of endpoints lists, that it has the definitions that they refer to, which errors
-//! share a response, and that it is sound.
-ghost use Rattle.std.specs.Prelude.{◌≡◌, ◌↔◌};
-ghost use Rattle.std.specs.Prelude.{All, Contains, IsTrue, List as ListOf};
+//! What the document of endpoints lists, that it has the definitions and the responses of errors that
+//! they refer to, under names that differ, and that it is sound.
+ghost use Rattle.std.specs.Prelude.{◌≡◌, ◌↔◌, ℕ, ◌+◌, ◌<◌, ◌^◌, true, false, ◌++◌, length};
+ghost use Rattle.std.specs.Prelude.{All, Contains, IsTrue, List as ListOf, Some};
+ghost use Rattle.std.specs.Fmt.{decimal};
 ghost use Rattle.semver.specs.Parse.{Parts};
-ghost use Rattle.schema_values.specs.Sound.{IsSound};
+ghost use Rattle.schema_values.specs.Sound.{AreDistinct, IsSound};
 ghost use Rattle.openapi_values.specs.declared.info.Info.{Info as InfoValue};
 ghost use Rattle.openapi_values.specs.Document.{open_api_json};
 ghost use Rattle.descriptors.specs.declared.desc.Desc.{Desc as Descriptor};
@@ -12,9 +13,11 @@ ghost use Rattle.handler_shapes.specs.declared.shape.ApiEndpointErrorResponse.{A
 ghost use Rattle.handler_shapes.specs.ShapeChecks.{ShapePasses};
 ghost use Rattle.api_declarations.specs.Values.{DeclarationValue};
 ghost use Rattle.api_documents.specs.Accepted.{DefinitionsAgree, MayBeListed};
+ghost use Rattle.api_documents.specs.Defines.{DefinesError};
 ghost use Rattle.api_documents.specs.Documents.{document_json_of, document_listing, document_of, errors_of};
 ghost use Rattle.api_documents.specs.Drawn.{IsDrawn};
-ghost use Rattle.api_documents.specs.ErrorNames.{same_error};
+ghost use Rattle.api_documents.specs.ErrorNames.{IsLeastFree, TabledError, free_name, given_names};
+ghost use Rattle.api_documents.specs.ErrorNames.{is_taken, listed_error, named_errors, same_error};
 ghost use Rattle.api_documents.specs.Listed.{listed};
 ghost use Rattle.api_documents.specs.Lists.{Lists, ListsWritten};
 ghost use Rattle.api_documents.specs.Tags.{Configured};
@@ -37,6 +40,29 @@ pub fn documents_define()
         → All (λ (d : DeclarationValue). ShapePasses d.shape) ds → DefinitionsAgree ds
         → (d : DeclarationValue) → Contains ds d → (desc : Descriptor) → IsDrawn d.shape desc
         → DefinesReached (open_api_json (document_listing ds configured info)) d.shape.table desc }
+{}
+
+/// A document that lists some endpoints has the response of each error that one of them lists, under the
+/// name by which its operation refers to it.
+pub fn documents_define_errors()
+    ensures { (ds : ListOf DeclarationValue) (configured : Configured) (info : InfoValue) → MayBeListed ds
+        → length ds + 2 < 2 ^ 64 → (d : DeclarationValue) → Contains ds d → (error : Error)
+        → listed_error d.shape ≡ Some error
+        → DefinesError (document_listing ds configured info) (errors_of ds) error }
+{}
+
+/// The name that is given to an error is free: its own where that is free, else with the least number from
+/// 2 on that makes it so. So no name is given twice.
+pub fn error_names_differ()
+    ensures free { (names : ListOf (ListOf ℕ)) (name : ListOf ℕ) → length names + 2 < 2 ^ 64
+        → is_taken names (free_name names name) ≡ false }
+    ensures own { (names : ListOf (ListOf ℕ)) (name : ListOf ℕ) → is_taken names name ≡ false
+        → free_name names name ≡ name }
+    ensures least { (names : ListOf (ListOf ℕ)) (name : ListOf ℕ) → length names + 2 < 2 ^ 64
+        → is_taken names name ≡ true → (number : ℕ) × IsLeastFree names name number
+        × (free_name names name ≡ name ++ decimal number) }
+    ensures once { (es : ListOf TabledError) → length es + 2 < 2 ^ 64
+        → AreDistinct (given_names (named_errors es)) }
 {}
 
 /// Errors share a name exactly where they are equal: by the name of their type and the descriptor.

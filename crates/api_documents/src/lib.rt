@@ -16,4 +16,5 @@ mod responses;
 mod tags;
 
 pub use documents::document;
-pub use laws::{documents_define, documents_list, documents_sound, same_errors_are_equal};
+pub use laws::{documents_define, documents_define_errors, documents_list, documents_sound};
+pub use laws::{error_names_differ, same_errors_are_equal};
