@@ -28,18 +28,22 @@ operation_of named d = record {
 abbrev pub operation_at : List NamedErrorValue → List DeclarationValue → List ℕ → List ℕ → Option Operation
 operation_at named ds path method = option_map (operation_of named) (endpoint_of ds path method)
 
+-- the operations of a path, of each method by its name
+abbrev pub item_by : (List ℕ → Option Operation) → PathItem
+item_by operation = record {
+  get = operation (codes "GET");
+  put = operation (codes "PUT");
+  post = operation (codes "POST");
+  delete = operation (codes "DELETE");
+  options = operation (codes "OPTIONS");
+  head = operation (codes "HEAD");
+  patch = operation (codes "PATCH");
+  trace = operation (codes "TRACE");
+}
+
 -- the operations of a path, one for each method by which it is served
 abbrev pub path_item_of : List NamedErrorValue → List DeclarationValue → List ℕ → PathItem
-path_item_of named ds path = record {
-  get = operation_at named ds path (codes "GET");
-  put = operation_at named ds path (codes "PUT");
-  post = operation_at named ds path (codes "POST");
-  delete = operation_at named ds path (codes "DELETE");
-  options = operation_at named ds path (codes "OPTIONS");
-  head = operation_at named ds path (codes "HEAD");
-  patch = operation_at named ds path (codes "PATCH");
-  trace = operation_at named ds path (codes "TRACE");
-}
+path_item_of named ds path = item_by (operation_at named ds path)
 
 -- each path with its operations
 abbrev pub path_items : List NamedErrorValue → List DeclarationValue → List (List ℕ × PathItem)

@@ -1,6 +1,6 @@
 -- Where the endpoints that a document lists stand among those that were declared: an index has their places by their
 -- paths.
-use Rattle.std.specs.Prelude.{ℕ, Bool, List, [], ◌∷◌, Option, option_map, if◌then◌else◌, bytes_eq, codes}
+use Rattle.std.specs.Prelude.{ℕ, Bool, List, [], ◌∷◌, Option, option_map, if◌then◌else◌, bytes_eq}
 use Rattle.std.specs.List.{filter_map}
 use Rattle.openapi_values.specs.declared.operation.Operation.{Operation}
 use Rattle.openapi_values.specs.declared.operation.PathItem.{PathItem}
@@ -9,7 +9,7 @@ use Rattle.path_templates.specs.Places.{first_at}
 use Rattle.api_declarations.specs.Values.{DeclarationValue}
 use Rattle.api_documents.specs.ErrorNames.{NamedErrorValue}
 use Rattle.api_documents.specs.Listed.{is_listed, method_names, path_of}
-use Rattle.api_documents.specs.Operations.{operation_of}
+use Rattle.api_documents.specs.Operations.{item_by, operation_of}
 
 -- the key of an endpoint by which it is looked up: its path, where it is listed
 abbrev pub path_keys : Parts → DeclarationValue → List (List ℕ)
@@ -29,13 +29,4 @@ operation_by named ds places method = option_map (operation_of named) (first_at 
 
 -- the operations at some places
 abbrev pub item_at : List NamedErrorValue → List DeclarationValue → List ℕ → PathItem
-item_at named ds places = record {
-  get = operation_by named ds places (codes "GET");
-  put = operation_by named ds places (codes "PUT");
-  post = operation_by named ds places (codes "POST");
-  delete = operation_by named ds places (codes "DELETE");
-  options = operation_by named ds places (codes "OPTIONS");
-  head = operation_by named ds places (codes "HEAD");
-  patch = operation_by named ds places (codes "PATCH");
-  trace = operation_by named ds places (codes "TRACE");
-}
+item_at named ds places = item_by (operation_by named ds places)
