@@ -1,6 +1,6 @@
 -- A text among texts: in an ordered list of them, and in lists one behind another.
 use Rattle.std.proofs.Common.{◌≡◌, ℕ, Bool, true, ◌||◌, List, [], ◌∷◌, refl, sym, ◌∙◌, ap}
-use Rattle.std.specs.Prelude.{Contains}
+use Rattle.std.specs.Prelude.{Contains, bytes_eq}
 use Rattle.std.specs.declared.cmp.Ordering.{Ordering}
 use Rattle.std.specs.declared.cmp.Ordering.TheVariants.{Less, Equal, Greater}
 use Rattle.std.specs.BTreeMap.{is_at}
@@ -12,7 +12,8 @@ use Rattle.std.proofs.lemmas.Cmp.{nat_list_cmp_total, tied_itself}
 use Rattle.std.proofs.lemmas.List.Folds.{list_any-append, list_any_at}
 use Rattle.std.proofs.lemmas.Map.Text.{is_eq-slice_cmp}
 use Rattle.std.proofs.lemmas.Slice.Eq.{bytes_eq-Decides}
-use Rattle.api_documents.specs.Ordered.{is_among, text_order, with_texts}
+use Rattle.api_documents.specs.ErrorNames.{is_taken}
+use Rattle.api_documents.specs.Ordered.{in_text_order, is_among, text_order, with_texts}
 
 pub at_itself : (text : List ℕ) → is_at (text_order text) text ≡ true
 at_itself text = ap is_eq (tied_itself nat_list_cmp_total text)
@@ -65,3 +66,13 @@ module _ (name : List ℕ) where
   among_joined f (x ∷ xs) =
       list_any-append (is_at (text_order name)) (f x) (flat_map f xs)
       ∙ ap (λ (b : Bool). is_among name (f x) || b) (among_joined f xs)
+
+-- whether a name is taken is told by the names in order
+pub among_taken : (name : List ℕ) (names : List (List ℕ)) → is_among name (in_text_order names) ≡ is_taken names name
+among_taken name names = among_texts name names [] ∙ each names
+  where
+    each : (texts : List (List ℕ)) → is_among name texts ≡ is_taken texts name
+    each [] = refl
+    each (text ∷ texts) =
+        ap (λ (b : Bool). b || is_among name texts) (is_eq-slice_cmp name text)
+        ∙ ap (λ (b : Bool). bytes_eq name text || b) (each texts)

@@ -6,11 +6,13 @@ ghost use Rattle.typed_values.specs.Checks.{TablePasses};
 ghost use Rattle.api_documents.specs.ErrorNames.{free_from, free_name, given_names};
 ghost use Rattle.api_documents.specs.ErrorNames.{is_taken, listed_error, listed_errors, name_of_error};
 ghost use Rattle.api_documents.specs.ErrorNames.{same_desc, same_error, shared_by, with_error};
+ghost use Rattle.api_documents.specs.Ordered.{in_text_order};
 
 use api_declarations::Declaration;
 use handler_shapes::{ApiEndpointErrorResponse, HandlerShape};
 use schema_values::{List, Text};
 use std::alloc::{AllocError, Global};
+use std::collections::BTreeSet;
 use std::marker::Model;
 use typed_values::{Desc, DescTable};
 
@@ -145,20 +147,38 @@ fn free_name(alloc: Global, named: &[NamedError<'_>], name: &Text) -> Result<Tex
     ensures { IfOk result (λ free. free ≡ free_name (given_names named.now) name.now) }
 {
     if is_taken(name, named) {
-        let number = free_number(alloc, named, name)?;
+        let taken = names_in_order(alloc, named)?;
+        let number = free_number(alloc, named, &taken, name)?;
         numbered(alloc, name, number)
     } else {
         name.copy(alloc)
     }
 }
 
-fn free_number(alloc: Global, named: &[NamedError<'_>], name: &Text) -> Result<u64, AllocError>
+// The names that are given, for fast look-ups.
+fn names_in_order(alloc: Global, named: &[NamedError<'_>]) -> Result<BTreeSet<Text>, AllocError>
+    ensures { IfOk result (λ names. names.keys ≡ in_text_order (given_names named.now)) }
+{
+    let mut names = BTreeSet::new(alloc);
+    for other in named {
+        names.insert(other.name().copy(alloc)?)?;
+    }
+    Ok(names)
+}
+
+fn free_number(
+    alloc: Global,
+    named: &[NamedError<'_>],
+    taken: &BTreeSet<Text>,
+    name: &Text,
+) -> Result<u64, AllocError>
+    requires { taken.now.keys ≡ in_text_order (given_names named.now) }
     ensures { IfOk result (λ number. number
         ≡ free_from (given_names named.now) name.now 2 (length named.now)) }
 {
     for tried in 0..named.len() {
         let number = tried as u64 + 2;
-        if !is_taken(&numbered(alloc, name, number)?, named) {
+        if !taken.contains(&numbered(alloc, name, number)?) {
             return Ok(number);
         }
     }
