@@ -22,7 +22,7 @@ any_same : {X : Type 0} (p q : X → Bool) (xs : List X) → AllByRecursion (λ 
 any_same p q [] h = refl
 any_same p q (x ∷ xs) h = ap (λ (b : Bool). b || list_any p xs) h.0 ∙ ap (λ (b : Bool). q x || b) (any_same p q xs h.1)
 
-all_contained : {X : Type 0} (P : X → Type 0) (xs : List X) (x : X) → AllByRecursion P xs → Contains xs x → P x
+pub all_contained : {X : Type 0} (P : X → Type 0) (xs : List X) (x : X) → AllByRecursion P xs → Contains xs x → P x
 all_contained P [] x h c = absurd (omega (arith, c.1))
 all_contained P (y ∷ xs) x h c =
     elim (contains_cases y xs x c) [ inl same ↦ subst P same h.0 | inr later ↦ all_contained P xs x h.1 later ]

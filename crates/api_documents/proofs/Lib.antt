@@ -22,6 +22,8 @@ mod SameTables
 mod SchemasFound
 mod ErrorCounts
 mod ErrorsFound
+mod MentionedBack
+mod ReachedBack
 mod DecimalTexts
 mod SoundParameters
 mod SoundOperations

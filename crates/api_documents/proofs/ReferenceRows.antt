@@ -40,13 +40,13 @@ folded_variant =
     fold-Variant Names Names Names Names
     references_step references_of_field references_of_tagged references_of_variant
 
-abbrev references_level : DescLevel → Names
+abbrev pub references_level : DescLevel → Names
 references_level z =
     references_step
     (map-Desc Desc Field TaggedVariant Variant Names Names Names Names
     references folded_field folded_tagged folded_variant z)
 
-references_row : (d : Desc) (y : DescLevel) → out-Desc d ≡ y → references d ≡ references_level y
+pub references_row : (d : Desc) (y : DescLevel) → out-Desc d ≡ y → references d ≡ references_level y
 references_row d y e =
     fold_out-Desc Names Names Names Names
     references_step references_of_field references_of_tagged references_of_variant d
@@ -93,21 +93,21 @@ tagged_row v =
 
 -- ---- the names of each level that has several parts
 
-of_struct : (d : Desc) (fs : List Field) (deny : Bool)
+pub of_struct : (d : Desc) (fs : List Field) (deny : Bool)
     → out-Desc d ≡ Desc-F.Struct fs deny → references d ≡ references_in_fields fs
 of_struct d fs deny e = references_row d (Desc-F.Struct fs deny) e ∙ fields_joined fs
 
-of_external : (d : Desc) (vs : List Variant)
+pub of_external : (d : Desc) (vs : List Variant)
     → out-Desc d ≡ Desc-F.External vs → references d ≡ flat_map references_in_variant vs
 of_external d vs e =
     references_row d (Desc-F.External vs) e ∙ joined folded_variant references_in_variant variant_row vs
 
-of_tagged : (d : Desc) (tag : List ℕ) (vs : List TaggedVariant)
+pub of_tagged : (d : Desc) (tag : List ℕ) (vs : List TaggedVariant)
     → out-Desc d ≡ Desc-F.Tagged tag vs → references d ≡ flat_map references_in_tagged vs
 of_tagged d tag vs e =
     references_row d (Desc-F.Tagged tag vs) e ∙ joined folded_tagged references_in_tagged tagged_row vs
 
-of_choice : (d : Desc) (ds : List Desc) → out-Desc d ≡ Desc-F.Untagged ds → references d ≡ flat_map references ds
+pub of_choice : (d : Desc) (ds : List Desc) → out-Desc d ≡ Desc-F.Untagged ds → references d ≡ flat_map references ds
 of_choice d ds e = references_row d (Desc-F.Untagged ds) e ∙ joined references references (λ x. refl) ds
 
 pub struct_references : (d : Desc) (fs : List Field) (deny : Bool)

@@ -1,13 +1,15 @@
 //! What the document of endpoints lists, that it has the definitions and the responses of errors that
 //! they refer to, under names that differ, and that it is sound.
 ghost use Rattle.std.specs.Prelude.{◌≡◌, ◌↔◌, ℕ, ◌+◌, ◌<◌, ◌^◌, true, false, ◌++◌, length};
-ghost use Rattle.std.specs.Prelude.{All, Contains, IsTrue, List as ListOf, Some};
+ghost use Rattle.std.specs.Prelude.{All, Contains, IsSome, IsTrue, List as ListOf, Some};
 ghost use Rattle.std.specs.Fmt.{decimal};
 ghost use Rattle.semver.specs.Parse.{Parts};
 ghost use Rattle.schema_values.specs.Sound.{AreDistinct, IsSound};
 ghost use Rattle.openapi_values.specs.declared.info.Info.{Info as InfoValue};
 ghost use Rattle.openapi_values.specs.Document.{open_api_json};
+ghost use Rattle.openapi_values.specs.Find.{definition_in};
 ghost use Rattle.descriptors.specs.declared.desc.Desc.{Desc as Descriptor};
+ghost use Rattle.typed_values.specs.Reached.{IsReached};
 ghost use Rattle.written_schemas.specs.Reached.{DefinesReached};
 ghost use Rattle.handler_shapes.specs.declared.shape.ApiEndpointErrorResponse.{ApiEndpointErrorResponse as Error};
 ghost use Rattle.handler_shapes.specs.ShapeChecks.{ShapePasses};
@@ -40,6 +42,15 @@ pub fn documents_define()
         → All (λ (d : DeclarationValue). ShapePasses d.shape) ds → DefinitionsAgree ds
         → (d : DeclarationValue) → Contains ds d → (desc : Descriptor) → IsDrawn d.shape desc
         → DefinesReached (open_api_json (document_listing ds configured info)) d.shape.table desc }
+{}
+
+/// A document has no schema but those of definitions to which the operation of an endpoint leads.
+pub fn documents_define_no_more()
+    ensures { (ds : ListOf DeclarationValue) (configured : Configured) (info : InfoValue)
+        → All (λ (d : DeclarationValue). ShapePasses d.shape) ds → (name : ListOf ℕ)
+        → IsSome (definition_in (document_listing ds configured info) name)
+        → (d : DeclarationValue) × Contains ds d
+        × ((desc : Descriptor) × IsDrawn d.shape desc × IsReached d.shape.table desc name) }
 {}
 
 /// A document that lists some endpoints has the response of each error that one of them lists, under the

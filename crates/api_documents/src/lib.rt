@@ -16,5 +16,7 @@ mod responses;
 mod tags;
 
 pub use documents::document;
-pub use laws::{documents_define, documents_define_errors, documents_list, documents_sound};
-pub use laws::{error_names_differ, same_errors_are_equal};
+pub use laws::{
+    documents_define, documents_define_errors, documents_define_no_more, documents_list,
+    documents_sound, error_names_differ, same_errors_are_equal,
+};
