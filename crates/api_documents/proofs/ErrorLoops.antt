@@ -25,7 +25,8 @@ module _ (found : List ℕ → Option DeclarationValue) where
     abbrev left : List (List ℕ)
     left = map text (drop (i + 1) items)
 
-    first_left : added named (map text (drop i items)) ≡ fold with_error named (listed_errors (cons_option (found here) (filter_map found left)))
+    first_left : added named (map text (drop i items))
+        ≡ fold with_error named (listed_errors (cons_option (found here) (filter_map found left)))
     first_left = ap (λ some. added named (map text some)) (drop_more items i none inside)
 
     pub none_added : (new : List NamedErrorValue) → found here ≡ None → new ≡ named

@@ -1,34 +1,51 @@
--- The responses of errors in a document, by their names: each error that an endpoint lists has one.
-use Rattle.std.proofs.Common.{◌≡◌, ℕ, ◌+◌, ◌<◌, ◌≤◌, ◌^◌, Bool, true, false, cond, List, [], ◌∷◌, length, map}
-use Rattle.std.proofs.Common.{option_map, is_some, bytes_eq, Option, Some, None, refl, sym, ◌∙◌, ap, subst, inl, inr, arith}
+-- The responses of errors in a document, by their names: each error that an endpoint lists has one, which is drawn as
+-- under the endpoint's own table, and to which the endpoint's operation refers.
+use Rattle.std.proofs.Common.{◌≡◌, ◌≢◌, ◌⊎◌, ℕ, ◌+◌, ◌*◌, ◌<◌, ◌≤◌, ◌^◌, Bool, true, false, cond, List, [], ◌∷◌}
+use Rattle.std.proofs.Common.{length, map, option_map, is_some, bytes_eq, Option, Some, None, codes}
+use Rattle.std.proofs.Common.{refl, sym, ◌∙◌, ap, ap₂, subst, inl, inr, arith}
 use Rattle.std.specs.Prelude.{Contains, IsSome, find}
+use Rattle.std.specs.Fmt.{decimal}
 use Rattle.std.specs.BTreeMap.{is_at}
 use Rattle.std.specs.Option.{option_map_or}
 use Rattle.std.proofs.lemmas.Bool.{cases_Bool, or_cases, or_left, or_right, true≢false}
 use Rattle.std.proofs.lemmas.List.Elements.{All-contains}
 use Rattle.std.proofs.lemmas.Slice.Eq.{bytes_eq-Decides}
+use Rattle.schema_values.specs.declared.json_value.Json.{Json}
 use Rattle.schema_values.specs.Sound.{AreDistinct}
 use Rattle.schema_values.proofs.CallerLemmas.{contains_cases, contains_first, contains_later}
+use Rattle.openapi_values.specs.declared.document.OpenApi.{OpenApi}
 use Rattle.openapi_values.specs.declared.info.Info.{Info}
+use Rattle.openapi_values.specs.declared.media.ResponseObject.{ResponseObject}
 use Rattle.openapi_values.specs.Admits.{methods}
-use Rattle.openapi_values.specs.Find.{response_in}
+use Rattle.openapi_values.specs.Find.{value_at}
+use Rattle.descriptors.specs.declared.table.Definition.{Definition}
+use Rattle.typed_values.specs.Checks.{DescPasses}
+use Rattle.typed_values.specs.SchemaTable.{schema_json_titled}
 use Rattle.handler_shapes.specs.declared.shape.ApiEndpointErrorResponse.{ApiEndpointErrorResponse}
+use Rattle.handler_shapes.specs.ShapeChecks.{ErrorPasses, ShapePasses}
 use Rattle.api_declarations.specs.Values.{DeclarationValue}
-use Rattle.api_documents.specs.Accepted.{HasListedMethod, MayBeListed}
+use Rattle.api_documents.specs.Accepted.{DefinitionsAgree, HasListedMethod, MayBeListed, TablesAgree}
+use Rattle.api_documents.specs.Bodies.{media}
 use Rattle.api_documents.specs.Components.{error_entry, error_object}
-use Rattle.api_documents.specs.Defines.{DefinesError}
+use Rattle.api_documents.specs.Defines.{LeadsToError}
 use Rattle.api_documents.specs.Documents.{document_listing, errors_of}
 use Rattle.api_documents.specs.ErrorNames.{NamedErrorValue, given_names, listed_error, listed_errors, same_error}
-use Rattle.api_documents.specs.ErrorNames.{shared_by, tabled_error, with_table}
+use Rattle.api_documents.specs.ErrorNames.{name_of_error, shared_by, tabled_error, with_table}
 use Rattle.api_documents.specs.Listed.{at_path, endpoint_of, in_order, method_names, path_of, paths_in_order}
+use Rattle.api_documents.specs.Operations.{operation_of}
 use Rattle.api_documents.specs.Ordered.{by_name, is_among, text_order}
+use Rattle.api_documents.specs.Responses.{code_text, error_responses, reference_to, responses_of, success_of}
 use Rattle.api_documents.specs.Tags.{Configured}
 use Rattle.api_documents.proofs.Among.{among_texts, at_itself, same_text}
-use Rattle.api_documents.proofs.Chosen.{found as chosen_by}
+use Rattle.api_documents.proofs.Chosen.{first_pair, found as chosen_by, later_pairs}
+use Rattle.api_documents.proofs.Covered.{all_contained}
+use Rattle.api_documents.proofs.DecimalTexts.{no_decimal}
 use Rattle.api_documents.proofs.DistinctNames.{names_differ}
-use Rattle.api_documents.proofs.ErrorCounts.{no_more_errors}
+use Rattle.api_documents.proofs.ErrorCounts.{few_errors}
 use Rattle.api_documents.proofs.Joined.{each_mapped, in_filtered, in_joined}
 use Rattle.api_documents.proofs.ListsEndpoints.{found_itself}
+use Rattle.api_documents.proofs.NamedErrors.{each_error, own_code, own_error}
+use Rattle.api_documents.proofs.SameSchemas.{shared_titled}
 use Rattle.api_documents.proofs.SchemasFound.{found, found_all, value_found}
 use Rattle.api_documents.proofs.SharedErrors.{errors_shared, same_error-is}
 
@@ -98,41 +115,148 @@ entry_found (first ∷ named) n distinct c = elim (contains_cases first named n 
       cond (is_at (text_order n.name) x.name) (Some (error_object x)) (found n.name (map error_entry named))) same
       ∙ ap (λ (b : Bool). cond b (Some (error_object n)) (found n.name (map error_entry named))) (at_itself n.name)
   | inr later ↦
-      let differ = each_mapped (λ other. first.name ≡ other → ⊥) (λ (x : NamedErrorValue). x.name) named n distinct.0 later in
+      let differ =
+      each_mapped (λ other. first.name ≡ other → ⊥) (λ (x : NamedErrorValue). x.name) named n distinct.0 later in
       ap (λ (b : Bool). cond b (Some (error_object first)) (found n.name (map error_entry named)))
       (other_name n.name first.name differ)
       ∙ entry_found named n distinct.1 later
 ]
 
-few : (a b : ℕ) → a ≤ b → b + 2 < 2 ^ 64 → a + 2 < 2 ^ 64
+-- ---- the definitions of one name are the same in the tables of any two endpoints
+
+abbrev Agree : DeclarationValue → DeclarationValue → Type 0
+Agree d other = TablesAgree d.shape.table other.shape.table
+
+agree_itself : (table : List Definition) → TablesAgree table table
+agree_itself table name e f here there = cc (sym here ∙ there)
+
+agree_back : (table other : List Definition) → TablesAgree table other → TablesAgree other table
+agree_back table other agree name e f here there = sym (agree name f e there here)
+
+any_agree : (ds : List DeclarationValue) → DefinitionsAgree ds → (d other : DeclarationValue) → Contains ds d
+    → Contains ds other → Agree d other
+any_agree [] agree d other c k = absurd (omega (arith, c.1))
+any_agree (first ∷ ds) agree d other c k =
+    by_places (contains_cases first ds d c) (contains_cases first ds other k)
+    (any_agree ds (later_pairs Agree first ds agree) d other)
+  where
+    by_places : (first ≡ d) ⊎ Contains ds d → (first ≡ other) ⊎ Contains ds other
+        → (Contains ds d → Contains ds other → Agree d other) → Agree d other
+    by_places (inl here) (inl there) rest = subst (Agree d) (sym here ∙ there) (agree_itself d.shape.table)
+    by_places (inl here) (inr later) rest =
+        subst (λ (x : DeclarationValue). Agree x other) here (first_pair Agree first ds agree other later)
+    by_places (inr later) (inl there) rest =
+        agree_back other.shape.table d.shape.table
+        (subst (λ (x : DeclarationValue). Agree x d) there (first_pair Agree first ds agree d later))
+    by_places (inr one) (inr two) rest = rest one two
+
+-- ---- behind a success of digits stand the references to an error
+
+module _ (code : ℕ) (success : ResponseObject) (name : List ℕ) where
+  behind : (text : List ℕ) → decimal code ≢ text
+      → value_at text ((decimal code, success) ∷ error_responses name) ≡ value_at text (error_responses name)
+  behind text differ =
+      by_test (bytes_eq text (decimal code)) refl (find (λ pair. bytes_eq text pair.0) (error_responses name))
+    where
+      by_test : (b : Bool) → bytes_eq text (decimal code) ≡ b → (o : Option (List ℕ × ResponseObject))
+          → option_map (λ pair. pair.1) (cond b (Some (decimal code, success)) o) ≡ option_map (λ pair. pair.1) o
+      by_test true e o = absurd (differ (sym ((bytes_eq-Decides text (decimal code)).0 e)))
+      by_test false e o = refl
+
+  client_behind : value_at (codes "4XX") ((decimal code, success) ∷ error_responses name) ≡ Some (reference_to name)
+  client_behind = behind (codes "4XX") (no_decimal code (codes "4XX") refl)
+
+  server_behind : value_at (codes "5XX") ((decimal code, success) ∷ error_responses name) ≡ Some (reference_to name)
+  server_behind = behind (codes "5XX") (no_decimal code (codes "5XX") refl)
+
+few : (a b : ℕ) → a ≤ 8 * b → b < 2 ^ 64 → a + 2 < 10 ^ 64
 few a b le small = omega (arith, le, small)
 
--- a document has the response of each error that one of its endpoints lists
-pub defines_error : (ds : List DeclarationValue) (configured : Configured) (info : Info) → MayBeListed ds
-    → length ds + 2 < 2 ^ 64 → (d : DeclarationValue) → Contains ds d → (error : ApiEndpointErrorResponse)
-    → listed_error d.shape ≡ Some error → DefinesError (document_listing ds configured info) (errors_of ds) error
-defines_error ds configured info may small d c error is =
-    by_shared (shared_by error (errors_of ds)) refl
-    (errors_shared error (listed_errors (in_order ds)) [] (with_table d.shape.table error)
-    (in_filtered tabled_error (with_table d.shape.table error) (in_order ds) d (ordered ds may d c)
-    (ap (option_map (with_table d.shape.table)) is)) refl)
-  where
-    distinct : AreDistinct (given_names (errors_of ds))
-    distinct = names_differ (listed_errors (in_order ds)) (few _ _ (no_more_errors ds) small)
+-- ---- an operation leads to the response of its error
 
-    by_shared : (o : Option NamedErrorValue) → shared_by error (errors_of ds) ≡ o → is_some o ≡ true
-        → DefinesError (document_listing ds configured info) (errors_of ds) error
-    by_shared None f some = absurd (true≢false (sym some))
-    by_shared (Some n) f some =
-        let there = chosen_by (λ (m : NamedErrorValue). same_error error m.error) (errors_of ds) n f in
-        record {
-          shared = n;
-          is_found = f;
-          is_equal = sym ((same_error-is error n.error).0 there.1);
-          stands = ap
-              (λ (o : Option NamedErrorValue). response_in (document_listing ds configured info)
-              (option_map_or (λ (m : NamedErrorValue). m.name) o error.name)) f
-              ∙ value_found n.name (by_name (map error_entry (errors_of ds)))
-              ∙ found_all n.name (map error_entry (errors_of ds)) []
-              ∙ entry_found (errors_of ds) n distinct there.0;
-        }
+module _ (ds : List DeclarationValue) (configured : Configured) (info : Info) (may : MayBeListed ds)
+    (small : length ds < 2 ^ 64) (d : DeclarationValue) (c : Contains ds d) (error : ApiEndpointErrorResponse)
+    (is : listed_error d.shape ≡ Some error) where
+  abbrev document : OpenApi
+  document = document_listing ds configured info
+
+  abbrev named : List NamedErrorValue
+  named = errors_of ds
+
+  distinct : AreDistinct (given_names named)
+  distinct = names_differ (listed_errors (in_order ds)) (few _ _ (few_errors ds) small)
+
+  passing : (other : DeclarationValue) → Contains ds other → ShapePasses other.shape
+  passing other k = All-contains (λ (x : DeclarationValue). ShapePasses x.shape) ds other may.passing k
+
+  right : (other : DeclarationValue) → Contains ds other → listed_error other.shape ≡ Some error
+      → DescPasses other.shape.table error.desc
+  right other k at =
+      subst (ErrorPasses other.shape.table) (own_error other.shape error at) (passing other k).error
+
+  -- what is equal to the error is drawn under its own table as under that of the endpoint
+  abbrev DrawnAlike : List Definition → ApiEndpointErrorResponse → Type 0
+  DrawnAlike table other = other ≡ error
+      → schema_json_titled table error.name error.desc ≡ schema_json_titled d.shape.table error.name error.desc
+
+  alike : (other : DeclarationValue) → Contains ds other → (e : ApiEndpointErrorResponse)
+      → listed_error other.shape ≡ Some e → DrawnAlike other.shape.table e
+  alike other k e at same =
+      shared_titled other.shape.table d.shape.table (passing other k).table (passing d c).table
+      (any_agree ds may.definitions other d k c) error.desc (right other k (at ∙ ap Some same)) (right d c is)
+      error.name
+
+  abbrev as_object : List ℕ → Json → ResponseObject
+  as_object name json = record {
+    description = Some name;
+    headers = [];
+    content = media (codes "application/json") json;
+    reference = None;
+  }
+
+  own_object : (n : NamedErrorValue) → Contains named n → n.error ≡ error
+      → error_object n ≡ error_object (record { name = n.name; table = d.shape.table; error = error })
+  own_object n k same =
+      ap (λ (x : ApiEndpointErrorResponse). error_object (record { name = n.name; table = n.table; error = x })) same
+      ∙ ap (as_object n.name)
+      (all_contained (λ (m : NamedErrorValue). DrawnAlike m.table m.error) named n (each_error DrawnAlike ds alike) k
+      same)
+
+  responses_are : (code : ℕ) (name : List ℕ) → d.shape.response.success ≡ Some code
+      → name_of_error named error ≡ name
+      → responses_of named d.shape
+      ≡ (decimal code, success_of d.shape.table d.shape.response) ∷ error_responses name
+  responses_are code name succeeds name_is =
+      ap₂ (λ (success : Option ℕ) (o : Option ApiEndpointErrorResponse).
+      (code_text success, success_of d.shape.table d.shape.response)
+      ∷ option_map_or (λ error. error_responses (name_of_error named error)) o []) succeeds is
+      ∙ ap (λ (name : List ℕ). (decimal code, success_of d.shape.table d.shape.response) ∷ error_responses name)
+      name_is
+
+  pub leads_to_error : LeadsToError document (operation_of named d) d.shape.table error
+  leads_to_error =
+      by_shared (shared_by error named) refl
+      (errors_shared error (listed_errors (in_order ds)) [] (with_table d.shape.table error)
+      (in_filtered tabled_error (with_table d.shape.table error) (in_order ds) d (ordered ds may d c)
+      (ap (option_map (with_table d.shape.table)) is)) refl)
+    where
+      by_shared : (o : Option NamedErrorValue) → shared_by error named ≡ o → is_some o ≡ true
+          → LeadsToError document (operation_of named d) d.shape.table error
+      by_shared None f some = absurd (true≢false (sym some))
+      by_shared (Some n) f some =
+          let there = chosen_by (λ (m : NamedErrorValue). same_error error m.error) named n f in
+          let same = sym ((same_error-is error n.error).0 there.1) in
+          let success = own_code d.shape error is in
+          let responses =
+          responses_are success.0 n.name success.1
+          (ap (λ (o : Option NamedErrorValue). option_map_or (λ (m : NamedErrorValue). m.name) o error.name) f) in
+          let full = success_of d.shape.table d.shape.response in
+          record {
+            name = n.name;
+            client = ap (value_at (codes "4XX")) responses ∙ client_behind success.0 full n.name;
+            server = ap (value_at (codes "5XX")) responses ∙ server_behind success.0 full n.name;
+            stands = value_found n.name (by_name (map error_entry named))
+                ∙ found_all n.name (map error_entry named) []
+                ∙ entry_found named n distinct there.0
+                ∙ ap Some (own_object n there.0 same);
+          }

@@ -4,11 +4,19 @@ use Rattle.std.proofs.Common.{◌≡◌, ℕ, zero, suc, ◌+◌, ◌<◌, ◌�
 use Rattle.std.proofs.Common.{refl, sym, ◌∙◌, ap, subst, arith, inl, inr, Bool}
 use Rattle.std.specs.Prelude.{bytes_eq}
 use Rattle.std.specs.Fmt.{decimal}
+use Rattle.std.specs.Str.Parse.{digits_value}
 use Rattle.std.proofs.lemmas.Bool.{cases_Bool, cases_lt, or_cases, true≢false}
-use Rattle.std.proofs.lemmas.Fmt.{decimal_injective}
+use Rattle.std.proofs.lemmas.Fmt.{decimal_is_IsNumeral_wide}
 use Rattle.std.proofs.lemmas.Slice.Eq.{bytes_eq-Decides}
 use Rattle.std.proofs.lemmas.List.{append_cancel_left}
 use Rattle.api_documents.specs.ErrorNames.{IsLeastFree, free_from, free_name, is_taken}
+
+-- numbers of 64 digits at most that are written alike are the same
+wide_injective : (m n : ℕ) → m < 10 ^ 64 → n < 10 ^ 64 → decimal m ≡ decimal n → m ≡ n
+wide_injective m n below below_too same =
+    sym (decimal_is_IsNumeral_wide m below).1
+    ∙ ap (digits_value 10) same
+    ∙ (decimal_is_IsNumeral_wide n below_too).1
 
 -- names without the first that is this one
 without : List ℕ → List (List ℕ) → List (List ℕ)
@@ -50,9 +58,9 @@ module _ (names : List (List ℕ)) (name : List ℕ) where
 
   -- each name that a number from this one on makes, and that is taken, is one of some names
   record Covers (number : ℕ) (some : List (List ℕ)) : Type 0 where
-    covers : (k : ℕ) → number ≤ k → k < 2 ^ 64 → is_taken names (at k) ≡ true → is_taken some (at k) ≡ true
+    covers : (k : ℕ) → number ≤ k → k < 10 ^ 64 → is_taken names (at k) ≡ true → is_taken some (at k) ≡ true
 
-  free_among : (more number : ℕ) (some : List (List ℕ)) → length some ≤ more → number + more < 2 ^ 64
+  free_among : (more number : ℕ) (some : List (List ℕ)) → length some ≤ more → number + more < 10 ^ 64
       → Covers number some
       → is_taken names (at (free_from names name number more)) ≡ false
   unfolding at
@@ -70,7 +78,7 @@ module _ (names : List (List ℕ)) (name : List ℕ) where
         (record {
           covers = λ k above below t.
               taken-without (at number) (at k) some
-              (λ same. let equal = decimal_injective number k (omega arith) below
+              (λ same. let equal = wide_injective number k (omega arith) below
               (append_cancel_left name _ _ same) in omega (arith, equal, above))
               (covered.covers k (omega arith) below t);
         }) in
@@ -79,7 +87,7 @@ module _ (names : List (List ℕ)) (name : List ℕ) where
   ]
 
   -- the number that the search finds makes the name free
-  pub free_found : length names + 2 < 2 ^ 64 → is_taken names (free_name names name) ≡ false
+  pub free_found : length names + 2 < 10 ^ 64 → is_taken names (free_name names name) ≡ false
   unfolding at
   free_found small = elim (cases_Bool (is_taken names name)) [
     | inl taken ↦ rw taken
@@ -122,7 +130,7 @@ module _ (names : List (List ℕ)) (name : List ℕ) where
   free_itself free = ap (λ (b : Bool). cond b (name ++ decimal (free_from names name 2 (length names))) name) free
 
   -- one that is taken is given with the least number that makes it free
-  pub least_found : length names + 2 < 2 ^ 64 → is_taken names name ≡ true
+  pub least_found : length names + 2 < 10 ^ 64 → is_taken names name ≡ true
       → (number : ℕ) × IsLeastFree names name number × (free_name names name ≡ name ++ decimal number)
   unfolding at
   least_found small taken = (

@@ -29,6 +29,7 @@ use Rattle.handler_shapes.specs.declared.slot.Slot.TheVariants.{StreamBody}
 use Rattle.handler_shapes.specs.ShapeChecks.{ShapePasses}
 use Rattle.api_declarations.specs.Values.{DeclarationValue}
 use Rattle.api_documents.specs.Components.{schema_entries}
+use Rattle.api_documents.specs.Defines.{LeadsToDefinition}
 use Rattle.api_documents.specs.Documents.{document_listing}
 use Rattle.api_documents.specs.Drawn.{IsDrawn, as_body, as_content, as_error, as_header, as_parameter, shown_fields}
 use Rattle.api_documents.specs.ErrorNames.{listed_error}
@@ -40,7 +41,8 @@ use Rattle.api_documents.specs.Tags.{Configured}
 use Rattle.api_documents.proofs.Among.{among_texts}
 use Rattle.api_documents.proofs.Joined.{each_mapped}
 use Rattle.api_documents.proofs.MentionedBack.{from_joined, mentioned_back}
-use Rattle.api_documents.proofs.SchemasFound.{found, found_all, found_joined, leads_to, own_found, schema_of, value_found}
+use Rattle.api_documents.proofs.SchemasFound.{found, found_all, found_joined, leads_to, own_found, schema_of}
+use Rattle.api_documents.proofs.SchemasFound.{value_found}
 
 -- where names are distinct, each definition is the one of its name
 entry_itself : (es : List Definition) (e : Definition) → AreDistinct (map definition_name es) → Contains es e
@@ -174,12 +176,12 @@ module _ (name : List ℕ) where
 pub defines_no_more : (ds : List DeclarationValue) (configured : Configured) (info : Info)
     → All (λ (d : DeclarationValue). ShapePasses d.shape) ds → (name : List ℕ)
     → IsSome (definition_in (document_listing ds configured info) name)
-    → (d : DeclarationValue) × Contains ds d
-    × ((desc : Desc) × IsDrawn d.shape desc × IsReached d.shape.table desc name)
+    → (d : DeclarationValue) × Contains ds d × LeadsToDefinition d.shape name
 defines_no_more ds configured info ok name some =
     let here = led_by_one name ds
     (subst IsSome
     (value_found name (by_name (flat_map schema_entries ds)) ∙ found_all name (flat_map schema_entries ds) []) some) in
     let d = here.0 in
     let passes = All-contains (λ (d : DeclarationValue). ShapePasses d.shape) ds d ok here.1.0 in
-    (d, here.1.0, reached_back d.shape passes.table (length d.shape.table) name here.1.1)
+    let led = reached_back d.shape passes.table (length d.shape.table) name here.1.1 in
+    (d, here.1.0, record { desc = led.0; drawn = led.1.0; reached = led.1.1 })

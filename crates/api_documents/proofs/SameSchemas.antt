@@ -19,7 +19,7 @@ use Rattle.descriptors.specs.declared.desc.Variant.{Variant}
 use Rattle.descriptors.specs.declared.table.Definition.{Definition}
 use Rattle.descriptors.specs.Definitions.{entry_of, tagged_description, tagged_fields, tagged_name}
 use Rattle.descriptors.proofs.CallerLemmas.{definition_is}
-use Rattle.typed_values.specs.Checks.{TablePasses}
+use Rattle.typed_values.specs.Checks.{DescPasses, TablePasses}
 use Rattle.typed_values.specs.DescBeside.{Beside, VariantBeside, beside_with, field_with, tagged_with, variant_with}
 use Rattle.typed_values.specs.DescBeside.{level_with}
 use Rattle.typed_values.specs.Guarded.{IsGuarded}
@@ -28,7 +28,7 @@ use Rattle.typed_values.specs.Parts.{the_whole}
 use Rattle.typed_values.specs.Reached.{Mentions, IsReached, directly, through}
 use Rattle.typed_values.specs.SchemaTable.{Drawn, DrawnField, DrawnTagged, default_of, defaulted, described, drawn}
 use Rattle.typed_values.specs.SchemaTable.{drawn_json, drawn_step, property, property_of, required_names, struct_drawn}
-use Rattle.typed_values.specs.SchemaTable.{enumerated, plain, tagged_choice, schema_json, schema_json_described}
+use Rattle.typed_values.specs.SchemaTable.{enumerated, plain, schema_json_described, schema_json_titled, tagged_choice}
 use Rattle.typed_values.proofs.CallerLemmas.{IsNeeded, of_whole, of_reached, entry_inside, stands_through}
 use Rattle.typed_values.proofs.CallerLemmas.{option_needed, list_needed, map_needed, field_needed, payload_needed}
 use Rattle.typed_values.proofs.CallerLemmas.{variant_needed, alternative_needed, InField, InFields, InTagged, InVariant}
@@ -181,16 +181,6 @@ module _ (table other : List Definition) (whole : Desc) (agree : AgreeOnReached 
   same_drawn : (d : Desc) → Same d
   same_drawn = by_levels Same same_roll
 
-  -- the schema of the descriptor
-  pub same_schema : schema_json table whole ≡ schema_json other whole
-  same_schema = ap drawn_json (same_drawn whole (of_whole the_whole))
-
-  -- that of a definition that it reaches
-  pub same_reached_schema : (name : List ℕ) (e : Definition) → IsReached table whole name → entry_of table name ≡ Some e
-      → schema_json_described table e.description e.desc ≡ schema_json_described other e.description e.desc
-  same_reached_schema name e r f =
-      ap (λ (s : Drawn). drawn_json (described e.description s)) (same_drawn e.desc (of_reached name e r f the_whole))
-
 -- ---- tables in which each name that both define is defined the same
 
 -- both define a name, and the same
@@ -199,16 +189,21 @@ BothHave table other name = (e : Definition) × (entry_of table name ≡ Some e)
 
 module _ (table other : List Definition) (passes : TablePasses table) (passes_other : TablePasses other)
     (have : TablesAgree table other) where
-  -- in a table that passes its checks what a definition mentions is defined
-  defined_in : (es : List Definition) → TablePasses es → (at : List ℕ) (e : Definition) → entry_of es at ≡ Some e
-      → (name : List ℕ) → Mentions e.desc name → (x : Definition) × (entry_of es name ≡ Some x)
-  defined_in es ok at e f name (d, s, is) = by_entry (entry_of es name) refl
+  -- what a descriptor that passes its checks mentions is defined
+  defined_by : (es : List Definition) (desc : Desc) → DescPasses es desc
+      → (name : List ℕ) → Mentions desc name → (x : Definition) × (entry_of es name ≡ Some x)
+  defined_by es desc right name (d, s, is) = by_entry (entry_of es name) refl
     where
       by_entry : (o : Option Definition) → entry_of es name ≡ o → (x : Definition) × (entry_of es name ≡ Some x)
       by_entry (Some x) g = (x, g)
       by_entry None g =
-          absurd ((ok.each e (entry_inside es at e f) d s).defined
-          (name, is, definition_is es name ∙ ap (option_map (λ (x : Definition). x.desc)) g))
+          absurd ((right d s).defined
+              (name, is, definition_is es name ∙ ap (option_map (λ (x : Definition). x.desc)) g))
+
+  -- in a table that passes its checks so is what a definition mentions
+  defined_in : (es : List Definition) → TablePasses es → (at : List ℕ) (e : Definition) → entry_of es at ≡ Some e
+      → (name : List ℕ) → Mentions e.desc name → (x : Definition) × (entry_of es name ≡ Some x)
+  defined_in es ok at e f name m = defined_by es e.desc (ok.each e (entry_inside es at e f)) name m
 
   both_mentioned : (at : List ℕ) (e : Definition) → entry_of table at ≡ Some e → entry_of other at ≡ Some e
       → (name : List ℕ) → Mentions e.desc name → BothHave table other name
@@ -239,3 +234,36 @@ module _ (table other : List Definition) (passes : TablePasses table) (passes_ot
       ap (λ (s : Drawn). drawn_json (described e.description s))
       (same_drawn table other e.desc agree passes.guarded passes_other.guarded e.desc (of_whole the_whole))
       ∙ ap (λ (x : Definition). schema_json_described other x.description x.desc) same
+
+  -- ---- a descriptor that passes its checks in both
+
+  module _ (desc : Desc) (right : DescPasses table desc) (right_other : DescPasses other desc) where
+    both_led : (name : List ℕ) → IsReached table desc name → BothHave table other name
+    both_led name (directly _ m) =
+        let (x, is) = defined_by table desc right name m in
+        let (y, is_other) = defined_by other desc right_other name m in
+        (x, is, is_other ∙ ap Some (sym (have name x y is is_other)))
+    both_led name (through far _ y r is m) =
+        let (x, here, there) = both_led far r in
+        let same : x ≡ y = cc (sym here ∙ is) in
+        both_mentioned far y is (there ∙ ap Some same) name m
+
+    agree_on : AgreeOnReached table other desc
+    agree_on name r = let (x, here, there) = both_led name r in here ∙ sym there
+
+    -- both draw it the same, with the name of its type
+    pub shared_titled : (name : List ℕ) → schema_json_titled table name desc ≡ schema_json_titled other name desc
+    shared_titled name = by_form (out-Desc desc) refl
+      where
+        same : drawn table desc ≡ drawn other desc
+        same =
+            same_drawn table other desc agree_on passes.guarded passes_other.guarded desc (of_whole the_whole)
+
+        under : drawn_json (record (drawn table desc) { title = Some name })
+            ≡ drawn_json (record (drawn other desc) { title = Some name })
+        under = ap (λ (s : Drawn). drawn_json (record s { title = Some name })) same
+
+        by_form : (z : DescLevel) → out-Desc desc ≡ z
+            → schema_json_titled table name desc ≡ schema_json_titled other name desc
+        by_form (Desc-F.Ref at) e = rw e (ap drawn_json same)
+        by_form _ e = rw e under

@@ -1,17 +1,18 @@
--- Each error that is listed has its name, which is that of an equal one.
+-- Errors share a name exactly where they are equal, and each error that is listed has a name.
 use Rattle.std.proofs.Common.{◌≡◌, ◌↔◌, Bool, true, false, cond, List, [], ◌∷◌, ◌++◌, fold, is_some, bytes_eq}
 use Rattle.std.proofs.Common.{Option, Some, None, refl, sym, ◌∙◌, ap, subst, inl, inr, arith}
-use Rattle.std.specs.Prelude.{Contains, find}
+use Rattle.std.specs.Prelude.{Contains}
 use Rattle.std.specs.Option.{option_or}
 use Rattle.std.proofs.lemmas.Bool.{and_from, and_parts, true≢false}
 use Rattle.std.proofs.lemmas.List.Folds.{find-append}
 use Rattle.std.proofs.lemmas.Slice.Eq.{bytes_eq-Decides}
 use Rattle.schema_values.proofs.CallerLemmas.{contains_cases}
 use Rattle.handler_shapes.specs.declared.shape.ApiEndpointErrorResponse.{ApiEndpointErrorResponse}
-use Rattle.api_documents.specs.ErrorNames.{NamedErrorValue, TabledError, free_name, given_names, same_desc, same_error}
-use Rattle.api_documents.specs.ErrorNames.{shared_by, with_error}
+use Rattle.api_documents.specs.ErrorNames.{NamedErrorValue, TabledError, newly_named, same_desc, same_error, shared_by}
+use Rattle.api_documents.specs.ErrorNames.{with_error}
 use Rattle.api_documents.proofs.SameDescs.{same_desc-is}
 
+-- two errors are the same exactly where they are equal
 pub same_error-is : (a b : ApiEndpointErrorResponse) → (same_error a b ≡ true) ↔ (a ≡ b)
 same_error-is a b = (equal, λ same. subst (λ (x : ApiEndpointErrorResponse). same_error a x ≡ true) same itself)
   where
@@ -33,23 +34,19 @@ second_some : (o : Option NamedErrorValue) (n : NamedErrorValue) → is_some (op
 second_some None n = refl
 second_some (Some m) n = refl
 
--- an error under a free name
-abbrev one_more : List NamedErrorValue → TabledError → NamedErrorValue
-one_more named e = record { name = free_name (given_names named) e.error.name; table = e.table; error = e.error }
-
 -- the error that is added has a name
 own_shared : (named : List NamedErrorValue) (e : TabledError)
     → is_some (shared_by e.error (with_error named e)) ≡ true
 own_shared named e = by_test (is_some (shared_by e.error named)) refl
   where
     by_test : (b : Bool) → is_some (shared_by e.error named) ≡ b
-        → is_some (shared_by e.error (cond b named (named ++ one_more named e ∷ []))) ≡ true
+        → is_some (shared_by e.error (cond b named (named ++ newly_named named e ∷ []))) ≡ true
     by_test true h = h
     by_test false h =
-        ap is_some (find-append (λ (n : NamedErrorValue). same_error e.error n.error) named (one_more named e ∷ []))
-        ∙ ap (λ (b : Bool). is_some (option_or (shared_by e.error named) (cond b (Some (one_more named e)) None)))
+        ap is_some (find-append (λ (n : NamedErrorValue). same_error e.error n.error) named (newly_named named e ∷ []))
+        ∙ ap (λ (b : Bool). is_some (option_or (shared_by e.error named) (cond b (Some (newly_named named e)) None)))
         ((same_error-is e.error e.error).1 refl)
-        ∙ second_some (shared_by e.error named) (one_more named e)
+        ∙ second_some (shared_by e.error named) (newly_named named e)
 
 module _ (x : ApiEndpointErrorResponse) where
   abbrev is_shared : List NamedErrorValue → Bool
@@ -60,10 +57,10 @@ module _ (x : ApiEndpointErrorResponse) where
       → is_shared (with_error named e) ≡ true
   stays_shared named e h = by_test (is_some (shared_by e.error named))
     where
-      by_test : (b : Bool) → is_shared (cond b named (named ++ one_more named e ∷ [])) ≡ true
+      by_test : (b : Bool) → is_shared (cond b named (named ++ newly_named named e ∷ [])) ≡ true
       by_test true = h
       by_test false =
-          ap is_some (find-append (λ (n : NamedErrorValue). same_error x n.error) named (one_more named e ∷ []))
+          ap is_some (find-append (λ (n : NamedErrorValue). same_error x n.error) named (newly_named named e ∷ []))
           ∙ first_some (shared_by x named) _ h
 
   all_shared : (es : List TabledError) (named : List NamedErrorValue) → is_shared named ≡ true

@@ -1,12 +1,11 @@
 -- The document of endpoints that may be listed together is sound.
-use Rattle.std.proofs.Common.{◌≡◌, ℕ, Bool, true, false, cond, List, [], ◌∷◌, ◌++◌, map, filter, fold, Option, Some}
-use Rattle.std.proofs.Common.{None}
-use Rattle.std.proofs.Common.{option_and_then, option_map, is_some, MatchOption, codes, refl, sym, subst}
+use Rattle.std.proofs.Common.{◌≡◌, ℕ, Bool, true, false, cond, List, [], ◌∷◌, map, filter, Option, Some, None}
+use Rattle.std.proofs.Common.{option_map, MatchOption, codes, refl, sym, subst}
 use Rattle.std.proofs.lemmas.List.Elements.{All-contains}
-use Rattle.std.specs.List.{AllByRecursion, cons_option, filter_map, flat_map}
+use Rattle.std.specs.List.{AllByRecursion, flat_map}
 use Rattle.std.specs.Prelude.{⊤, Contains, IfSome}
 use Rattle.schema_values.specs.Sound.{AreDistinct, IsSound}
-use Rattle.schema_values.proofs.CallerLemmas.{all-push, AreDistinct-sorted, contains_first, contains_later}
+use Rattle.schema_values.proofs.CallerLemmas.{AreDistinct-sorted, contains_first, contains_later}
 use Rattle.openapi_values.specs.declared.info.Info.{Info}
 use Rattle.openapi_values.specs.declared.media.ResponseObject.{ResponseObject}
 use Rattle.openapi_values.specs.declared.operation.PathItem.{PathItem}
@@ -16,7 +15,6 @@ use Rattle.openapi_values.proofs.CallerLemmas.{document_sound}
 use Rattle.descriptors.specs.declared.table.Definition.{Definition}
 use Rattle.typed_values.specs.Checks.{DescPasses, TablePasses}
 use Rattle.typed_values.specs.Lengths.{HasShortLengths, TableHasShortLengths}
-use Rattle.written_schemas.proofs.SoundForms.{appended}
 use Rattle.written_schemas.proofs.SoundSchemas.{schema_described_sound, schema_titled_sound}
 use Rattle.handler_shapes.specs.declared.shape.ApiEndpointErrorResponse.{ApiEndpointErrorResponse}
 use Rattle.handler_shapes.specs.ShapeChecks.{ErrorPasses, ShapePasses}
@@ -25,34 +23,16 @@ use Rattle.api_declarations.specs.Values.{DeclarationValue}
 use Rattle.api_documents.specs.Accepted.{MayBeListed}
 use Rattle.api_documents.specs.Components.{error_entry, schema_entries, schema_entry}
 use Rattle.api_documents.specs.Documents.{document_listing, errors_of}
-use Rattle.api_documents.specs.ErrorNames.{NamedErrorValue, TabledError, free_name, given_names, listed_errors, shared_by}
-use Rattle.api_documents.specs.ErrorNames.{tabled_error, with_error, with_table}
-use Rattle.api_documents.specs.Listed.{at_path, endpoint_of, in_order, method_names, path_of, paths_in_order, stands_at}
+use Rattle.api_documents.specs.ErrorNames.{NamedErrorValue, listed_error}
+use Rattle.api_documents.specs.Listed.{endpoint_of, path_of, paths_in_order, stands_at}
 use Rattle.api_documents.specs.Operations.{operation_at, operation_of, path_item_of}
 use Rattle.api_documents.specs.Tags.{Configured}
 use Rattle.api_documents.proofs.Chosen.{found}
+use Rattle.api_documents.proofs.Joined.{each_joined}
 use Rattle.api_documents.proofs.ListsEndpoints.{names_kept}
+use Rattle.api_documents.proofs.NamedErrors.{each_error, own_error}
 use Rattle.api_documents.proofs.OrderedNames.{by_name_sound, texts_ascend}
 use Rattle.api_documents.proofs.SoundOperations.{operation_sound}
-
--- ---- lists
-
-each_found : {X Y : Type 0} (h : X → Option Y) (P : Y → Type 0) → ((x : X) (y : Y) → h x ≡ Some y → P y)
-    → (xs : List X) → AllByRecursion P (filter_map h xs)
-each_found h P each [] = tt
-each_found h P each (x ∷ xs) = by_found (h x) refl (each_found h P each xs)
-  where
-    by_found : (o : Option _) → h x ≡ o → AllByRecursion P (filter_map h xs)
-        → AllByRecursion P (cons_option o (filter_map h xs))
-    by_found None is rest = rest
-    by_found (Some y) is rest = (each x y is, rest)
-
-each_joined : {X Y : Type 0} (f : X → List Y) (P : Y → Type 0) (xs : List X)
-    → ((x : X) → Contains xs x → AllByRecursion P (f x)) → AllByRecursion P (flat_map f xs)
-each_joined f P [] each = tt
-each_joined f P (x ∷ xs) each =
-    appended P (f x) (flat_map f xs) (each x (contains_first x xs))
-    (each_joined f P xs (λ y c. each y (contains_later x xs y c)))
 
 -- ---- definitions
 
@@ -80,22 +60,6 @@ record IsFineError (table : List Definition) (error : ApiEndpointErrorResponse) 
 
 abbrev IsFineNamed : NamedErrorValue → Type 0
 IsFineNamed n = IsFineError n.table n.error
-
-abbrev IsFineTabled : TabledError → Type 0
-IsFineTabled e = IsFineError e.table e.error
-
-named_fine : (es : List TabledError) (named : List NamedErrorValue) → AllByRecursion IsFineTabled es
-    → AllByRecursion IsFineNamed named → AllByRecursion IsFineNamed (fold with_error named es)
-named_fine [] named fine all = all
-named_fine (e ∷ es) named fine all =
-    named_fine es (with_error named e) fine.1 (by_test (is_some (shared_by e.error named)))
-  where
-    one_more : NamedErrorValue
-    one_more = record { name = free_name (given_names named) e.error.name; table = e.table; error = e.error }
-
-    by_test : (b : Bool) → AllByRecursion IsFineNamed (cond b named (named ++ one_more ∷ []))
-    by_test true = all
-    by_test false = all-push IsFineNamed named one_more all fine.0
 
 entries_sound : (named : List NamedErrorValue) → AllByRecursion IsFineNamed named
     → AllByRecursion (λ (entry : List ℕ × ResponseObject). IsSoundResponse entry.1) (map error_entry named)
@@ -147,37 +111,15 @@ module _ (ds : List DeclarationValue) (configured : Configured) (info : Info) (m
 
   -- ---- errors
 
-  module _ (d : DeclarationValue) (c : Contains ds d) (e : TabledError) where
-    fine_by : (success : Option ℕ) (error : Option ApiEndpointErrorResponse) → d.shape.error ≡ error
-        → option_map (with_table d.shape.table) (option_and_then (λ code. error) success) ≡ Some e → IsFineTabled e
-    fine_by None error at is = absurd (cc is)
-    fine_by (Some code) None at is = absurd (cc is)
-    fine_by (Some code) (Some error) at is =
-        let same : with_table d.shape.table error ≡ e = cc is in
-        subst IsFineTabled same (record {
-          passes = (passes_of d c).table;
-          right = subst (ErrorPasses d.shape.table) at (passes_of d c).error;
-          lengths = subst (λ o. IfSome o (λ error. HasShortLengths error.desc)) at (lengths_of d c).error;
-        })
-
-    error_fine : tabled_error d ≡ Some e → IsFineTabled e
-    error_fine is = fine_by d.shape.response.success d.shape.error refl is
-
-  ordered : AllByRecursion (Contains ds) (in_order ds)
-  ordered =
-      each_joined (at_path ds) (Contains ds) (paths_in_order ds)
-      (λ path c. each_found (endpoint_of ds path) (Contains ds)
-      (λ method d is. (found (stands_at path method) ds d is).0) method_names)
-
-  tabled_fine : (es : List DeclarationValue) → AllByRecursion (Contains ds) es
-      → AllByRecursion IsFineTabled (listed_errors es)
-  tabled_fine [] inside = tt
-  tabled_fine (d ∷ es) inside = by_error (tabled_error d) refl (tabled_fine es inside.1)
-    where
-      by_error : (o : Option TabledError) → tabled_error d ≡ o → AllByRecursion IsFineTabled (listed_errors es)
-          → AllByRecursion IsFineTabled (cons_option o (listed_errors es))
-      by_error None is rest = rest
-      by_error (Some e) is rest = (error_fine d inside.0 e is, rest)
+  error_fine : (d : DeclarationValue) → Contains ds d → (error : ApiEndpointErrorResponse)
+      → listed_error d.shape ≡ Some error → IsFineError d.shape.table error
+  error_fine d c error is =
+      let own = own_error d.shape error is in
+      record {
+        passes = (passes_of d c).table;
+        right = subst (ErrorPasses d.shape.table) own (passes_of d c).error;
+        lengths = subst (λ o. IfSome o (λ error. HasShortLengths error.desc)) own (lengths_of d c).error;
+      }
 
   -- ---- the document
 
@@ -189,8 +131,7 @@ module _ (ds : List DeclarationValue) (configured : Configured) (info : Info) (m
           (AreDistinct-sorted (paths_in_order ds) (texts_ascend (map path_of ds))),
     );
     responses = by_name_sound IsSoundResponse (map error_entry (errors_of ds))
-        (entries_sound (errors_of ds)
-        (named_fine (listed_errors (in_order ds)) [] (tabled_fine (in_order ds) ordered) tt));
+        (entries_sound (errors_of ds) (each_error IsFineError ds error_fine));
     schemas = by_name_sound IsSound (flat_map schema_entries ds)
         (each_joined schema_entries (λ entry. IsSound entry.1) ds
         (λ d c. definitions_sound d.shape.table (passes_of d c).table (lengths_of d c).table _ d.shape.table

@@ -1,16 +1,29 @@
--- What it is for a document to have the response of an error to which its operations refer (OpenAPI 3.0.3, Reference
--- Object and Components Object).
-use Rattle.std.specs.Prelude.{◌≡◌, List, Some}
+-- What it is for an operation to lead to the response of its error, and to the definitions of its schemas (OpenAPI
+-- 3.0.3, Responses Object, Reference Object and Components Object).
+use Rattle.std.specs.Prelude.{◌≡◌, ℕ, List, Some, codes}
 use Rattle.openapi_values.specs.declared.document.OpenApi.{OpenApi}
-use Rattle.openapi_values.specs.Find.{response_in}
+use Rattle.openapi_values.specs.declared.operation.Operation.{Operation}
+use Rattle.openapi_values.specs.Find.{response_in, value_at}
+use Rattle.descriptors.specs.declared.desc.Desc.{Desc}
+use Rattle.descriptors.specs.declared.table.Definition.{Definition}
+use Rattle.typed_values.specs.Reached.{IsReached}
 use Rattle.handler_shapes.specs.declared.shape.ApiEndpointErrorResponse.{ApiEndpointErrorResponse}
+use Rattle.handler_shapes.specs.declared.shape.HandlerShape.{HandlerShape}
 use Rattle.api_documents.specs.Components.{error_object}
-use Rattle.api_documents.specs.ErrorNames.{NamedErrorValue, name_of_error, shared_by}
+use Rattle.api_documents.specs.Drawn.{IsDrawn}
+use Rattle.api_documents.specs.Responses.{reference_to}
 
--- a document has the response of an error under the name by which operations refer to it: that of an equal error
-pub record DefinesError (document : OpenApi) (named : List NamedErrorValue)
+-- For the statuses 400 to 499, and for 500 to 599, an operation refers to a response of one name, and under this name a
+-- document has the response of an error, as it is drawn in a table.
+pub record LeadsToError (document : OpenApi) (operation : Operation) (table : List Definition)
     (error : ApiEndpointErrorResponse) : Type 0 where
-  pub shared : NamedErrorValue
-  pub is_found : shared_by error named ≡ Some shared
-  pub is_equal : shared.error ≡ error
-  pub stands : response_in document (name_of_error named error) ≡ Some (error_object shared)
+  pub name : List ℕ
+  pub client : value_at (codes "4XX") operation.responses ≡ Some (reference_to name)
+  pub server : value_at (codes "5XX") operation.responses ≡ Some (reference_to name)
+  pub stands : response_in document name ≡ Some (error_object (record { name = name; table = table; error = error }))
+
+-- a descriptor of which a schema of an operation is drawn leads to the definition of a name
+pub record LeadsToDefinition (shape : HandlerShape) (name : List ℕ) : Type 0 where
+  pub desc : Desc
+  pub drawn : IsDrawn shape desc
+  pub reached : IsReached shape.table desc name

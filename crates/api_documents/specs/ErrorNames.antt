@@ -1,7 +1,8 @@
 -- The names of the responses of errors in a document (OpenAPI 3.0.3, Components Object; the names are this project's
 -- own). Errors of one name and descriptor share a response, whose name is given where the first of them is listed.
 use Rattle.std.specs.Prelude.{◌≡◌, ℕ, zero, suc, ◌+◌, ◌<◌, ◌≤◌, ◌==◌, Bool, true, false, ◌&&◌, List, [], ◌∷◌, ◌++◌}
-use Rattle.std.specs.Prelude.{length, map, find, fold, is_some, option_and_then, option_map, Option, if◌then◌else◌, bytes_eq}
+use Rattle.std.specs.Prelude.{length, map, find, fold, is_some, option_and_then, option_map, Option, if◌then◌else◌}
+use Rattle.std.specs.Prelude.{bytes_eq}
 use Rattle.std.specs.Fmt.{decimal}
 use Rattle.std.specs.List.{filter_map, list_any}
 use Rattle.std.specs.Option.{option_map_or}
@@ -95,11 +96,13 @@ pub record IsLeastFree (names : List (List ℕ)) (name : List ℕ) (number : ℕ
 abbrev pub shared_by : ApiEndpointErrorResponse → List NamedErrorValue → Option NamedErrorValue
 shared_by error named = find (λ (n : NamedErrorValue). same_error error n.error) named
 
--- one more error under a name that is free, unless the same is there
+-- an error under a name that is free among those that are given
+abbrev pub newly_named : List NamedErrorValue → TabledError → NamedErrorValue
+newly_named named e = record { name = free_name (given_names named) e.error.name; table = e.table; error = e.error }
+
+-- one more error under such a name, unless the same is there
 abbrev pub with_error : List NamedErrorValue → TabledError → List NamedErrorValue
-with_error named e =
-    if is_some (shared_by e.error named) then named else
-    named ++ (record { name = free_name (given_names named) e.error.name; table = e.table; error = e.error }) ∷ []
+with_error named e = if is_some (shared_by e.error named) then named else named ++ newly_named named e ∷ []
 
 -- errors in their order, each once, under names that differ
 abbrev pub named_errors : List TabledError → List NamedErrorValue

@@ -11,7 +11,7 @@ pub mod References
 pub mod Components
 pub mod Tags
 pub mod Documents
-pub mod Defines
 pub mod Lists
 pub mod Accepted
 pub mod Drawn
+pub mod Defines

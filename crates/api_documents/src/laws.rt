@@ -1,6 +1,6 @@
 //! What the document of endpoints lists, that it has the definitions and the responses of errors that
 //! they refer to, under names that differ, and that it is sound.
-ghost use Rattle.std.specs.Prelude.{◌≡◌, ◌↔◌, ℕ, ◌+◌, ◌<◌, ◌^◌, true, false, ◌++◌, length};
+ghost use Rattle.std.specs.Prelude.{◌≡◌, ◌↔◌, ℕ, ◌<◌, ◌^◌, true, false, ◌++◌, length};
 ghost use Rattle.std.specs.Prelude.{All, Contains, IsSome, IsTrue, List as ListOf, Some};
 ghost use Rattle.std.specs.Fmt.{decimal};
 ghost use Rattle.semver.specs.Parse.{Parts};
@@ -9,19 +9,19 @@ ghost use Rattle.openapi_values.specs.declared.info.Info.{Info as InfoValue};
 ghost use Rattle.openapi_values.specs.Document.{open_api_json};
 ghost use Rattle.openapi_values.specs.Find.{definition_in};
 ghost use Rattle.descriptors.specs.declared.desc.Desc.{Desc as Descriptor};
-ghost use Rattle.typed_values.specs.Reached.{IsReached};
 ghost use Rattle.written_schemas.specs.Reached.{DefinesReached};
 ghost use Rattle.handler_shapes.specs.declared.shape.ApiEndpointErrorResponse.{ApiEndpointErrorResponse as Error};
 ghost use Rattle.handler_shapes.specs.ShapeChecks.{ShapePasses};
 ghost use Rattle.api_declarations.specs.Values.{DeclarationValue};
 ghost use Rattle.api_documents.specs.Accepted.{DefinitionsAgree, MayBeListed};
-ghost use Rattle.api_documents.specs.Defines.{DefinesError};
+ghost use Rattle.api_documents.specs.Defines.{LeadsToDefinition, LeadsToError};
 ghost use Rattle.api_documents.specs.Documents.{document_json_of, document_listing, document_of, errors_of};
 ghost use Rattle.api_documents.specs.Drawn.{IsDrawn};
 ghost use Rattle.api_documents.specs.ErrorNames.{IsLeastFree, TabledError, free_name, given_names};
 ghost use Rattle.api_documents.specs.ErrorNames.{is_taken, listed_error, named_errors, same_error};
 ghost use Rattle.api_documents.specs.Listed.{listed};
 ghost use Rattle.api_documents.specs.Lists.{Lists, ListsWritten};
+ghost use Rattle.api_documents.specs.Operations.{operation_of};
 ghost use Rattle.api_documents.specs.Tags.{Configured};
 
 /// The document of endpoints at a version lists those that are visible and whose ranges hold it, each
@@ -49,30 +49,29 @@ pub fn documents_define_no_more()
     ensures { (ds : ListOf DeclarationValue) (configured : Configured) (info : InfoValue)
         → All (λ (d : DeclarationValue). ShapePasses d.shape) ds → (name : ListOf ℕ)
         → IsSome (definition_in (document_listing ds configured info) name)
-        → (d : DeclarationValue) × Contains ds d
-        × ((desc : Descriptor) × IsDrawn d.shape desc × IsReached d.shape.table desc name) }
+        → (d : DeclarationValue) × Contains ds d × LeadsToDefinition d.shape name }
 {}
 
-/// A document that lists some endpoints has the response of each error that one of them lists, under the
-/// name by which its operation refers to it.
+/// The references of an operation to the response of its error lead to it: the document has it under the
+/// name by which the operation refers to it, as it is drawn under the endpoint's own table.
 pub fn documents_define_errors()
     ensures { (ds : ListOf DeclarationValue) (configured : Configured) (info : InfoValue) → MayBeListed ds
-        → length ds + 2 < 2 ^ 64 → (d : DeclarationValue) → Contains ds d → (error : Error)
+        → length ds < 2 ^ 64 → (d : DeclarationValue) → Contains ds d → (error : Error)
         → listed_error d.shape ≡ Some error
-        → DefinesError (document_listing ds configured info) (errors_of ds) error }
+        → LeadsToError (document_listing ds configured info) (operation_of (errors_of ds) d) d.shape.table error }
 {}
 
 /// The name that is given to an error is free: its own where that is free, else with the least number from
 /// 2 on that makes it so. So no name is given twice.
 pub fn error_names_differ()
-    ensures free { (names : ListOf (ListOf ℕ)) (name : ListOf ℕ) → length names + 2 < 2 ^ 64
+    ensures free { (names : ListOf (ListOf ℕ)) (name : ListOf ℕ) → length names < 2 ^ 64
         → is_taken names (free_name names name) ≡ false }
     ensures own { (names : ListOf (ListOf ℕ)) (name : ListOf ℕ) → is_taken names name ≡ false
         → free_name names name ≡ name }
-    ensures least { (names : ListOf (ListOf ℕ)) (name : ListOf ℕ) → length names + 2 < 2 ^ 64
+    ensures least { (names : ListOf (ListOf ℕ)) (name : ListOf ℕ) → length names < 2 ^ 64
         → is_taken names name ≡ true → (number : ℕ) × IsLeastFree names name number
         × (free_name names name ≡ name ++ decimal number) }
-    ensures once { (es : ListOf TabledError) → length es + 2 < 2 ^ 64
+    ensures once { (es : ListOf TabledError) → length es < 2 ^ 64
         → AreDistinct (given_names (named_errors es)) }
 {}
 

@@ -1,6 +1,5 @@
 // The responses of an operation.
-ghost use Rattle.std.specs.Prelude.{◌≡◌, ◌++◌, ◌∷◌, [], IfOk, OnOk, map};
-ghost use Rattle.std.specs.Fmt.{decimal};
+ghost use Rattle.std.specs.Prelude.{◌≡◌, ◌++◌, [], IfOk, OnOk, map};
 ghost use Rattle.std.specs.Option.{option_copied, option_map_or};
 ghost use Rattle.typed_values.specs.Checks.{TablePasses};
 ghost use Rattle.handler_shapes.specs.ShapeChecks.{HeadersPass, ResponsePasses, ShapePasses};

@@ -30,8 +30,8 @@ use Rattle.handler_shapes.specs.declared.slot.Slot.TheVariants as slot
 use Rattle.endpoint_metadata.specs.declared.parameter.ApiEndpointParameterLocation.TheVariants as location
 use Rattle.endpoint_metadata.specs.Parameters.{binary_type, field_parameter, page_parameter, listed_parameters}
 use Rattle.endpoint_metadata.specs.Parameters.{slot_listed}
-use Rattle.endpoint_metadata.specs.Shown.{body_under, documented_bodies, documented_parameters, shown, shown_body}
-use Rattle.endpoint_metadata.specs.Shown.{body_documented, slot_documented}
+use Rattle.endpoint_metadata.specs.Shown.{binary_schema, body_under, documented_bodies, documented_parameters, shown}
+use Rattle.endpoint_metadata.specs.Shown.{body_documented, shown_body, slot_documented}
 use Rattle.endpoint_metadata.specs.Structs.{listed_fields}
 use Rattle.endpoint_metadata.specs.Values.{ParameterValue}
 
@@ -87,6 +87,12 @@ token_same table =
     ap (as_parameter (codes "query") token_field false)
     (ap (schema_json table) itself
     ∙ option_anywhere table words (drawn_row table words level is ∙ sym (drawn_row [] words level is)))
+
+-- ---- the schema of bytes, for which no table counts
+binary_same : (table : List Definition) → schema_json table binary_type ≡ binary_schema
+binary_same table =
+    let level = Desc-F.Text None None (Some (codes "binary")) in
+    ap drawn_json (drawn_row table binary_type level (desc.outs-Text None None (Some (codes "binary"))))
 
 -- the parameters of pages in the order of their names
 pages_sorted : (table : List Definition) (fields : List Field)
@@ -153,6 +159,12 @@ module _
       → (fields : List Field) (rest : List RequestBody) → filter_map shown_body (map f fields) ++ rest ≡ rest
   no_body f none fields rest = ap (λ (bodies : List RequestBody). bodies ++ rest) (none_shown f shown_body none fields)
 
+  bytes_shown : (rest : List RequestBody)
+      → body_under Bytes true (json_written None (schema_value table binary_type)) ∷ rest
+      ≡ body_under Bytes true binary_schema ∷ rest
+  bytes_shown rest =
+      ap (λ json. body_under Bytes true json ∷ rest) (written table binary_type ∙ binary_same table)
+
   body_shown : (s : Slot) (rest : List RequestBody)
       → filter_map shown_body (slot_listed kind table s) ++ rest ≡ cons_option (body_documented kind table s) rest
   body_shown (slot.Path desc) rest =
@@ -165,8 +177,8 @@ module _
       no_body (page_parameter table) (λ f. refl)
       (sorted_by field_name (limit_field ∷ token_field ∷ listed_fields table scan)) rest
   body_shown (slot.TypedBody desc name) rest = ap (λ json. body_under kind true json ∷ rest) (titled table desc name)
-  body_shown slot.RawBody rest = ap (λ json. body_under Bytes true json ∷ rest) (written table binary_type)
-  body_shown slot.StreamBody rest = ap (λ json. body_under Bytes true json ∷ rest) (written table binary_type)
+  body_shown slot.RawBody rest = bytes_shown rest
+  body_shown slot.StreamBody rest = bytes_shown rest
 
   -- the bodies of all slots
   pub bodies_shown : (slots : List Slot)

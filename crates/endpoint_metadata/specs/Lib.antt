@@ -3,5 +3,5 @@ pub mod ByBytes
 pub mod Values
 pub mod Parameters
 pub mod Modes
-pub mod Listed
+pub mod WellTyped
 pub mod Shown

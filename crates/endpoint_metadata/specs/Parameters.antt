@@ -1,7 +1,6 @@
 -- The parameters of an endpoint: the fields of its slots, slot by slot, and in each slot in the order of their names;
--- and
--- the body where its slot stands (OpenAPI 3.0.3, Parameter Object and Request Body Object; the order is this project's
--- own).
+-- and the body where its slot stands (OpenAPI 3.0.3, Parameter Object and Request Body Object; the order is this
+-- project's own).
 use Rattle.std.specs.Prelude.{ℕ, true, false, List, [], ◌∷◌, map, Some, None, codes}
 use Rattle.std.specs.List.{flat_map}
 use Rattle.schema_values.specs.Order.{sorted_by}
@@ -31,12 +30,11 @@ named_in location.Query name = Query name
 named_in location.Header name = Header name
 
 -- what is written in a place for a type: in a query an option over a reference as the reference alone, and in headers
--- an
--- option as what it is over
+-- an option as what it is over
 abbrev pub written_in : ApiEndpointParameterLocation → Desc → Desc
-written_in location.Path desc = desc
-written_in location.Query desc = in_query desc
-written_in location.Header desc = in_header desc
+written_in location.Path = λ desc. desc
+written_in location.Query = in_query
+written_in location.Header = in_header
 
 -- the definitions of a table as schemas, with their descriptions, in order
 abbrev pub table_schemas : List Definition → SchemasInOrder

@@ -2,12 +2,13 @@
 -- Body Object).
 use Rattle.std.specs.Prelude.{ℕ, Bool, true, List, [], ◌∷◌, Option, Some, None, codes, filter_map}
 use Rattle.std.specs.List.{flat_map}
-use Rattle.schema_values.specs.declared.json_value.Json.{Json}
+use Rattle.schema_values.specs.declared.json_value.Json.{Json, Object, Text as Words}
+use Rattle.schema_values.specs.Member.{member}
 use Rattle.openapi_values.specs.SchemaJson.{schema_json as json_written}
 use Rattle.openapi_values.specs.declared.media.RequestBody.{RequestBody}
 use Rattle.openapi_values.specs.declared.parameter.Parameter.{Parameter}
 use Rattle.descriptors.specs.declared.table.Definition.{Definition}
-use Rattle.typed_values.specs.SchemaTable.{schema_json, schema_json_titled}
+use Rattle.typed_values.specs.SchemaTable.{schema_json_titled}
 use Rattle.written_texts.specs.FieldParameters.{header_parameters, path_parameters, query_parameters}
 use Rattle.written_texts.specs.PageParameters.{page_parameters}
 use Rattle.request_parts.specs.ContentTypes.{mime_of}
@@ -19,7 +20,6 @@ use Rattle.endpoint_metadata.specs.declared.parameter.ApiEndpointParameter.{ApiE
 use Rattle.endpoint_metadata.specs.declared.parameter.ApiEndpointParameterMetadata.{ApiEndpointParameterMetadata}
 use Rattle.endpoint_metadata.specs.declared.parameter.ApiEndpointParameterMetadata.TheVariants.{Path, Query, Header}
 use Rattle.endpoint_metadata.specs.declared.parameter.ApiEndpointParameterMetadata.TheVariants.{Body}
-use Rattle.endpoint_metadata.specs.Parameters.{binary_type}
 use Rattle.endpoint_metadata.specs.Structs.{listed_fields}
 use Rattle.endpoint_metadata.specs.Values.{GeneratorValue, of_type, beside, ParameterValue, parameter_values}
 
@@ -69,7 +69,8 @@ shown_parameters told = filter_map shown (parameter_values told)
 abbrev pub shown_bodies : List ApiEndpointParameter → List RequestBody
 shown_bodies told = filter_map shown_body (parameter_values told)
 
--- the parameters of a slot in a document
+-- the parameters of a slot in a document; a body is none, and of pages what they scan is shown, but not what selects a
+-- later page
 abbrev pub slot_documented : List Definition → Slot → List Parameter
 slot_documented table (slot.Path desc) = path_parameters table (listed_fields table desc)
 slot_documented table (slot.Query desc) = query_parameters table (listed_fields table desc)
@@ -83,11 +84,21 @@ slot_documented table slot.StreamBody = []
 abbrev pub documented_parameters : List Definition → List Slot → List Parameter
 documented_parameters table = flat_map (slot_documented table)
 
--- the body of a slot in a document: a typed one under the endpoint's media type, a raw one and a stream as bytes
+-- the schema of bytes (OpenAPI 3.0.3, Considerations for File Uploads)
+abbrev pub binary_schema : Json
+binary_schema =
+    Object (member (codes "type") (Words (codes "string")) ∷ member (codes "format") (Words (codes "binary")) ∷ [])
+
+-- any bytes, whatever the request's media type
+abbrev pub binary_body : RequestBody
+binary_body = body_under Bytes true binary_schema
+
+-- the body of a slot in a document: a typed one under the endpoint's media type, with the name of its type as title
+-- unless it is a reference; a raw one and a stream are bytes
 abbrev pub body_documented : ApiEndpointBodyContentType → List Definition → Slot → Option RequestBody
 body_documented kind table (slot.TypedBody desc name) = Some (body_under kind true (schema_json_titled table name desc))
-body_documented kind table slot.RawBody = Some (body_under Bytes true (schema_json table binary_type))
-body_documented kind table slot.StreamBody = Some (body_under Bytes true (schema_json table binary_type))
+body_documented kind table slot.RawBody = Some binary_body
+body_documented kind table slot.StreamBody = Some binary_body
 body_documented kind table (slot.Path desc) = None
 body_documented kind table (slot.Query desc) = None
 body_documented kind table (slot.Header desc) = None

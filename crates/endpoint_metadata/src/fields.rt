@@ -10,7 +10,7 @@ use typed_values::{Desc, DescTable, Field};
 
 /// The fields of the struct that a descriptor is, or that references lead to; what is no struct has
 /// none.
-pub(crate) fn listed_fields<'a>(table: &'a DescTable, desc: &'a Desc) -> &'a [Field]
+pub fn listed_fields<'a>(table: &'a DescTable, desc: &'a Desc) -> &'a [Field]
     requires { TablePasses table.now }
     ensures { result.now ≡ listed_fields table.now desc.now }
 {

@@ -56,8 +56,9 @@ fn joined(mode: ExtensionMode, names: List<Text>) -> Result<ExtensionMode, ModeE
     }
 }
 
-// The names that a request for the first page must have, where a slot is that of pages.
-fn asked_names(
+/// The names that a request for the first page must have, where a slot is that of pages. Fails only
+/// for want of memory.
+pub fn asked_names(
     alloc: Global,
     table: &DescTable,
     slot: &Slot,

@@ -146,8 +146,8 @@ fn named_in(location: ApiEndpointParameterLocation, name: Text) -> ApiEndpointPa
     }
 }
 
-/// The same texts in the same order.
-pub(crate) fn copy_texts(alloc: Global, texts: &[Text]) -> Result<List<Text>, AllocError>
+/// The same texts in the same order. Fails only for want of memory.
+pub fn copy_texts(alloc: Global, texts: &[Text]) -> Result<List<Text>, AllocError>
     ensures { IfOk result (λ copies. copies ≡ texts.now) }
 {
     let mut copies = List::new(alloc);

@@ -149,7 +149,7 @@ fn field_parameter(
 }
 
 /// Whether a field must be there.
-pub(crate) fn is_required(presence: &Presence) -> bool
+pub fn is_required(presence: &Presence) -> bool
     ensures { result ≡ is_required presence.now }
 {
     matches!(presence, Presence::Required)
@@ -174,7 +174,8 @@ fn placed_schema(
     })
 }
 
-fn schema_in(
+/// The schema of a type as it stands in a place. Fails only for want of memory.
+pub fn schema_in(
     alloc: Global,
     table: &DescTable,
     location: Location,

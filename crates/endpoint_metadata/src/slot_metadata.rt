@@ -1,19 +1,19 @@
 //! What is said of an endpoint by the slots of its handler.
 ghost use Rattle.std.specs.Prelude.{◌≡◌, Ok, IfErr, IfOk};
-ghost use Rattle.endpoint_metadata.specs.Listed.{AreListed, nothing_told};
 ghost use Rattle.endpoint_metadata.specs.Modes.{AskAlike, AskDifferently, mode_of, first_asked};
 ghost use Rattle.endpoint_metadata.specs.Parameters.{listed_parameters};
 ghost use Rattle.endpoint_metadata.specs.Shown.{documented_bodies, documented_parameters};
 ghost use Rattle.endpoint_metadata.specs.Shown.{shown_bodies, shown_parameters};
 ghost use Rattle.endpoint_metadata.specs.Values.{parameter_values};
+ghost use Rattle.endpoint_metadata.specs.WellTyped.{AreWellTyped, nothing_told};
 ghost use Rattle.endpoint_metadata.specs.declared.mode_error.ModeError.TheVariants.{IncompatibleModes};
 
 use crate::extension::{ExtensionMode, ExtractorMetadata};
 use crate::laws::parameters_are_shown;
-use crate::listed::are_listed;
 use crate::mode_error::ModeError;
 use crate::modes::joint_mode;
 use crate::parameters::listed_parameters;
+use crate::well_typed::are_well_typed;
 use handler_shapes::Slot;
 use request_parts::ApiEndpointBodyContentType;
 use schema_values::List;
@@ -32,23 +32,23 @@ pub fn metadata(
     table: &DescTable,
     content_type: ApiEndpointBodyContentType,
 ) -> Result<ExtractorMetadata, ModeError>
-    ensures nothing { ¬ AreListed table.now slots.now → result ≡ Ok nothing_told }
-    ensures parameters { AreListed table.now slots.now → IfOk result (λ metadata.
+    ensures nothing { ¬ AreWellTyped table.now slots.now → result ≡ Ok nothing_told }
+    ensures parameters { AreWellTyped table.now slots.now → IfOk result (λ metadata.
         parameter_values metadata.parameters ≡ listed_parameters content_type table.now slots.now) }
-    ensures shown { AreListed table.now slots.now → IfOk result (λ metadata.
+    ensures shown { AreWellTyped table.now slots.now → IfOk result (λ metadata.
         shown_parameters metadata.parameters ≡ documented_parameters table.now slots.now) }
-    ensures bodies { AreListed table.now slots.now → IfOk result (λ metadata.
+    ensures bodies { AreWellTyped table.now slots.now → IfOk result (λ metadata.
         shown_bodies metadata.parameters ≡ documented_bodies content_type table.now slots.now) }
-    ensures mode { AreListed table.now slots.now → IfOk result (λ metadata.
+    ensures mode { AreWellTyped table.now slots.now → IfOk result (λ metadata.
         metadata.extension_mode ≡ mode_of (first_asked table.now slots.now)) }
-    ensures alike { AreListed table.now slots.now → IfOk result (λ _.
+    ensures alike { AreWellTyped table.now slots.now → IfOk result (λ _.
         AskAlike table.now slots.now) }
     ensures incompatible { IfErr result (λ error. error ≡ IncompatibleModes
-        → AreListed table.now slots.now × AskDifferently table.now slots.now) }
+        → AreWellTyped table.now slots.now × AskDifferently table.now slots.now) }
 {
     parameters_are_shown();
     let slots = slots.as_slice();
-    if !are_listed(table, slots) {
+    if !are_well_typed(table, slots) {
         return Ok(ExtractorMetadata {
             extension_mode: ExtensionMode::None,
             parameters: List::new(alloc),

@@ -24,7 +24,8 @@ loop-method-preserved c =
     elim c.match-at_method.branch [
       | in-Some+in_ok-add_error w ↦
           c.loop-method.invariant
-          ∙ one_added found text _ i none c.loop-method-test.true named w.in-Some.declaration.now c.match-at_method.named
+          ∙ one_added found text _ i none c.loop-method-test.true named w.in-Some.declaration.now
+              c.match-at_method.named
           (sym w.in-Some.ensures) (w.named-is ∙ w.in_ok-add_error.ensures)
       | in_default w ↦
           c.loop-method.invariant

@@ -1,5 +1,5 @@
-use Rattle.api_documents.proofs.ErrorsFound.{defines_error}
+use Rattle.api_documents.proofs.ErrorsFound.{leads_to_error}
 use Rattle.api_documents.proofs.laws.documents_define_errors.Goals as goal
 
 pub returns : goal.returns
-returns c = defines_error
+returns c = leads_to_error

@@ -6,7 +6,6 @@ use Rattle.api_documents.specs.Ordered.{with_texts}
 use Rattle.api_documents.specs.Places.{path_keys}
 use Rattle.api_documents.proofs.PlacesFound.{index_added, index_kept, paths_added, paths_kept}
 use Rattle.api_documents.proofs.listed.listed_paths.Goals as goal
-use Rattle.api_documents.proofs.listed.listed_paths.Goals.{}
 use Rattle.api_documents.proofs.listed.listed_paths.Goals.{then-is_listed+in_ok-path_of+in_ok-add+in_ok-path_of-2+in_ok-insert}
 use Rattle.api_documents.proofs.listed.listed_paths.Goals.{else-is_listed}
 

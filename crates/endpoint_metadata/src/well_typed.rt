@@ -1,7 +1,7 @@
-//! Whether the parameters of some slots can be told.
+//! Whether the types of some slots are such that their parameters can be told.
 ghost use Rattle.std.specs.Prelude.{◌↔◌, All, IsTrue};
 ghost use Rattle.typed_values.specs.Checks.{TablePasses};
-ghost use Rattle.endpoint_metadata.specs.Listed.{AreListed, IsListedSlot, TakesStruct};
+ghost use Rattle.endpoint_metadata.specs.WellTyped.{AreWellTyped, IsWellTyped, TakesStruct};
 
 use crate::fields::is_struct;
 use handler_shapes::{Slot, slot_passes};
@@ -9,27 +9,27 @@ use typed_values::{DescTable, check_table};
 
 /// Whether a table and the types of some slots pass their checks, and their parameters are of
 /// structs.
-pub(crate) fn are_listed(table: &DescTable, slots: &[Slot]) -> bool
-    ensures { IsTrue result ↔ AreListed table.now slots.now }
+pub(crate) fn are_well_typed(table: &DescTable, slots: &[Slot]) -> bool
+    ensures { IsTrue result ↔ AreWellTyped table.now slots.now }
 {
-    check_table(table).is_ok() && each_is_listed(table, slots)
+    check_table(table).is_ok() && each_is_well_typed(table, slots)
 }
 
-fn each_is_listed(table: &DescTable, slots: &[Slot]) -> bool
+fn each_is_well_typed(table: &DescTable, slots: &[Slot]) -> bool
     requires { TablePasses table.now }
-    ensures { IsTrue result ↔ All (IsListedSlot table.now) slots.now }
+    ensures { IsTrue result ↔ All (IsWellTyped table.now) slots.now }
 {
     for slot in slots {
-        if !is_listed(table, slot) {
+        if !is_well_typed(table, slot) {
             return false;
         }
     }
     true
 }
 
-fn is_listed(table: &DescTable, slot: &Slot) -> bool
+fn is_well_typed(table: &DescTable, slot: &Slot) -> bool
     requires { TablePasses table.now }
-    ensures { IsTrue result ↔ IsListedSlot table.now slot.now }
+    ensures { IsTrue result ↔ IsWellTyped table.now slot.now }
 {
     slot_passes(table, slot) && takes_struct(table, slot)
 }

@@ -1,6 +1,5 @@
--- Whether the parameters of some slots can be told: their types pass their checks, and those whose fields are
--- parameters
--- are structs.
+-- Whether the types of some slots are such that their parameters can be told: they pass their checks, and those whose
+-- fields are parameters are structs.
 use Rattle.std.specs.Prelude.{⊤, List, [], All}
 use Rattle.descriptors.specs.declared.table.Definition.{Definition}
 use Rattle.typed_values.specs.Checks.{TablePasses}
@@ -23,14 +22,14 @@ TakesStruct table RawBody = ⊤
 TakesStruct table StreamBody = ⊤
 
 -- each descriptor of a slot passes its check, that of a selector with its own table, and parameters are of a struct
-pub record IsListedSlot (table : List Definition) (slot : Slot) : Type 0 where
+pub record IsWellTyped (table : List Definition) (slot : Slot) : Type 0 where
   pub passes : SlotPasses table slot
   pub struct : TakesStruct table slot
 
--- a table passes its check, and each slot is such
-pub record AreListed (table : List Definition) (slots : List Slot) : Type 0 where
+-- a table passes its check, and each slot is of such types
+pub record AreWellTyped (table : List Definition) (slots : List Slot) : Type 0 where
   pub passes : TablePasses table
-  pub each : All (IsListedSlot table) slots
+  pub each : All (IsWellTyped table) slots
 
 -- nothing is told
 abbrev pub nothing_told : ExtractorMetadata
