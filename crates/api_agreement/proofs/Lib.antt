@@ -8,3 +8,4 @@ mod RequestsAgree
 mod Elements
 mod AcceptedSlots
 mod AcceptedTogether
+mod ToldSlots

@@ -11,10 +11,10 @@ use Rattle.written_texts.specs.FieldParameters.{AllHold}
 use Rattle.handler_shapes.specs.declared.slot.Slot.{Slot}
 use Rattle.handler_shapes.specs.BodySlots.{BodyComesLast}
 use Rattle.api_declarations.specs.Values.{DeclarationValue}
-use Rattle.api_documents.specs.Bodies.{slot_body}
+use Rattle.endpoint_metadata.specs.Modes.{asked_names, first_asked}
+use Rattle.endpoint_metadata.specs.Shown.{body_documented, documented_parameters, slot_documented}
 use Rattle.api_documents.specs.ErrorNames.{NamedErrorValue}
 use Rattle.api_documents.specs.Operations.{operation_of}
-use Rattle.api_documents.specs.Parameters.{pages_of, parameters_of, slot_pages, slot_parameters}
 use Rattle.api_agreement.specs.ShownSlots.{ReadApart}
 use Rattle.api_agreement.proofs.Each.{each_of, joined_from, joined_to}
 use Rattle.api_agreement.proofs.SlotsApart.{body_from, body_to, pages_from, pages_to}
@@ -30,27 +30,27 @@ passed p (Some x) h = h
 
 -- whether the operation of an endpoint answers in pages
 abbrev pub is_paged : DeclarationValue → Bool
-is_paged d = is_some (pages_of d.shape.table d.shape.slots)
+is_paged d = is_some (first_asked d.shape.table d.shape.slots)
 
 -- what an operation asks besides its parameters, where it answers in pages
 abbrev pub PagesAsk : WireRequest → DeclarationValue → List (List ℕ) → Type 0
-PagesAsk request d names = IsTrue (listed_pages_hold request (parameters_of d.shape.table d.shape.slots) names)
+PagesAsk request d names = IsTrue (listed_pages_hold request (documented_parameters d.shape.table d.shape.slots) names)
 
 -- what an operation has of a slot holds: its parameters, what pages ask, and the body
 pub record SlotHolds (doc : Json) (request : WireRequest) (d : DeclarationValue) (slot : Slot) : Type 0 where
-  pub listed : AllHold doc request (is_paged d) (slot_parameters d.shape.table slot)
-  pub pages : IfSome (slot_pages d.shape.table slot) (PagesAsk request d)
-  pub body : IfSome (slot_body d.body_content_type d.shape.table slot) (ListedBodyHolds doc request)
+  pub listed : AllHold doc request (is_paged d) (slot_documented d.shape.table slot)
+  pub pages : IfSome (asked_names d.shape.table slot) (PagesAsk request d)
+  pub body : IfSome (body_documented d.body_content_type d.shape.table slot) (ListedBodyHolds doc request)
 
 module _ (doc : Json) (request : WireRequest) (d : DeclarationValue) where
   abbrev Listed : Slot → Type 0
-  Listed slot = AllHold doc request (is_paged d) (slot_parameters d.shape.table slot)
+  Listed slot = AllHold doc request (is_paged d) (slot_documented d.shape.table slot)
 
   abbrev InPages : Slot → Type 0
-  InPages slot = IfSome (slot_pages d.shape.table slot) (PagesAsk request d)
+  InPages slot = IfSome (asked_names d.shape.table slot) (PagesAsk request d)
 
   abbrev OfBody : Slot → Type 0
-  OfBody slot = IfSome (slot_body d.body_content_type d.shape.table slot) (ListedBodyHolds doc request)
+  OfBody slot = IfSome (body_documented d.body_content_type d.shape.table slot) (ListedBodyHolds doc request)
 
   all_three : (slots : List Slot) → AllByRecursion Listed slots → AllByRecursion InPages slots
       → AllByRecursion OfBody slots → AllByRecursion (SlotHolds doc request d) slots
@@ -66,16 +66,16 @@ module _ (doc : Json) (request : WireRequest) (d : DeclarationValue) where
       let table = d.shape.table in
       let kind = d.body_content_type in
       let test = listed_holds doc request (is_paged d) in
-      let asked = listed_pages_hold request (parameters_of table slots) in (
+      let asked = listed_pages_hold request (documented_parameters table slots) in (
         λ h. all_three slots
-            (joined_to (slot_parameters table) test slots h.parameters)
-            (pages_to table (PagesAsk request d) slots apart (tested asked (pages_of table slots) h.pages))
+            (joined_to (slot_documented table) test slots h.parameters)
+            (pages_to table (PagesAsk request d) slots apart (tested asked (first_asked table slots) h.pages))
             (body_to kind table (ListedBodyHolds doc request) slots last h.body),
         λ h. record {
           parameters =
-              joined_from (slot_parameters table) test slots
+              joined_from (slot_documented table) test slots
               (each_of (SlotHolds doc request d) Listed slots (λ slot c s. s.listed) h);
-          pages = passed asked (pages_of table slots)
+          pages = passed asked (first_asked table slots)
               (pages_from table (PagesAsk request d) slots
               (each_of (SlotHolds doc request d) InPages slots (λ slot c s. s.pages) h));
           body = body_from kind table (ListedBodyHolds doc request) slots

@@ -1,5 +1,5 @@
 -- What an operation has of a slot holds of a request exactly where the request denotes an argument for the slot.
-use Rattle.std.proofs.Common.{◌≡◌, ◌↔◌, ℕ, Bool, true, false, List, [], ◌∷◌, ◌++◌, unwrap_or}
+use Rattle.std.proofs.Common.{◌≡◌, ◌↔◌, ℕ, Bool, true, false, List, [], ◌∷◌, ◌++◌}
 use Rattle.std.proofs.Common.{is_ok, is_some, IsTrue, codes, refl, sym, ◌∙◌, ap, subst, inl}
 use Rattle.std.proofs.lemmas.Bool.{and_from, and_parts}
 use Rattle.std.specs.List.{list_all}
@@ -36,8 +36,10 @@ use Rattle.api_extract.specs.Denotes.{slot_told}
 use Rattle.api_extract.specs.PageQueries.{PageTypes, limit_told, page_query_told}
 use Rattle.api_extract.specs.Refusals.{told_as}
 use Rattle.api_declarations.specs.Values.{DeclarationValue}
+use Rattle.endpoint_metadata.specs.Shown.{documented_parameters, slot_documented}
+use Rattle.endpoint_metadata.specs.Structs.{listed_fields}
+use Rattle.endpoint_metadata.proofs.CallerLemmas.{open_fields}
 use Rattle.api_documents.specs.Drawn.{IsDrawn, as_body, as_parameter}
-use Rattle.api_documents.specs.Parameters.{fields_in, parameters_of, slot_parameters}
 use Rattle.api_agreement.specs.Agreement.{terms_of}
 use Rattle.api_agreement.specs.ShownSlots.{AreScanned, HasShownSlots, IsShown}
 use Rattle.api_agreement.proofs.OperationSlots.{is_paged, SlotHolds}
@@ -68,18 +70,18 @@ module _ (doc : Json) (d : DeclarationValue) (shown : HasShownSlots d) (passes :
   abbrev test : Bool → Parameter → Bool
   test = listed_holds doc request
 
-  fields_are : (desc : Desc) (fields : List Field) → IsFlatStruct table desc fields → fields_in table desc ≡ fields
-  fields_are desc fields flat = ap (λ o. unwrap_or o []) flat.has_fields
+  fields_are : (desc : Desc) (fields : List Field) → IsFlatStruct table desc fields → listed_fields table desc ≡ fields
+  fields_are desc fields flat = open_fields table desc fields flat.has_fields
 
   -- ---- a path, a query that is not read in pages, and headers
 
   module _ (desc : Desc) (fields : List Field) (flat : IsFlatStruct table desc fields) where
     same_fields : (made : List Field → List Parameter) (b : Bool)
-        → list_all (test b) (made (fields_in table desc)) ≡ list_all (test b) (made fields)
+        → list_all (test b) (made (listed_fields table desc)) ≡ list_all (test b) (made fields)
     same_fields made b = ap (λ fs. list_all (test b) (made fs)) (fields_are desc fields flat)
 
     path_slot : Contains d.shape.slots (Path desc) → AllRequired fields
-        → list_all (test (is_paged d)) (slot_parameters table (Path desc))
+        → list_all (test (is_paged d)) (slot_documented table (Path desc))
         ≡ is_ok (flat_told table (map_values (λ value. value) request.variables) desc)
     path_slot c required =
         same_fields (path_parameters table) (is_paged d)
@@ -89,10 +91,10 @@ module _ (doc : Json) (d : DeclarationValue) (shown : HasShownSlots d) (passes :
         (is_paged d) required
 
     query_slot : Contains d.shape.slots (Query desc)
-        → list_all (test (is_paged d)) (slot_parameters table (Query desc))
+        → list_all (test (is_paged d)) (slot_documented table (Query desc))
         ≡ is_ok (pairs_told table Refuse (query_pairs request.query) desc)
     query_slot c =
-        ap (λ (b : Bool). list_all (test b) (slot_parameters table (Query desc)))
+        ap (λ (b : Bool). list_all (test b) (slot_documented table (Query desc)))
         (ap is_some (beside_query table d.shape.slots shown.pages desc c))
         ∙ same_fields (query_parameters table) false
         ∙ query_told doc table desc fields flat
@@ -100,7 +102,7 @@ module _ (doc : Json) (d : DeclarationValue) (shown : HasShownSlots d) (passes :
         (as_parameter (Query desc) f c (subst (λ fs. Contains fs f) (sym (fields_are desc fields flat)) k))) request
 
     header_slot : Contains d.shape.slots (Header desc)
-        → list_all (test (is_paged d)) (slot_parameters table (Header desc))
+        → list_all (test (is_paged d)) (slot_documented table (Header desc))
         ≡ is_ok (headers_told table request.headers desc)
     header_slot c =
         same_fields (header_parameters table) (is_paged d)
@@ -123,19 +125,19 @@ module _ (doc : Json) (d : DeclarationValue) (shown : HasShownSlots d) (passes :
     abbrev prefix : List ℕ
     prefix = codes "unable to parse query string: "
 
-    same : fields_in table scan ≡ fields
+    same : listed_fields table scan ≡ fields
     same = fields_are scan fields flat
 
-    listed_same : list_all (test (is_paged d)) (slot_parameters table slot)
+    listed_same : list_all (test (is_paged d)) (slot_documented table slot)
         ≡ list_all (test true) (page_parameters table fields)
     listed_same =
-        ap (λ (b : Bool). list_all (test b) (slot_parameters table slot))
+        ap (λ (b : Bool). list_all (test b) (slot_documented table slot))
         (answers_in_pages table d.shape.slots scan selector selector_table c)
         ∙ ap (λ fs. list_all (test true) (page_parameters table fs)) same
 
     place : (before : List Parameter) × (after : List Parameter)
-        × (parameters_of table d.shape.slots ≡ before ++ slot_parameters table slot ++ after)
-    place = between (slot_parameters table) d.shape.slots slot c
+        × (documented_parameters table d.shape.slots ≡ before ++ slot_documented table slot ++ after)
+    place = between (slot_documented table) d.shape.slots slot c
 
     abbrev before : List Parameter
     before = place.0
@@ -143,10 +145,11 @@ module _ (doc : Json) (d : DeclarationValue) (shown : HasShownSlots d) (passes :
     abbrev after : List Parameter
     after = place.1
 
-    pages_same : listed_pages_hold request (parameters_of table d.shape.slots) (first_page_names (fields_in table scan))
+    pages_same : listed_pages_hold request (documented_parameters table d.shape.slots)
+        (first_page_names (listed_fields table scan))
         ≡ listed_pages_hold request (before ++ page_parameters table fields ++ after) (first_page_names fields)
     pages_same =
-        ap (λ ps. listed_pages_hold request ps (first_page_names (fields_in table scan))) place.2
+        ap (λ ps. listed_pages_hold request ps (first_page_names (listed_fields table scan))) place.2
         ∙ ap (λ fs. listed_pages_hold request (before ++ page_parameters table fs ++ after) (first_page_names fs)) same
 
     pages_to : SlotHolds doc request d slot → PageParametersHold doc table request before fields after

@@ -13,7 +13,7 @@ use Rattle.request_words.specs.MediaTypes.{HasJsonType, is_form_type, is_json_ty
 use Rattle.request_words.specs.Pairs.{form_pairs}
 use Rattle.openapi_values.specs.Listed.{ListedBodyHolds}
 use Rattle.openapi_values.specs.RequestBodies.{IsFormOf, IsJsonOf}
-use Rattle.request_parts.specs.ContentTypes.{kind_of, mime_of}
+use Rattle.request_parts.specs.ContentTypes.{kind_of}
 use Rattle.request_parts.specs.declared.content_type.ApiEndpointBodyContentType.{ApiEndpointBodyContentType}
 use Rattle.request_parts.specs.declared.content_type.ApiEndpointBodyContentType.TheVariants as kinds
 use Rattle.descriptors.specs.declared.desc.Desc.{Desc}
@@ -30,7 +30,7 @@ use Rattle.api_extract.specs.Readings.{value_read}
 use Rattle.api_extract.specs.Refusals.{told_as}
 use Rattle.api_extract.specs.TypedBodies.{body_by_given, body_by_media, form_body, json_body, read_told, typed_body}
 use Rattle.api_extract.proofs.ReadValues.{read_value, value_reads}
-use Rattle.api_documents.specs.Bodies.{required_body}
+use Rattle.endpoint_metadata.specs.Shown.{body_under}
 use Rattle.api_agreement.specs.ShownSlots.{IsBodyType}
 
 -- a tree is an argument, and a fault is none
@@ -141,20 +141,20 @@ module _ (doc : Json) (table : List Definition) (desc : Desc) (name : List ℕ) 
       ∙ (true_where (told table desc h.json desc)).1 tree
 
   -- under the one media type that is listed
-  only_json : ListedBodyHolds doc request (required_body (codes "application/json") schema)
+  only_json : ListedBodyHolds doc request (body_under kinds.Json true schema)
       → IsJsonOf doc request schema
   only_json (inl bytes) = absurd (cc bytes)
   only_json (inr (inl json)) = json
   only_json (inr (inr form)) = absurd form
 
-  only_form : ListedBodyHolds doc request (required_body (codes "application/x-www-form-urlencoded") schema)
+  only_form : ListedBodyHolds doc request (body_under kinds.UrlEncoded true schema)
       → IsFormOf doc request schema
   only_form (inl bytes) = absurd (cc bytes)
   only_form (inr (inl json)) = absurd json
   only_form (inr (inr form)) = form
 
   json_slot : IsWritten doc table desc
-      → ListedBodyHolds doc request (required_body (codes "application/json") schema)
+      → ListedBodyHolds doc request (body_under kinds.Json true schema)
       ↔ IsOk (typed_body table desc kinds.Json request.headers request.body)
   json_slot written = (
     λ h.
@@ -170,7 +170,7 @@ module _ (doc : Json) (table : List Definition) (desc : Desc) (name : List ℕ) 
   )
 
   form_slot : (fields : _) → IsFlatStruct table desc fields → IsWritten doc table desc
-      → ListedBodyHolds doc request (required_body (codes "application/x-www-form-urlencoded") schema)
+      → ListedBodyHolds doc request (body_under kinds.UrlEncoded true schema)
       ↔ IsOk (typed_body table desc kinds.UrlEncoded request.headers request.body)
   form_slot fields flat written =
       let pairs = form_pairs request.body in
@@ -194,7 +194,7 @@ module _ (doc : Json) (table : List Definition) (desc : Desc) (name : List ℕ) 
 
   -- under the media type of an endpoint
   pub typed_slot : (kind : ApiEndpointBodyContentType) → IsBodyType table desc kind → IsWritten doc table desc
-      → ListedBodyHolds doc request (required_body (mime_of kind) schema)
+      → ListedBodyHolds doc request (body_under kind true schema)
       ↔ IsOk (typed_body table desc kind request.headers request.body)
   typed_slot kinds.Json shown written = json_slot written
   typed_slot kinds.UrlEncoded shown written = form_slot shown.0 shown.1 written

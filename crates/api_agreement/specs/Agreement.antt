@@ -14,8 +14,8 @@ use Rattle.handler_shapes.specs.declared.arguments.Arg.{Arg}
 use Rattle.api_extract.specs.Denotes.{Denotes, Terms, terms}
 use Rattle.api_extract.specs.Extraction.{IsWithin, extracted}
 use Rattle.api_declarations.specs.Values.{DeclarationValue}
+use Rattle.endpoint_metadata.specs.Modes.{first_asked}
 use Rattle.api_documents.specs.Listed.{path_of}
-use Rattle.api_documents.specs.Parameters.{pages_of}
 
 -- ---- what is said of one request
 
@@ -33,7 +33,8 @@ IsAdmitted document d request = Admits document (path_of d) d.method request
 
 -- an endpoint does not answer in pages, or a request to it has no page token
 abbrev pub SendsNoToken : DeclarationValue → WireRequest → Type 0
-SendsNoToken d request = (pages_of d.shape.table d.shape.slots ≡ None) ⊎ (has_token (query_pairs request.query) ≡ false)
+SendsNoToken d request =
+    (first_asked d.shape.table d.shape.slots ≡ None) ⊎ (has_token (query_pairs request.query) ≡ false)
 
 -- ---- the same of a request whose body comes in frames
 

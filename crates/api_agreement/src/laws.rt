@@ -1,10 +1,16 @@
-//! Documents of accepted endpoints say of requests what these denote.
-ghost use Rattle.std.specs.Prelude.{IsTrue, List as ListOf};
+//! Documents of accepted endpoints say of requests what these denote, and list the parameters that are
+//! told of their slots.
+ghost use Rattle.std.specs.Prelude.{◌≡◌, IsTrue, List as ListOf};
 ghost use Rattle.semver.specs.Parse.{Parts};
 ghost use Rattle.schema_values.specs.Sound.{IsSound};
 ghost use Rattle.openapi_values.specs.declared.info.Info.{Info as InfoValue};
+ghost use Rattle.descriptors.specs.declared.desc.Desc.{Desc as Descriptor};
+ghost use Rattle.descriptors.specs.declared.table.Definition.{Definition as Entry};
 ghost use Rattle.api_declarations.specs.Values.{DeclarationValue};
+ghost use Rattle.endpoint_parameters.specs.Parameters.{fields_of_struct};
 ghost use Rattle.api_registration.specs.Accepted.{AreRegistered, MayStandBehind};
+ghost use Rattle.endpoint_metadata.specs.Structs.{listed_fields};
+ghost use Rattle.endpoint_metadata.specs.WellTyped.{AreWellTyped};
 ghost use Rattle.api_documents.specs.Accepted.{MayBeListed};
 ghost use Rattle.api_documents.specs.Documents.{document_json_of, document_of, errors_of};
 ghost use Rattle.api_documents.specs.Listed.{listed};
@@ -70,3 +76,16 @@ pub fn accepted_agree()
     accepted_are_shown();
     accepted_may_be_listed();
 }
+
+/// The fields that registration looks at, of a type in a path, a query or headers, are those that are
+/// listed as parameters.
+pub fn registered_fields_are_listed()
+    ensures { (table : ListOf Entry) (desc : Descriptor) → fields_of_struct table desc ≡ listed_fields table desc }
+{}
+
+/// The slots of an endpoint that may be registered are such that `metadata` tells their parameters: those
+/// of the endpoint's operation in a document.
+pub fn accepted_are_told()
+    ensures { (before : ListOf DeclarationValue) (d : DeclarationValue)
+        → MayStandBehind before d → AreWellTyped d.shape.table d.shape.slots }
+{}

@@ -28,13 +28,13 @@ use Rattle.handler_shapes.specs.declared.slot.Slot.TheVariants.{Path, Query, Hea
 use Rattle.handler_shapes.specs.declared.slot.Slot.TheVariants.{StreamBody}
 use Rattle.handler_shapes.specs.ShapeChecks.{ShapePasses}
 use Rattle.api_declarations.specs.Values.{DeclarationValue}
+use Rattle.endpoint_metadata.specs.Structs.{listed_fields}
 use Rattle.api_documents.specs.Components.{schema_entries}
 use Rattle.api_documents.specs.Defines.{LeadsToDefinition}
 use Rattle.api_documents.specs.Documents.{document_listing}
 use Rattle.api_documents.specs.Drawn.{IsDrawn, as_body, as_content, as_error, as_header, as_parameter, shown_fields}
 use Rattle.api_documents.specs.ErrorNames.{listed_error}
 use Rattle.api_documents.specs.Ordered.{by_name, is_among, text_order}
-use Rattle.api_documents.specs.Parameters.{fields_in}
 use Rattle.api_documents.specs.References.{Names, reached_within, references, references_in_fields, referred_by}
 use Rattle.api_documents.specs.References.{roots_of, roots_of_content, roots_of_error, roots_of_headers, roots_of_slot}
 use Rattle.api_documents.specs.Tags.{Configured}
@@ -92,7 +92,7 @@ module _ (shape : HandlerShape) (name : List ℕ) where
       → is_among name (roots_of_headers shape.table o) ≡ true → IsMentioned
   of_headers None is h = absurd (true≢false (sym h))
   of_headers (Some struct) is h =
-      let field = from_joined name (λ (f : Field). references f.desc) (fields_in shape.table struct) h in
+      let field = from_joined name (λ (f : Field). references f.desc) (listed_fields shape.table struct) h in
       (field.0.desc, as_header struct field.0 is field.1.0, mentioned_back name field.0.desc field.1.1)
 
   of_error : (o : Option ApiEndpointErrorResponse) → listed_error shape ≡ o → is_among name (roots_of_error o) ≡ true

@@ -14,11 +14,11 @@ use Rattle.handler_shapes.specs.declared.shape.HandlerShape.{HandlerShape}
 use Rattle.handler_shapes.specs.declared.slot.Slot.{Slot}
 use Rattle.handler_shapes.specs.declared.slot.Slot.TheVariants.{Path, Query, Header, PagedQuery, TypedBody, RawBody}
 use Rattle.handler_shapes.specs.declared.slot.Slot.TheVariants.{StreamBody}
+use Rattle.endpoint_metadata.specs.Structs.{listed_fields}
 use Rattle.api_documents.specs.Drawn.{shown_fields, shown_as, IsDrawn, as_body, as_parameter, in_parameter, as_content}
 use Rattle.api_documents.specs.Drawn.{as_header, in_response_header, as_error}
 use Rattle.api_documents.specs.ErrorNames.{listed_error}
 use Rattle.api_documents.specs.Ordered.{text_order, is_among}
-use Rattle.api_documents.specs.Parameters.{fields_in}
 use Rattle.api_documents.specs.References.{Names, roots_of_slot, roots_of_content, roots_of_headers, roots_of_error}
 use Rattle.api_documents.specs.References.{roots_of}
 use Rattle.api_documents.proofs.Among.{any_contained, among_joined}
@@ -59,11 +59,11 @@ module _ (shape : HandlerShape) (name : List ℕ) where
 
   in_shown : (slot : Slot) (f : Field) → Contains (shown_fields shape.table slot) f → Mentions f.desc name
       → is_among name (roots_of_slot shape.table slot) ≡ true
-  in_shown (Path desc) f c m = in_fields name (fields_in shape.table desc) f c (mentioned name f.desc m)
-  in_shown (Query desc) f c m = in_fields name (fields_in shape.table desc) f c (mentioned name f.desc m)
-  in_shown (Header desc) f c m = in_fields name (fields_in shape.table desc) f c (mentioned name f.desc m)
+  in_shown (Path desc) f c m = in_fields name (listed_fields shape.table desc) f c (mentioned name f.desc m)
+  in_shown (Query desc) f c m = in_fields name (listed_fields shape.table desc) f c (mentioned name f.desc m)
+  in_shown (Header desc) f c m = in_fields name (listed_fields shape.table desc) f c (mentioned name f.desc m)
   in_shown (PagedQuery scan selector selector_table) f c m =
-      in_fields name (fields_in shape.table scan) f c (mentioned name f.desc m)
+      in_fields name (listed_fields shape.table scan) f c (mentioned name f.desc m)
   in_shown (TypedBody desc type) f c m = absurd (omega (arith, c.1))
   in_shown RawBody f c m = absurd (omega (arith, c.1))
   in_shown StreamBody f c m = absurd (omega (arith, c.1))
@@ -80,11 +80,11 @@ module _ (shape : HandlerShape) (name : List ℕ) where
   behind_content h = behind_slots (in_second (roots_of_content shape.response.content) _ h)
 
   in_headers : (struct : Desc) (f : Field) → shape.response.headers ≡ Some struct
-      → Contains (fields_in shape.table struct) f → Mentions f.desc name → is_among name (roots_of shape) ≡ true
+      → Contains (listed_fields shape.table struct) f → Mentions f.desc name → is_among name (roots_of shape) ≡ true
   in_headers struct f is c m =
       behind_content (in_first (roots_of_headers shape.table shape.response.headers) _
       (ap (λ headers. is_among name (roots_of_headers shape.table headers)) is
-      ∙ in_fields name (fields_in shape.table struct) f c (mentioned name f.desc m)))
+      ∙ in_fields name (listed_fields shape.table struct) f c (mentioned name f.desc m)))
 
   pub in_roots : (desc : Desc) → IsDrawn shape desc → Mentions desc name → is_among name (roots_of shape) ≡ true
   in_roots desc (as_body _ type c) m = in_slot (TypedBody desc type) c (mentioned name desc m)

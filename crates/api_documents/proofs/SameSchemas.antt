@@ -198,7 +198,7 @@ module _ (table other : List Definition) (passes : TablePasses table) (passes_ot
       by_entry (Some x) g = (x, g)
       by_entry None g =
           absurd ((right d s).defined
-              (name, is, definition_is es name ∙ ap (option_map (λ (x : Definition). x.desc)) g))
+          (name, is, definition_is es name ∙ ap (option_map (λ (x : Definition). x.desc)) g))
 
   -- in a table that passes its checks so is what a definition mentions
   defined_in : (es : List Definition) → TablePasses es → (at : List ℕ) (e : Definition) → entry_of es at ≡ Some e

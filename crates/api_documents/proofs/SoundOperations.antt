@@ -36,10 +36,11 @@ use Rattle.handler_shapes.specs.declared.slot.Slot.TheVariants.{StreamBody}
 use Rattle.handler_shapes.specs.ShapeChecks.{ContentPasses, HeadersPass, ShapePasses, SlotPasses}
 use Rattle.handler_shapes.specs.ShapeLengths.{ContentHasShortLengths, ShapeHasShortLengths, SlotHasShortLengths}
 use Rattle.api_declarations.specs.Values.{DeclarationValue}
-use Rattle.api_documents.specs.Bodies.{binary_schema, body_of, slot_body}
+use Rattle.endpoint_metadata.specs.Shown.{binary_schema, body_documented, documented_parameters, slot_documented}
+use Rattle.endpoint_metadata.specs.Structs.{listed_fields}
+use Rattle.api_documents.specs.Bodies.{body_of}
 use Rattle.api_documents.specs.ErrorNames.{NamedErrorValue, name_of_error}
 use Rattle.api_documents.specs.Operations.{operation_of}
-use Rattle.api_documents.specs.Parameters.{fields_in, parameters_of, slot_parameters}
 use Rattle.api_documents.specs.Responses.{code_text, content_of, error_responses, header_of, headers_of, responses_of}
 use Rattle.api_documents.specs.Responses.{success_of}
 use Rattle.api_documents.proofs.DecimalTexts.{no_decimal}
@@ -63,10 +64,10 @@ module _ (table : List Definition) (passes : TablePasses table) (short : TableHa
   -- ---- parameters and body
 
   parameters_sound : (slots : List Slot) → All (SlotPasses table) slots → All SlotHasShortLengths slots
-      → AllByRecursion IsSoundParameter (parameters_of table slots)
+      → AllByRecursion IsSoundParameter (documented_parameters table slots)
   parameters_sound [] right lengths = tt
   parameters_sound (slot ∷ slots) right lengths =
-      appended IsSoundParameter (slot_parameters table slot) (parameters_of table slots)
+      appended IsSoundParameter (slot_documented table slot) (documented_parameters table slots)
       (slot_sound table passes short slot (All-head (SlotPasses table) slot slots right)
       (All-head SlotHasShortLengths slot slots lengths))
       (parameters_sound slots (All-tail (SlotPasses table) slot slots right)
@@ -74,7 +75,7 @@ module _ (table : List Definition) (passes : TablePasses table) (short : TableHa
 
   module _ (kind : ApiEndpointBodyContentType) where
     one_body_sound : (slot : Slot) → SlotPasses table slot → SlotHasShortLengths slot
-        → MatchOption (slot_body kind table slot) ⊤ IsSoundBody
+        → MatchOption (body_documented kind table slot) ⊤ IsSoundBody
     one_body_sound (TypedBody desc name) right lengths =
         ((schema_titled_sound table desc passes right lengths name, tt), (tt, tt))
     one_body_sound RawBody right lengths = ((binary_sound, tt), (tt, tt))
@@ -88,7 +89,7 @@ module _ (table : List Definition) (passes : TablePasses table) (short : TableHa
         → MatchOption (body_of kind table slots) ⊤ IsSoundBody
     body_sound [] right lengths = tt
     body_sound (slot ∷ slots) right lengths =
-        either_sound IsSoundBody (slot_body kind table slot) (body_of kind table slots)
+        either_sound IsSoundBody (body_documented kind table slot) (body_of kind table slots)
         (one_body_sound slot (All-head (SlotPasses table) slot slots right)
         (All-head SlotHasShortLengths slot slots lengths))
         (body_sound slots (All-tail (SlotPasses table) slot slots right)
@@ -110,7 +111,7 @@ module _ (table : List Definition) (passes : TablePasses table) (short : TableHa
       → IsSoundMap IsSoundHeader (headers_of table o)
   headers_sound None right lengths = (tt, tt)
   headers_sound (Some desc) right lengths =
-      let fs = fields_in table desc in
+      let fs = listed_fields table desc in
       let fine : IsFine table passes short desc = record { right = right; lengths = lengths } in
       let once = names_once table passes short desc fine in (
         as_headers_sound (query_parameters table fs)

@@ -1,5 +1,5 @@
 -- The schemas of parameters are sound, and the names of the fields that are shown of a struct are distinct.
-use Rattle.std.proofs.Common.{◌≡◌, ℕ, zero, suc, pos, Bool, true, false, List, [], ◌∷◌, map, Option, Some, None}
+use Rattle.std.proofs.Common.{◌≡◌, ℕ, zero, suc, pos, List, [], ◌∷◌, map, Option, Some, None}
 use Rattle.std.proofs.Common.{option_map, option_and_then, unwrap_or, codes, refl, sym, ◌∙◌, ap, subst, arith}
 use Rattle.std.specs.List.{AllByRecursion}
 use Rattle.std.specs.Prelude.{Contains}
@@ -23,7 +23,7 @@ use Rattle.typed_values.specs.Parts.{in_field, the_whole}
 use Rattle.typed_values.specs.Schemas.{in_header, in_query}
 use Rattle.typed_values.specs.SchemaTable.{drawn, schema_json}
 use Rattle.typed_values.proofs.CallerLemmas.{entry_inside, fields_distinct, stands_through}
-use Rattle.flat_maps.specs.Flat.{fields_by, flat_fields, resolved, resolved_at, resolved_by}
+use Rattle.flat_maps.specs.Flat.{resolved, resolved_at, resolved_by}
 use Rattle.written_schemas.proofs.Forms.{drawn_row}
 use Rattle.written_schemas.proofs.KeyedMembers.{IsSoundlyDrawn, drawn_sound}
 use Rattle.written_schemas.proofs.SoundForms.{length_is_count, number_sound, text_sound}
@@ -35,7 +35,8 @@ use Rattle.handler_shapes.specs.declared.slot.Slot.TheVariants.{Path, Query, Hea
 use Rattle.handler_shapes.specs.declared.slot.Slot.TheVariants.{StreamBody}
 use Rattle.handler_shapes.specs.ShapeChecks.{SlotPasses}
 use Rattle.handler_shapes.specs.ShapeLengths.{SlotHasShortLengths}
-use Rattle.api_documents.specs.Parameters.{fields_in, slot_parameters}
+use Rattle.endpoint_metadata.specs.Shown.{slot_documented}
+use Rattle.endpoint_metadata.specs.Structs.{fields_at, listed_fields}
 
 -- ---- lists
 
@@ -119,23 +120,23 @@ module _ (table : List Definition) (passes : TablePasses table) (short : TableHa
   none_fine : AreFine []
   none_fine = record { each = λ f c. absurd (omega (arith, c.1)); once = tt }
 
-  level_fine : (r : Desc) → IsFine r → (z : DescLevel) → out-Desc r ≡ z → AreFine (unwrap_or (fields_by z) [])
-  level_fine r fine (Desc-F.Struct fs false) is = record {
-    each = λ f c. field_fine r fs false f is c fine;
-    once = fields_distinct table r fs false is (fine.right r the_whole);
+  level_fine : (r : Desc) → IsFine r → (z : DescLevel) → out-Desc r ≡ z → AreFine (unwrap_or (fields_at z) [])
+  level_fine r fine (Desc-F.Struct fs deny) is = record {
+    each = λ f c. field_fine r fs deny f is c fine;
+    once = fields_distinct table r fs deny is (fine.right r the_whole);
   }
-  level_fine r fine (Desc-F.Struct fs true) is = none_fine
   level_fine r fine _ is = none_fine
 
-  struct_fine : (o : Option Desc) → ((r : Desc) → o ≡ Some r → IsFine r) → AreFine (unwrap_or (flat_fields o) [])
+  struct_fine : (o : Option Desc) → ((r : Desc) → o ≡ Some r → IsFine r)
+      → AreFine (unwrap_or (option_and_then (λ d. fields_at (out-Desc d)) o) [])
   struct_fine None led = none_fine
   struct_fine (Some r) led = level_fine r (led r refl) (out-Desc r) refl
 
-  shown_fine : (desc : Desc) → IsFine desc → AreFine (fields_in table desc)
+  shown_fine : (desc : Desc) → IsFine desc → AreFine (listed_fields table desc)
   unfolding resolved
   shown_fine desc fine = struct_fine (resolved table desc) (λ r led. led_fine (room table desc) desc r fine led)
 
-  pub names_once : (desc : Desc) → IsFine desc → AreDistinct (map field_name (fields_in table desc))
+  pub names_once : (desc : Desc) → IsFine desc → AreDistinct (map field_name (listed_fields table desc))
   names_once desc fine = (shown_fine desc fine).once
 
   -- ---- the schemas of the fields, in each place
@@ -151,25 +152,26 @@ module _ (table : List Definition) (passes : TablePasses table) (short : TableHa
 
   module _ (desc : Desc) (fine : IsFine desc) where
     fields_sound : (shown : Desc → Desc) → ((d : Desc) → IsFine d → IsSound (schema_json table (shown d)))
-        → AllByRecursion (λ f. IsSound (schema_json table (shown f.desc))) (fields_in table desc)
+        → AllByRecursion (λ f. IsSound (schema_json table (shown f.desc))) (listed_fields table desc)
     fields_sound shown sound =
-        each_contained (λ f. IsSound (schema_json table (shown f.desc))) (fields_in table desc)
+        each_contained (λ f. IsSound (schema_json table (shown f.desc))) (listed_fields table desc)
         (λ f c. sound f.desc ((shown_fine desc fine).each f c))
 
     pub listed_sound : (place : List ℕ) (shown : Desc → Desc)
         → ((d : Desc) → IsFine d → IsSound (schema_json table (shown d)))
-        → AllByRecursion IsSoundParameter (field_parameters place shown table (fields_in table desc))
+        → AllByRecursion IsSoundParameter (field_parameters place shown table (listed_fields table desc))
     listed_sound place shown sound =
-        each_made IsSoundParameter (parameter_of place shown table) (sorted_by field_name (fields_in table desc))
-        (all_sorted (λ f. IsSound (schema_json table (shown f.desc))) field_name (fields_in table desc)
+        each_made IsSoundParameter (parameter_of place shown table) (sorted_by field_name (listed_fields table desc))
+        (all_sorted (λ f. IsSound (schema_json table (shown f.desc))) field_name (listed_fields table desc)
         (fields_sound shown sound))
 
-    scanned_sound : AllByRecursion IsSoundParameter (map (scan_parameter table) (fields_in table desc))
+    scanned_sound : AllByRecursion IsSoundParameter (map (scan_parameter table) (listed_fields table desc))
     scanned_sound =
-        each_made IsSoundParameter (scan_parameter table) (fields_in table desc) (fields_sound in_query in_query_sound)
+        each_made IsSoundParameter (scan_parameter table) (listed_fields table desc)
+            (fields_sound in_query in_query_sound)
 
   pub slot_sound : (slot : Slot) → SlotPasses table slot → SlotHasShortLengths slot
-      → AllByRecursion IsSoundParameter (slot_parameters table slot)
+      → AllByRecursion IsSoundParameter (slot_documented table slot)
   slot_sound (Path desc) right lengths =
       listed_sound desc (record { right = right; lengths = lengths }) (codes "path") (λ d. d) in_path_sound
   slot_sound (Query desc) right lengths =
@@ -180,7 +182,7 @@ module _ (table : List Definition) (passes : TablePasses table) (short : TableHa
       all_sorted IsSoundParameter parameter_name
       (parameter_of (codes "query") (λ desc. desc) [] limit_field
       ∷ parameter_of (codes "query") (λ desc. desc) [] token_field
-      ∷ map (scan_parameter table) (fields_in table scan))
+      ∷ map (scan_parameter table) (listed_fields table scan))
       (limit_sound, (token_sound, scanned_sound scan (record { right = right.0; lengths = lengths.0 })))
   slot_sound (TypedBody desc name) right lengths = tt
   slot_sound RawBody right lengths = tt

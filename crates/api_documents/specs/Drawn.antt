@@ -10,15 +10,15 @@ use Rattle.handler_shapes.specs.declared.shape.HandlerShape.{HandlerShape}
 use Rattle.handler_shapes.specs.declared.slot.Slot.{Slot}
 use Rattle.handler_shapes.specs.declared.slot.Slot.TheVariants.{Path, Query, Header, PagedQuery, TypedBody, RawBody}
 use Rattle.handler_shapes.specs.declared.slot.Slot.TheVariants.{StreamBody}
+use Rattle.endpoint_metadata.specs.Structs.{listed_fields}
 use Rattle.api_documents.specs.ErrorNames.{listed_error}
-use Rattle.api_documents.specs.Parameters.{fields_in}
 
 -- the fields that a slot is shown as; a body is no parameter
 abbrev pub shown_fields : List Definition → Slot → List Field
-shown_fields table (Path desc) = fields_in table desc
-shown_fields table (Query desc) = fields_in table desc
-shown_fields table (Header desc) = fields_in table desc
-shown_fields table (PagedQuery scan selector selector_table) = fields_in table scan
+shown_fields table (Path desc) = listed_fields table desc
+shown_fields table (Query desc) = listed_fields table desc
+shown_fields table (Header desc) = listed_fields table desc
+shown_fields table (PagedQuery scan selector selector_table) = listed_fields table scan
 shown_fields table (TypedBody desc name) = []
 shown_fields table RawBody = []
 shown_fields table StreamBody = []
@@ -44,7 +44,7 @@ pub data IsDrawn (shape : HandlerShape) : Desc → Type 0 where
       → Contains (shown_fields shape.table slot) field → IsDrawn shape (shown_as slot field.desc)
   as_content : (desc : Desc) (name : List ℕ) → shape.response.content ≡ contents.Json desc name → IsDrawn shape desc
   as_header : (desc : Desc) (field : Field) → shape.response.headers ≡ Some desc
-      → Contains (fields_in shape.table desc) field → IsDrawn shape field.desc
+      → Contains (listed_fields shape.table desc) field → IsDrawn shape field.desc
   in_response_header : (desc : Desc) (field : Field) → shape.response.headers ≡ Some desc
-      → Contains (fields_in shape.table desc) field → IsDrawn shape (in_query field.desc)
+      → Contains (listed_fields shape.table desc) field → IsDrawn shape (in_query field.desc)
   as_error : (error : ApiEndpointErrorResponse) → listed_error shape ≡ Some error → IsDrawn shape error.desc

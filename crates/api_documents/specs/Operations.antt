@@ -4,24 +4,26 @@ use Rattle.std.specs.Prelude.{ℕ, List, map, Option, option_map, codes}
 use Rattle.openapi_values.specs.declared.operation.Operation.{Operation}
 use Rattle.openapi_values.specs.declared.operation.PathItem.{PathItem}
 use Rattle.api_declarations.specs.Values.{DeclarationValue}
+use Rattle.endpoint_metadata.specs.Modes.{first_asked}
+use Rattle.endpoint_metadata.specs.Shown.{documented_parameters}
 use Rattle.api_documents.specs.Bodies.{body_of}
 use Rattle.api_documents.specs.ErrorNames.{NamedErrorValue}
 use Rattle.api_documents.specs.Listed.{endpoint_of, paths_in_order}
-use Rattle.api_documents.specs.Parameters.{pages_of, parameters_of}
 use Rattle.api_documents.specs.Responses.{responses_of}
 
--- the operation that an endpoint is listed as
+-- the operation that an endpoint is listed as; its extension `x-dropshot-pagination` has the names that a request for
+-- the first page must have
 abbrev pub operation_of : List NamedErrorValue → DeclarationValue → Operation
 operation_of named d = record {
   tags = d.tags;
   summary = d.summary;
   description = d.description;
   operation_id = d.operation_id;
-  parameters = parameters_of d.shape.table d.shape.slots;
+  parameters = documented_parameters d.shape.table d.shape.slots;
   request_body = body_of d.body_content_type d.shape.table d.shape.slots;
   responses = responses_of named d.shape;
   deprecated = d.deprecated;
-  pagination = pages_of d.shape.table d.shape.slots;
+  pagination = first_asked d.shape.table d.shape.slots;
 }
 
 -- the operation of a path and a method

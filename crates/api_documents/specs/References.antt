@@ -18,9 +18,9 @@ use Rattle.handler_shapes.specs.declared.shape.HandlerShape.{HandlerShape}
 use Rattle.handler_shapes.specs.declared.slot.Slot.{Slot}
 use Rattle.handler_shapes.specs.declared.slot.Slot.TheVariants.{Path, Query, Header, PagedQuery, TypedBody, RawBody}
 use Rattle.handler_shapes.specs.declared.slot.Slot.TheVariants.{StreamBody}
+use Rattle.endpoint_metadata.specs.Structs.{listed_fields}
 use Rattle.api_documents.specs.ErrorNames.{listed_error}
 use Rattle.api_documents.specs.Ordered.{in_text_order, is_among, with_texts}
-use Rattle.api_documents.specs.Parameters.{fields_in}
 
 -- some names
 abbrev pub Names : Type 0
@@ -96,10 +96,10 @@ reached_within table roots (suc n) = with_referred table (reached_within table r
 
 -- those of a slot: of parameters each field has a schema, and the struct itself has none
 abbrev pub roots_of_slot : List Definition → Slot → Names
-roots_of_slot table (Path desc) = references_in_fields (fields_in table desc)
-roots_of_slot table (Query desc) = references_in_fields (fields_in table desc)
-roots_of_slot table (Header desc) = references_in_fields (fields_in table desc)
-roots_of_slot table (PagedQuery scan selector selector_table) = references_in_fields (fields_in table scan)
+roots_of_slot table (Path desc) = references_in_fields (listed_fields table desc)
+roots_of_slot table (Query desc) = references_in_fields (listed_fields table desc)
+roots_of_slot table (Header desc) = references_in_fields (listed_fields table desc)
+roots_of_slot table (PagedQuery scan selector selector_table) = references_in_fields (listed_fields table scan)
 roots_of_slot table (TypedBody desc name) = references desc
 roots_of_slot table RawBody = []
 roots_of_slot table StreamBody = []
@@ -113,7 +113,7 @@ roots_of_content contents.Freeform = []
 -- those of the headers of a response
 abbrev pub roots_of_headers : List Definition → Option Desc → Names
 roots_of_headers table None = []
-roots_of_headers table (Some desc) = references_in_fields (fields_in table desc)
+roots_of_headers table (Some desc) = references_in_fields (listed_fields table desc)
 
 -- those of the error that is listed
 abbrev pub roots_of_error : Option ApiEndpointErrorResponse → Names

@@ -15,9 +15,9 @@ use Rattle.handler_shapes.specs.declared.shape.ApiEndpointResponse.{ApiEndpointR
 use Rattle.handler_shapes.specs.declared.shape.ContentShape.{ContentShape}
 use Rattle.handler_shapes.specs.declared.shape.ContentShape.TheVariants as contents
 use Rattle.handler_shapes.specs.declared.shape.HandlerShape.{HandlerShape}
+use Rattle.endpoint_metadata.specs.Structs.{listed_fields}
 use Rattle.api_documents.specs.Bodies.{media}
 use Rattle.api_documents.specs.ErrorNames.{NamedErrorValue, listed_error, name_of_error}
-use Rattle.api_documents.specs.Parameters.{fields_in}
 
 -- a header of a response, described, required and written as a parameter of a query
 abbrev pub header_of : Parameter → List ℕ × HeaderObject
@@ -34,7 +34,7 @@ header_of p = (
 -- the headers of a response, in the order of their names
 abbrev pub headers_of : List Definition → Option Desc → List (List ℕ × HeaderObject)
 headers_of table None = []
-headers_of table (Some desc) = map header_of (query_parameters table (fields_in table desc))
+headers_of table (Some desc) = map header_of (query_parameters table (listed_fields table desc))
 
 -- the content of a success: JSON, with the name of its type as title unless it is a reference; none; or anything
 abbrev pub content_of : List Definition → ContentShape → List (List ℕ × MediaType)

@@ -3,8 +3,8 @@ ghost use Rattle.std.specs.Prelude.{◌≡◌, IfOk, IsTrue, OnOk, ◌++◌, ◌
 ghost use Rattle.schema_values.specs.Ascii.{all_ascii};
 ghost use Rattle.typed_values.specs.Checks.{TablePasses};
 ghost use Rattle.typed_values.specs.SchemaTable.{schema_json_titled};
-ghost use Rattle.api_documents.specs.Bodies.{binary_body, binary_schema, body_of, media};
-ghost use Rattle.api_documents.specs.Bodies.{slot_body, text_member};
+ghost use Rattle.endpoint_metadata.specs.Shown.{binary_body, binary_schema, body_documented};
+ghost use Rattle.api_documents.specs.Bodies.{body_of, media, text_member};
 
 use handler_shapes::Slot;
 use openapi_values::{MediaType, RequestBody};
@@ -39,7 +39,7 @@ fn slot_body(
     slot: &Slot,
 ) -> Result<Option<RequestBody>, AllocError>
     requires { TablePasses table.now }
-    ensures { IfOk result (λ body. body ≡ slot_body kind table.now slot.now) }
+    ensures { IfOk result (λ body. body ≡ body_documented kind table.now slot.now) }
 {
     match slot {
         Slot::TypedBody(desc, name) => {

@@ -9,9 +9,10 @@ ghost use Rattle.api_documents.specs.Places.{item_at, operation_by};
 use crate::bodies::body_of;
 use crate::error_names::NamedError;
 use crate::listed::{ListedPaths, at_method};
-use crate::parameters::{pages_of, parameters};
+use crate::parameters::{first_asked, parameters};
 use crate::responses::responses;
 use api_declarations::Declaration;
+use endpoint_metadata::copy_texts;
 use openapi_values::{Operation, PathItem};
 use schema_values::{Boxed, List, Text};
 use std::alloc::{AllocError, Global};
@@ -119,7 +120,7 @@ fn operation_of(
     let slots = shape.slots.as_slice();
     let tags = copy_texts(alloc, declaration.tags.as_slice())?;
     let operation_id = declaration.operation_id.copy(alloc)?;
-    let pagination = pages_of(alloc, &shape.table, slots)?;
+    let pagination = first_asked(alloc, &shape.table, slots)?;
     let parameters = parameters(alloc, &shape.table, slots)?;
     let responses = responses(alloc, named, shape)?;
     let request_body = body_of(alloc, declaration.body_content_type, &shape.table, slots)?;
@@ -135,16 +136,6 @@ fn operation_of(
         deprecated: declaration.deprecated,
         pagination,
     })
-}
-
-fn copy_texts(alloc: Global, texts: &[Text]) -> Result<List<Text>, AllocError>
-    ensures { IfOk result (λ copies. copies ≡ texts.now) }
-{
-    let mut copies = List::new(alloc);
-    for text in texts {
-        copies.push(text.copy(alloc)?)?;
-    }
-    Ok(copies)
 }
 
 // Copies of two texts, where they are there.

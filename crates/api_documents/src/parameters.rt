@@ -2,24 +2,26 @@
 ghost use Rattle.std.specs.Prelude.{◌≡◌, ◌++◌, [], Some, IfOk, IsTrue, OnOk, codes, false, map};
 ghost use Rattle.schema_values.specs.Ascii.{all_ascii};
 ghost use Rattle.schema_values.specs.Order.{sorted_by};
-ghost use Rattle.typed_values.specs.Checks.{DescPasses, TablePasses};
+ghost use Rattle.typed_values.specs.Checks.{TablePasses};
 ghost use Rattle.typed_values.specs.SchemaTable.{schema_json};
 ghost use Rattle.descriptors.specs.declared.desc.Desc.{Option as OptionOf};
-ghost use Rattle.written_texts.specs.FieldParameters.{field_parameters, is_required, parameter_of};
-ghost use Rattle.written_texts.specs.FieldParameters.{query_parameters};
-ghost use Rattle.written_texts.specs.PageParameters.{first_page_names, limit_field, page_parameters};
-ghost use Rattle.written_texts.specs.PageParameters.{parameter_name, scan_parameter, token_field};
-ghost use Rattle.handler_shapes.specs.ShapeChecks.{SlotPasses, SlotsPass};
-ghost use Rattle.api_documents.specs.Parameters.{fields_in, location_of, pages_of, parameters_of};
-ghost use Rattle.api_documents.specs.Parameters.{shown_in, slot_parameters};
+ghost use Rattle.written_texts.specs.FieldParameters.{field_parameters, parameter_of, query_parameters};
+ghost use Rattle.written_texts.specs.PageParameters.{limit_field, page_parameters, parameter_name};
+ghost use Rattle.written_texts.specs.PageParameters.{scan_parameter, token_field};
+ghost use Rattle.endpoint_metadata.specs.Modes.{first_asked};
+ghost use Rattle.endpoint_metadata.specs.Parameters.{written_in};
+ghost use Rattle.endpoint_metadata.specs.Shown.{documented_parameters, slot_documented};
+ghost use Rattle.api_documents.specs.Parameters.{location_of};
 
 use crate::placed::placed_schema;
-use flat_maps::fields_of;
+use endpoint_metadata::{
+    ApiEndpointParameterLocation as Location, asked_names, is_required, listed_fields,
+};
 use handler_shapes::Slot;
 use openapi_values::Parameter;
 use schema_values::{Boxed, HasName, Json, List, Text, copy_text, in_order, sort_by_name};
 use std::alloc::{AllocError, Global};
-use typed_values::{Desc, DescTable, Field, IntKind, Presence, SchemaPlace};
+use typed_values::{Desc, DescTable, Field, IntKind};
 
 /// A parameter, which is put in the order of names.
 #[derive(Drop)]
@@ -43,9 +45,8 @@ pub(crate) fn parameters(
     table: &DescTable,
     slots: &[Slot],
 ) -> Result<List<Parameter>, AllocError>
-    requires table { TablePasses table.now }
-    requires slots { SlotsPass table.now slots.now }
-    ensures { IfOk result (λ parameters. parameters ≡ parameters_of table.now slots.now) }
+    requires { TablePasses table.now }
+    ensures { IfOk result (λ parameters. parameters ≡ documented_parameters table.now slots.now) }
 {
     let mut parameters = List::new(alloc);
     for slot in slots {
@@ -68,30 +69,20 @@ fn slot_parameters(
     table: &DescTable,
     slot: &Slot,
 ) -> Result<List<Parameter>, AllocError>
-    requires table { TablePasses table.now }
-    requires slot { SlotPasses table.now slot.now }
-    ensures { IfOk result (λ parameters. parameters ≡ slot_parameters table.now slot.now) }
+    requires { TablePasses table.now }
+    ensures { IfOk result (λ parameters. parameters ≡ slot_documented table.now slot.now) }
 {
     match slot {
         Slot::Path(desc) => {
-            field_parameters(alloc, table, fields_in(table, desc), SchemaPlace::Plain)
+            field_parameters(alloc, table, listed_fields(table, desc), Location::Path)
         }
-        Slot::Query(desc) => query_parameters(alloc, table, fields_in(table, desc)),
+        Slot::Query(desc) => query_parameters(alloc, table, listed_fields(table, desc)),
         Slot::Header(desc) => {
-            field_parameters(alloc, table, fields_in(table, desc), SchemaPlace::Header)
+            field_parameters(alloc, table, listed_fields(table, desc), Location::Header)
         }
-        Slot::PagedQuery { scan, .. } => page_parameters(alloc, table, fields_in(table, scan)),
+        Slot::PagedQuery { scan, .. } => page_parameters(alloc, table, listed_fields(table, scan)),
         Slot::TypedBody(..) | Slot::RawBody | Slot::StreamBody => Ok(List::new(alloc)),
     }
-}
-
-/// The fields that are shown of a struct; what is no struct has none.
-pub(crate) fn fields_in<'a>(table: &'a DescTable, desc: &'a Desc) -> &'a [Field]
-    requires table { TablePasses table.now }
-    requires desc { DescPasses table.now desc.now }
-    ensures { result.now ≡ fields_in table.now desc.now }
-{
-    fields_of(table, desc).unwrap_or(&[])
 }
 
 /// The parameters of the fields of a query.
@@ -103,19 +94,19 @@ pub(crate) fn query_parameters(
     requires { TablePasses table.now }
     ensures { IfOk result (λ parameters. parameters ≡ query_parameters table.now fields.now) }
 {
-    field_parameters(alloc, table, fields, SchemaPlace::Query)
+    field_parameters(alloc, table, fields, Location::Query)
 }
 
-// The parameters of fields whose schemas are written as in a place, in the order of their names.
+// The parameters of fields in a place, in the order of their names.
 fn field_parameters(
     alloc: Global,
     table: &DescTable,
     fields: &[Field],
-    place: SchemaPlace,
+    place: Location,
 ) -> Result<List<Parameter>, AllocError>
     requires { TablePasses table.now }
     ensures { IfOk result (λ parameters. parameters
-        ≡ field_parameters (location_of place) (shown_in place) table.now fields.now) }
+        ≡ field_parameters (location_of place) (written_in place) table.now fields.now) }
 {
     let mut parameters = List::new(alloc);
     for field in in_order(alloc, fields)? {
@@ -128,11 +119,11 @@ fn field_parameter(
     alloc: Global,
     table: &DescTable,
     field: &Field,
-    place: SchemaPlace,
+    place: Location,
 ) -> Result<Parameter, AllocError>
     requires { TablePasses table.now }
     ensures { IfOk result (λ parameter. parameter
-        ≡ parameter_of (location_of place) (shown_in place) table.now field.now) }
+        ≡ parameter_of (location_of place) (written_in place) table.now field.now) }
 {
     Ok(Parameter {
         location: Text::from_ascii(alloc, location_of(place))?,
@@ -143,15 +134,15 @@ fn field_parameter(
     })
 }
 
-// The member `in` of parameters whose schemas are written as in a place.
-fn location_of(place: SchemaPlace) -> &'static str
+// The member `in` of the parameters of a place.
+fn location_of(place: Location) -> &'static str
     ensures text { result.now ≡ location_of place }
     ensures ascii { IsTrue (all_ascii result.now) }
 {
     match place {
-        SchemaPlace::Plain => "path",
-        SchemaPlace::Header => "header",
-        SchemaPlace::Query => "query",
+        Location::Path => "path",
+        Location::Query => "query",
+        Location::Header => "header",
     }
 }
 
@@ -229,13 +220,13 @@ fn own_parameter(
     })
 }
 
-// The schema of an option over what refers to no definition.
+// The schema of an option over what refers to no definition, which is written as it is, as in a path.
 fn option_schema(alloc: Global, desc: Desc) -> Result<Json, AllocError>
     ensures { IfOk result (λ schema. schema ≡ schema_json [] (OptionOf desc)) }
 {
     let table = DescTable::new(alloc);
     let option = Desc::Option(Boxed::new(alloc, desc)?);
-    placed_schema(alloc, &table, &option, SchemaPlace::Plain)
+    placed_schema(alloc, &table, &option, Location::Path)
 }
 
 // A field of what is scanned, which a request for a later page leaves out.
@@ -243,15 +234,9 @@ fn scan_parameter(alloc: Global, table: &DescTable, field: &Field) -> Result<Par
     requires { TablePasses table.now }
     ensures { IfOk result (λ parameter. parameter ≡ scan_parameter table.now field.now) }
 {
-    let mut parameter = field_parameter(alloc, table, field, SchemaPlace::Query)?;
+    let mut parameter = field_parameter(alloc, table, field, Location::Query)?;
     parameter.required = false;
     Ok(parameter)
-}
-
-fn is_required(presence: &Presence) -> bool
-    ensures { result ≡ is_required presence.now }
-{
-    matches!(presence, Presence::Required)
 }
 
 // Parameters in the order of their names.
@@ -271,31 +256,18 @@ fn in_name_order(
 }
 
 /// The names that a request for the first page must have, of the first slot of pages.
-pub(crate) fn pages_of(
+pub(crate) fn first_asked(
     alloc: Global,
     table: &DescTable,
     slots: &[Slot],
 ) -> Result<Option<List<Text>>, AllocError>
-    requires table { TablePasses table.now }
-    requires slots { SlotsPass table.now slots.now }
-    ensures { IfOk result (λ pages. pages ≡ pages_of table.now slots.now) }
+    requires { TablePasses table.now }
+    ensures { IfOk result (λ names. names ≡ first_asked table.now slots.now) }
 {
     for slot in slots {
-        if let Slot::PagedQuery { scan, .. } = slot {
-            return Ok(Some(first_page_names(alloc, fields_in(table, scan))?));
+        if let Some(names) = asked_names(alloc, table, slot)? {
+            return Ok(Some(names));
         }
     }
     Ok(None)
-}
-
-fn first_page_names(alloc: Global, fields: &[Field]) -> Result<List<Text>, AllocError>
-    ensures { IfOk result (λ names. names ≡ first_page_names fields.now) }
-{
-    let mut names = List::new(alloc);
-    for field in in_order(alloc, fields)? {
-        if is_required(&field.presence) {
-            names.push(field.name.copy(alloc)?)?;
-        }
-    }
-    Ok(names)
 }

@@ -4,12 +4,13 @@ ghost use Rattle.openapi_values.specs.Refusal.{refusal_of};
 ghost use Rattle.openapi_values.specs.SchemaJson.{schema_json as json_written};
 ghost use Rattle.typed_values.specs.Checks.{TablePasses};
 ghost use Rattle.typed_values.specs.SchemaTable.{schema_json};
-ghost use Rattle.api_documents.specs.Parameters.{shown_in};
+ghost use Rattle.endpoint_metadata.specs.Parameters.{written_in};
 
+use endpoint_metadata::{ApiEndpointParameterLocation, schema_in};
 use openapi_values::{J2oasError, j2oas_schema};
 use schema_values::{Json, Schema};
 use std::alloc::{AllocError, Global};
-use typed_values::{Desc, DescTable, SchemaPlace, schema_of};
+use typed_values::{Desc, DescTable};
 use written_schemas::schemas_written;
 
 /// The schema of a type as it stands in a place.
@@ -17,13 +18,13 @@ pub(crate) fn placed_schema(
     alloc: Global,
     table: &DescTable,
     desc: &Desc,
-    place: SchemaPlace,
+    place: ApiEndpointParameterLocation,
 ) -> Result<Json, AllocError>
     requires { TablePasses table.now }
-    ensures { IfOk result (λ json. json ≡ schema_json table.now (shown_in place desc.now)) }
+    ensures { IfOk result (λ json. json ≡ schema_json table.now (written_in place desc.now)) }
 {
     schemas_written();
-    let schema = schema_of(alloc, table, desc, place)?;
+    let schema = schema_in(alloc, table, place, desc)?;
     written(alloc, &schema)
 }
 

@@ -3,15 +3,15 @@ ghost use Rattle.std.specs.Prelude.{◌≡◌, ◌++◌, IfOk, OnOk};
 ghost use Rattle.std.specs.List.{flat_map};
 ghost use Rattle.std.specs.Option.{option_copied};
 ghost use Rattle.typed_values.specs.Checks.{TablePasses};
-ghost use Rattle.handler_shapes.specs.ShapeChecks.{HeadersPass, ShapePasses, SlotPasses, SlotsPass};
+ghost use Rattle.handler_shapes.specs.ShapeChecks.{ShapePasses};
 ghost use Rattle.api_documents.specs.Ordered.{with_texts};
 ghost use Rattle.api_documents.specs.References.{reached_names, referred_by, roots_of};
 ghost use Rattle.api_documents.specs.References.{roots_of_content, roots_of_error};
 ghost use Rattle.api_documents.specs.References.{roots_of_headers, roots_of_slot};
 
 use crate::error_names::listed_error;
-use crate::parameters::fields_in;
 use crate::references::{add_field_references, add_references};
+use endpoint_metadata::listed_fields;
 use handler_shapes::{ApiEndpointErrorResponse, ContentShape, HandlerShape, Slot};
 use schema_values::{List, Text};
 use std::alloc::{AllocError, Global};
@@ -82,8 +82,7 @@ fn add_roots_of_slots(
     table: &DescTable,
     slots: &[Slot],
 ) -> Result<(), AllocError>
-    requires table { TablePasses table.now }
-    requires slots { SlotsPass table.now slots.now }
+    requires { TablePasses table.now }
     ensures { OnOk result (names.new ≡ names.old ++ flat_map (roots_of_slot table.now) slots.now) }
 {
     for slot in slots {
@@ -98,15 +97,18 @@ fn add_roots_of_slot(
     table: &DescTable,
     slot: &Slot,
 ) -> Result<(), AllocError>
-    requires table { TablePasses table.now }
-    requires slot { SlotPasses table.now slot.now }
+    requires { TablePasses table.now }
     ensures { OnOk result (names.new ≡ names.old ++ roots_of_slot table.now slot.now) }
 {
     match slot {
-        Slot::Path(desc) => add_field_references(alloc, names, fields_in(table, desc)),
-        Slot::Query(desc) => add_field_references(alloc, names, fields_in(table, desc)),
-        Slot::Header(desc) => add_field_references(alloc, names, fields_in(table, desc)),
-        Slot::PagedQuery { scan, .. } => add_field_references(alloc, names, fields_in(table, scan)),
+        Slot::Path(desc) => add_field_references(alloc, names, listed_fields(table, desc)),
+        Slot::Query(desc) => add_field_references(alloc, names, listed_fields(table, desc)),
+        Slot::Header(desc) => add_field_references(alloc, names, listed_fields(table, desc)),
+        Slot::PagedQuery { scan, .. } => add_field_references(
+            alloc,
+            names,
+            listed_fields(table, scan),
+        ),
         Slot::TypedBody(desc, _) => add_references(alloc, names, desc),
         Slot::RawBody | Slot::StreamBody => Ok(()),
     }
@@ -131,12 +133,11 @@ fn add_roots_of_headers(
     table: &DescTable,
     headers: &Option<Desc>,
 ) -> Result<(), AllocError>
-    requires table { TablePasses table.now }
-    requires headers { HeadersPass table.now headers.now }
+    requires { TablePasses table.now }
     ensures { OnOk result (names.new ≡ names.old ++ roots_of_headers table.now headers.now) }
 {
     match headers {
-        Some(desc) => add_field_references(alloc, names, fields_in(table, desc)),
+        Some(desc) => add_field_references(alloc, names, listed_fields(table, desc)),
         None => Ok(()),
     }
 }

@@ -2,14 +2,15 @@
 ghost use Rattle.std.specs.Prelude.{◌≡◌, ◌++◌, [], IfOk, OnOk, map};
 ghost use Rattle.std.specs.Option.{option_copied, option_map_or};
 ghost use Rattle.typed_values.specs.Checks.{TablePasses};
-ghost use Rattle.handler_shapes.specs.ShapeChecks.{HeadersPass, ResponsePasses, ShapePasses};
+ghost use Rattle.handler_shapes.specs.ShapeChecks.{ShapePasses};
 ghost use Rattle.api_documents.specs.ErrorNames.{name_of_error};
 ghost use Rattle.api_documents.specs.Responses.{code_text, content_of, error_responses, header_of};
 ghost use Rattle.api_documents.specs.Responses.{headers_of, reference_to, responses_of, success_of};
 
 use crate::bodies::{content, media};
 use crate::error_names::{NamedError, listed_error, name_of_error};
-use crate::parameters::{fields_in, query_parameters};
+use crate::parameters::query_parameters;
+use endpoint_metadata::listed_fields;
 use handler_shapes::{ApiEndpointErrorResponse, ApiEndpointResponse, ContentShape, HandlerShape};
 use http::StatusCode;
 use openapi_values::{HeaderObject, MediaType, Parameter, ResponseObject};
@@ -52,8 +53,7 @@ fn success(
     table: &DescTable,
     response: &ApiEndpointResponse,
 ) -> Result<ResponseObject, AllocError>
-    requires table { TablePasses table.now }
-    requires response { ResponsePasses table.now response.now }
+    requires { TablePasses table.now }
     ensures { IfOk result (λ success. success ≡ success_of table.now response.now) }
 {
     let description = Some(response.description.copy(alloc)?);
@@ -87,13 +87,12 @@ fn headers(
     table: &DescTable,
     desc: &Option<Desc>,
 ) -> Result<List<(Text, HeaderObject)>, AllocError>
-    requires table { TablePasses table.now }
-    requires headers { HeadersPass table.now desc.now }
+    requires { TablePasses table.now }
     ensures { IfOk result (λ headers. headers ≡ headers_of table.now desc.now) }
 {
     match desc {
         Some(desc) => {
-            let parameters = query_parameters(alloc, table, fields_in(table, desc))?;
+            let parameters = query_parameters(alloc, table, listed_fields(table, desc))?;
             as_headers(alloc, parameters)
         }
         None => Ok(List::new(alloc)),

@@ -3,3 +3,4 @@ pub mod AskedNames
 pub mod SchemasInOrder
 pub mod OneMore
 pub mod ShownSlots
+pub mod CallerLemmas

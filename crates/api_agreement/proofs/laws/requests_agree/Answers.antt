@@ -16,7 +16,7 @@ returns c = λ version ds configured info may d is shown.
     let named = errors_of (listed version ds) in
     let tested = and_from _ _ is.visible ((held d.versions version).1 is.held) in
     let here = kept (is_listed version) ds d is.declared tested in
-    let at = (c.documents_list.ensures version ds configured info may).each d is in
+    let at = (c.documents_list.ensures.lists version ds configured info may).each d is in
     agrees (open_api_json document) named d shown
     (All-contains (λ other. ShapePasses other.shape) (listed version ds) d may.passing here)
     (c.documents_define.ensures (listed version ds) configured info may.passing may.definitions d here)

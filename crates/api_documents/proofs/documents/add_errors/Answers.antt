@@ -25,7 +25,7 @@ loop-method-preserved c =
       | in-Some+in_ok-add_error w ↦
           c.loop-method.invariant
           ∙ one_added found text _ i none c.loop-method-test.true named w.in-Some.declaration.now
-              c.match-at_method.named
+          c.match-at_method.named
           (sym w.in-Some.ensures) (w.named-is ∙ w.in_ok-add_error.ensures)
       | in_default w ↦
           c.loop-method.invariant
