@@ -31,8 +31,8 @@ abbrev pub operation_at : List NamedErrorValue → List DeclarationValue → Lis
 operation_at named ds path method = option_map (operation_of named) (endpoint_of ds path method)
 
 -- the operations of a path, of each method by its name
-abbrev pub item_by : (List ℕ → Option Operation) → PathItem
-item_by operation = record {
+abbrev pub path_item_by : (List ℕ → Option Operation) → PathItem
+path_item_by operation = record {
   get = operation (codes "GET");
   put = operation (codes "PUT");
   post = operation (codes "POST");
@@ -45,7 +45,7 @@ item_by operation = record {
 
 -- the operations of a path, one for each method by which it is served
 abbrev pub path_item_of : List NamedErrorValue → List DeclarationValue → List ℕ → PathItem
-path_item_of named ds path = item_by (operation_at named ds path)
+path_item_of named ds path = path_item_by (operation_at named ds path)
 
 -- each path with its operations
 abbrev pub path_items : List NamedErrorValue → List DeclarationValue → List (List ℕ × PathItem)

@@ -9,7 +9,7 @@ use Rattle.path_templates.specs.Places.{first_at}
 use Rattle.api_declarations.specs.Values.{DeclarationValue}
 use Rattle.api_documents.specs.ErrorNames.{NamedErrorValue}
 use Rattle.api_documents.specs.Listed.{is_listed, method_names, path_of}
-use Rattle.api_documents.specs.Operations.{item_by, operation_of}
+use Rattle.api_documents.specs.Operations.{operation_of, path_item_by}
 
 -- the key of an endpoint by which it is looked up: its path, where it is listed
 abbrev pub path_keys : Parts → DeclarationValue → List (List ℕ)
@@ -29,4 +29,4 @@ operation_by named ds places method = option_map (operation_of named) (first_at 
 
 -- the operations at some places
 abbrev pub item_at : List NamedErrorValue → List DeclarationValue → List ℕ → PathItem
-item_at named ds places = item_by (operation_by named ds places)
+item_at named ds places = path_item_by (operation_by named ds places)
