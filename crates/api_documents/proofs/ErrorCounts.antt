@@ -58,6 +58,6 @@ module _ (ds : List DeclarationValue) where
 
   pub few_errors : length (listed_errors (in_order ds)) ≤ 8 * length ds
   few_errors =
-      let paths : length (paths_in_order ds) ≤ length (map path_of ds) = few_texts (map path_of ds) [] in
-      let once : length (paths_in_order ds) ≤ length ds = omega (arith, paths, length-map ds path_of) in
+      let once : length (paths_in_order ds) ≤ length ds =
+      omega (arith, few_texts (map path_of ds) [], length-map ds path_of) in
       through _ _ _ _ (few_found tabled_error (in_order ds)) (eight_each (paths_in_order ds)) once

@@ -2,11 +2,9 @@
 -- under the endpoint's own table, and to which the endpoint's operation refers.
 use Rattle.std.proofs.Common.{◌≡◌, ◌≢◌, ◌⊎◌, ℕ, ◌+◌, ◌*◌, ◌<◌, ◌≤◌, ◌^◌, Bool, true, false, cond, List, [], ◌∷◌}
 use Rattle.std.proofs.Common.{length, map, option_map, is_some, bytes_eq, Option, Some, None, codes}
-use Rattle.std.proofs.Common.{refl, sym, ◌∙◌, ap, ap₂, subst, inl, inr, arith}
+use Rattle.std.proofs.Common.{refl, sym, ◌∙◌, ap, subst, inl, inr, arith}
 use Rattle.std.specs.Prelude.{Contains, IsSome, find}
-use Rattle.std.specs.Fmt.{decimal}
 use Rattle.std.specs.BTreeMap.{is_at}
-use Rattle.std.specs.Option.{option_map_or}
 use Rattle.std.proofs.lemmas.Bool.{cases_Bool, or_cases, or_left, or_right, true≢false}
 use Rattle.std.proofs.lemmas.List.Elements.{All-contains}
 use Rattle.std.proofs.lemmas.Slice.Eq.{bytes_eq-Decides}
@@ -17,7 +15,7 @@ use Rattle.openapi_values.specs.declared.document.OpenApi.{OpenApi}
 use Rattle.openapi_values.specs.declared.info.Info.{Info}
 use Rattle.openapi_values.specs.declared.media.ResponseObject.{ResponseObject}
 use Rattle.openapi_values.specs.Admits.{methods}
-use Rattle.openapi_values.specs.Find.{value_at}
+use Rattle.openapi_values.specs.Find.{response_in}
 use Rattle.descriptors.specs.declared.table.Definition.{Definition}
 use Rattle.typed_values.specs.Checks.{DescPasses}
 use Rattle.typed_values.specs.SchemaTable.{schema_json_titled}
@@ -27,27 +25,26 @@ use Rattle.api_declarations.specs.Values.{DeclarationValue}
 use Rattle.api_documents.specs.Accepted.{DefinitionsAgree, HasListedMethod, MayBeListed, TablesAgree}
 use Rattle.api_documents.specs.Bodies.{media}
 use Rattle.api_documents.specs.Components.{error_entry, error_object}
-use Rattle.api_documents.specs.Defines.{LeadsToError}
+use Rattle.api_documents.specs.Defines.{LeadsToError, RefersToError}
 use Rattle.api_documents.specs.Documents.{document_listing, errors_of}
 use Rattle.api_documents.specs.ErrorNames.{NamedErrorValue, given_names, listed_error, listed_errors, same_error}
-use Rattle.api_documents.specs.ErrorNames.{name_of_error, shared_by, tabled_error, with_table}
+use Rattle.api_documents.specs.ErrorNames.{shared_by, tabled_error, with_table}
 use Rattle.api_documents.specs.Listed.{at_path, endpoint_of, in_order, method_names, path_of, paths_in_order}
 use Rattle.api_documents.specs.Operations.{operation_of}
 use Rattle.api_documents.specs.Ordered.{by_name, is_among, text_order}
-use Rattle.api_documents.specs.Responses.{code_text, error_responses, reference_to, responses_of, success_of}
 use Rattle.api_documents.specs.Tags.{Configured}
 use Rattle.api_documents.proofs.Among.{among_texts, at_itself, same_text}
 use Rattle.api_documents.proofs.Chosen.{first_pair, found as chosen_by, later_pairs}
 use Rattle.api_documents.proofs.Covered.{all_contained}
-use Rattle.api_documents.proofs.DecimalTexts.{no_decimal}
 use Rattle.api_documents.proofs.DistinctNames.{names_differ}
 use Rattle.api_documents.proofs.ErrorCounts.{few_errors}
+use Rattle.api_documents.proofs.ErrorReferences.{refers_to}
 use Rattle.api_documents.proofs.Joined.{each_mapped, in_filtered, in_joined}
 use Rattle.api_documents.proofs.ListsEndpoints.{found_itself}
-use Rattle.api_documents.proofs.NamedErrors.{each_error, own_code, own_error}
+use Rattle.api_documents.proofs.NamedErrors.{each_error, own_error}
 use Rattle.api_documents.proofs.SameSchemas.{shared_titled}
 use Rattle.api_documents.proofs.SchemasFound.{found, found_all, value_found}
-use Rattle.api_documents.proofs.SharedErrors.{errors_shared, same_error-is}
+use Rattle.api_documents.proofs.SharedErrors.{errors_shared, same_error-is, shared_itself}
 
 -- ---- each listed endpoint stands in the order of the operations
 
@@ -150,25 +147,6 @@ any_agree (first ∷ ds) agree d other c k =
         (subst (λ (x : DeclarationValue). Agree x d) there (first_pair Agree first ds agree d later))
     by_places (inr one) (inr two) rest = rest one two
 
--- ---- behind a success of digits stand the references to an error
-
-module _ (code : ℕ) (success : ResponseObject) (name : List ℕ) where
-  behind : (text : List ℕ) → decimal code ≢ text
-      → value_at text ((decimal code, success) ∷ error_responses name) ≡ value_at text (error_responses name)
-  behind text differ =
-      by_test (bytes_eq text (decimal code)) refl (find (λ pair. bytes_eq text pair.0) (error_responses name))
-    where
-      by_test : (b : Bool) → bytes_eq text (decimal code) ≡ b → (o : Option (List ℕ × ResponseObject))
-          → option_map (λ pair. pair.1) (cond b (Some (decimal code, success)) o) ≡ option_map (λ pair. pair.1) o
-      by_test true e o = absurd (differ (sym ((bytes_eq-Decides text (decimal code)).0 e)))
-      by_test false e o = refl
-
-  client_behind : value_at (codes "4XX") ((decimal code, success) ∷ error_responses name) ≡ Some (reference_to name)
-  client_behind = behind (codes "4XX") (no_decimal code (codes "4XX") refl)
-
-  server_behind : value_at (codes "5XX") ((decimal code, success) ∷ error_responses name) ≡ Some (reference_to name)
-  server_behind = behind (codes "5XX") (no_decimal code (codes "5XX") refl)
-
 few : (a b : ℕ) → a ≤ 8 * b → b < 2 ^ 64 → a + 2 < 10 ^ 64
 few a b le small = omega (arith, le, small)
 
@@ -222,17 +200,6 @@ module _ (ds : List DeclarationValue) (configured : Configured) (info : Info) (m
       (all_contained (λ (m : NamedErrorValue). DrawnAlike m.table m.error) named n (each_error DrawnAlike ds alike) k
       same)
 
-  responses_are : (code : ℕ) (name : List ℕ) → d.shape.response.success ≡ Some code
-      → name_of_error named error ≡ name
-      → responses_of named d.shape
-      ≡ (decimal code, success_of d.shape.table d.shape.response) ∷ error_responses name
-  responses_are code name succeeds name_is =
-      ap₂ (λ (success : Option ℕ) (o : Option ApiEndpointErrorResponse).
-      (code_text success, success_of d.shape.table d.shape.response)
-      ∷ option_map_or (λ error. error_responses (name_of_error named error)) o []) succeeds is
-      ∙ ap (λ (name : List ℕ). (decimal code, success_of d.shape.table d.shape.response) ∷ error_responses name)
-      name_is
-
   pub leads_to_error : LeadsToError document (operation_of named d) d.shape.table error
   leads_to_error =
       by_shared (shared_by error named) refl
@@ -246,17 +213,46 @@ module _ (ds : List DeclarationValue) (configured : Configured) (info : Info) (m
       by_shared (Some n) f some =
           let there = chosen_by (λ (m : NamedErrorValue). same_error error m.error) named n f in
           let same = sym ((same_error-is error n.error).0 there.1) in
-          let success = own_code d.shape error is in
-          let responses =
-          responses_are success.0 n.name success.1
-          (ap (λ (o : Option NamedErrorValue). option_map_or (λ (m : NamedErrorValue). m.name) o error.name) f) in
-          let full = success_of d.shape.table d.shape.response in
           record {
             name = n.name;
-            client = ap (value_at (codes "4XX")) responses ∙ client_behind success.0 full n.name;
-            server = ap (value_at (codes "5XX")) responses ∙ server_behind success.0 full n.name;
+            refers = refers_to named d error is n f;
             stands = value_found n.name (by_name (map error_entry named))
                 ∙ found_all n.name (map error_entry named) []
                 ∙ entry_found named n distinct there.0
                 ∙ ap Some (own_object n there.0 same);
           }
+
+-- ---- a response in a document is that of an error to which an operation refers
+
+named_by : (name : List ℕ) (named : List NamedErrorValue) → IsSome (found name (map error_entry named))
+    → (n : NamedErrorValue) × Contains named n × (n.name ≡ name)
+named_by name [] some = absurd (cc some)
+named_by name (first ∷ named) some = by_test (is_at (text_order name) first.name) refl some (named_by name named)
+  where
+    by_test : (b : Bool) → is_at (text_order name) first.name ≡ b
+        → IsSome (cond b (Some (error_object first)) (found name (map error_entry named)))
+        → (IsSome (found name (map error_entry named)) → (n : NamedErrorValue) × Contains named n × (n.name ≡ name))
+        → (n : NamedErrorValue) × Contains (first ∷ named) n × (n.name ≡ name)
+    by_test true e some rest = (first, contains_first first named, sym (same_text name first.name e))
+    by_test false e some rest =
+        let later = rest some in (later.0, contains_later first named later.0 later.1, later.2)
+
+pub refers_back : (ds : List DeclarationValue) (configured : Configured) (info : Info) (name : List ℕ)
+    → IsSome (response_in (document_listing ds configured info) name)
+    → (d : DeclarationValue) × Contains ds d × RefersToError (operation_of (errors_of ds) d) name
+refers_back ds configured info name some =
+    let named = errors_of ds in
+    let here = named_by name named
+    (subst IsSome
+    (value_found name (by_name (map error_entry named)) ∙ found_all name (map error_entry named) []) some) in
+    let n = here.0 in
+    let lists : List Definition → ApiEndpointErrorResponse → Type 0 =
+    λ table error. (d : DeclarationValue) × Contains ds d × (listed_error d.shape ≡ Some error) in
+    let own =
+    all_contained (λ (m : NamedErrorValue). lists m.table m.error) named n
+    (each_error lists ds (λ d c error is. (d, c, is))) here.1 in (
+      own.0,
+      own.1,
+      subst (RefersToError (operation_of named own.0)) here.2
+          (refers_to named own.0 n.error own.2 n (shared_itself (listed_errors (in_order ds)) n here.1)),
+    )

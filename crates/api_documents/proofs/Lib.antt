@@ -23,6 +23,7 @@ mod DecimalTexts
 mod NamedErrors
 mod SharedErrors
 mod ErrorCounts
+mod ErrorReferences
 mod ErrorsFound
 mod MentionedBack
 mod ReachedBack

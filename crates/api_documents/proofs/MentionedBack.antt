@@ -37,7 +37,7 @@ module _ (name : List ℕ) where
         | inl here ↦ (x, contains_first x xs, here)
         | inr later ↦
             let rest = from_joined f xs later in
-            (rest.0, contains_later x xs rest.0 rest.1.0, rest.1.1)
+            (rest.0, contains_later x xs rest.0 rest.1, rest.2)
       ]
 
   abbrev IsFrom : Desc → Type 0
@@ -75,26 +75,26 @@ module _ (name : List ℕ) where
   level_back d (Desc-F.Struct fs deny) e h =
       let all = map (λ k. k.0) fs in
       let field = from_joined (λ (f : Field). references f.desc) all (back d _ (of_struct d all deny e) h) in
-      inner d field.0.desc (in_field all deny field.0 the_whole e field.1.0)
-      (all_contained (InField IsFrom) all field.0 (each_holds (InField IsFrom) fs) field.1.0 field.1.1)
+      inner d field.0.desc (in_field all deny field.0 the_whole e field.1)
+      (all_contained (InField IsFrom) all field.0 (each_holds (InField IsFrom) fs) field.1 field.2)
   level_back d (Desc-F.External vs) e h =
       let all = map (λ k. k.0) vs in
       let variant = from_joined references_in_variant all (back d _ (of_external d all e) h) in
-      of_payload d all variant.0 e variant.1.0
-      (all_contained (InVariant IsFrom) all variant.0 (each_holds (InVariant IsFrom) vs) variant.1.0) variant.1.1
+      of_payload d all variant.0 e variant.1
+      (all_contained (InVariant IsFrom) all variant.0 (each_holds (InVariant IsFrom) vs) variant.1) variant.2
   level_back d (Desc-F.Tagged tag vs) e h =
       let all = map (λ k. k.0) vs in
       let variant = from_joined references_in_tagged all (back d _ (of_tagged d tag all e) h) in
-      let field = from_joined (λ (f : Field). references f.desc) (tagged_fields variant.0) variant.1.1 in
-      inner d field.0.desc (in_variant tag all variant.0 field.0 the_whole e variant.1.0 field.1.0)
+      let field = from_joined (λ (f : Field). references f.desc) (tagged_fields variant.0) variant.2 in
+      inner d field.0.desc (in_variant tag all variant.0 field.0 the_whole e variant.1 field.1)
       (all_contained (InField IsFrom) (tagged_fields variant.0) field.0
-      (all_contained (InTagged IsFrom) all variant.0 (each_holds (InTagged IsFrom) vs) variant.1.0) field.1.0
-      field.1.1)
+      (all_contained (InTagged IsFrom) all variant.0 (each_holds (InTagged IsFrom) vs) variant.1) field.1
+      field.2)
   level_back d (Desc-F.Untagged ds) e h =
       let all = map (λ k. k.0) ds in
       let choice = from_joined references all (back d _ (of_choice d all e) h) in
-      inner d choice.0 (in_alternative all choice.0 the_whole e choice.1.0)
-      (all_contained IsFrom all choice.0 (each_holds IsFrom ds) choice.1.0 choice.1.1)
+      inner d choice.0 (in_alternative all choice.0 the_whole e choice.1)
+      (all_contained IsFrom all choice.0 (each_holds IsFrom ds) choice.1 choice.2)
   level_back d (Desc-F.Ref other) e h =
       let same = of_single other (back d _ (references_row d (Desc-F.Ref other) e) h) in
       (d, the_whole, e ∙ ap Desc-F.Ref (sym same))

@@ -70,7 +70,7 @@ module _ (shape : HandlerShape) (name : List ℕ) where
       → is_among name (references_in_fields (shown_fields shape.table slot)) ≡ true → IsMentioned
   in_shown slot c h =
       let field = from_joined name (λ (f : Field). references f.desc) (shown_fields shape.table slot) h in
-      (field.0.desc, as_parameter slot field.0 c field.1.0, mentioned_back name field.0.desc field.1.1)
+      (field.0.desc, as_parameter slot field.0 c field.1, mentioned_back name field.0.desc field.2)
 
   of_slot : (slot : Slot) → Contains shape.slots slot → is_among name (roots_of_slot shape.table slot) ≡ true
       → IsMentioned
@@ -93,7 +93,7 @@ module _ (shape : HandlerShape) (name : List ℕ) where
   of_headers None is h = absurd (true≢false (sym h))
   of_headers (Some struct) is h =
       let field = from_joined name (λ (f : Field). references f.desc) (listed_fields shape.table struct) h in
-      (field.0.desc, as_header struct field.0 is field.1.0, mentioned_back name field.0.desc field.1.1)
+      (field.0.desc, as_header struct field.0 is field.1, mentioned_back name field.0.desc field.2)
 
   of_error : (o : Option ApiEndpointErrorResponse) → listed_error shape ≡ o → is_among name (roots_of_error o) ≡ true
       → IsMentioned
@@ -104,7 +104,7 @@ module _ (shape : HandlerShape) (name : List ℕ) where
   of_roots h = elim (split (flat_map (roots_of_slot shape.table) shape.slots) _ h) [
     | inl slots ↦
         let slot = from_joined name (roots_of_slot shape.table) shape.slots slots in
-        of_slot slot.0 slot.1.0 slot.1.1
+        of_slot slot.0 slot.1 slot.2
     | inr behind ↦ elim (split (roots_of_content shape.response.content) _ behind) [
       | inl content ↦ of_content shape.response.content refl content
       | inr later ↦ elim (split (roots_of_headers shape.table shape.response.headers) _ later) [
@@ -129,14 +129,14 @@ module _ (shape : HandlerShape) (passes : TablePasses shape.table) where
   one_further name e c true before h =
       let led = before refl in (
         led.0,
-        led.1.0,
-        through e.name name e led.1.1 (entry_itself shape.table e passes.once c) (mentioned_back name e.desc h),
+        led.1,
+        through e.name name e led.2 (entry_itself shape.table e passes.once c) (mentioned_back name e.desc h),
       )
 
   reached_back : (n : ℕ) (name : List ℕ) → is_among name (within n) ≡ true → IsLed name
   reached_back zero name h =
       let root = of_roots shape name (sym (among_texts name (roots_of shape) []) ∙ h) in
-      (root.0, root.1.0, directly name root.1.1)
+      (root.0, root.1, directly name root.2)
   reached_back (suc n) name h =
       elim (or_cases (is_among name (within n)) (is_among name (referred_by (within n) shape.table))
       (sym (among_texts name (referred_by (within n) shape.table) (within n)) ∙ h)) [
@@ -144,7 +144,7 @@ module _ (shape : HandlerShape) (passes : TablePasses shape.table) where
         | inr after ↦
             let some = from_joined name
             (λ (e : Definition). cond (is_among e.name (within n)) (references e.desc) []) shape.table after in
-            one_further name some.0 some.1.0 (is_among some.0.name (within n)) (reached_back n some.0.name) some.1.1
+            one_further name some.0 some.1 (is_among some.0.name (within n)) (reached_back n some.0.name) some.2
       ]
 
 -- ---- the document
@@ -170,7 +170,7 @@ module _ (name : List ℕ) where
           (option_map (schema_of first.shape.table) (entry_of first.shape.table name)) None) e in
           let later = rest
           (subst IsSome (ap (λ o. option_or o (found name (flat_map schema_entries ds))) none) some) in
-          (later.0, contains_later first ds later.0 later.1.0, later.1.1)
+          (later.0, contains_later first ds later.0 later.1, later.2)
 
 -- a document has no definition but those that a descriptor leads to of which a listed operation is drawn
 pub defines_no_more : (ds : List DeclarationValue) (configured : Configured) (info : Info)
@@ -182,6 +182,6 @@ defines_no_more ds configured info ok name some =
     (subst IsSome
     (value_found name (by_name (flat_map schema_entries ds)) ∙ found_all name (flat_map schema_entries ds) []) some) in
     let d = here.0 in
-    let passes = All-contains (λ (d : DeclarationValue). ShapePasses d.shape) ds d ok here.1.0 in
-    let led = reached_back d.shape passes.table (length d.shape.table) name here.1.1 in
-    (d, here.1.0, record { desc = led.0; drawn = led.1.0; reached = led.1.1 })
+    let passes = All-contains (λ (d : DeclarationValue). ShapePasses d.shape) ds d ok here.1 in
+    let led = reached_back d.shape passes.table (length d.shape.table) name here.2 in
+    (d, here.1, record { desc = led.0; drawn = led.1; reached = led.2 })

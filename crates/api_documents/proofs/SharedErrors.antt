@@ -4,12 +4,13 @@ use Rattle.std.proofs.Common.{Option, Some, None, refl, sym, ◌∙◌, ap, subs
 use Rattle.std.specs.Prelude.{Contains}
 use Rattle.std.specs.Option.{option_or}
 use Rattle.std.proofs.lemmas.Bool.{and_from, and_parts, true≢false}
+use Rattle.std.proofs.lemmas.List.Elements.{Contains-push_cases}
 use Rattle.std.proofs.lemmas.List.Folds.{find-append}
 use Rattle.std.proofs.lemmas.Slice.Eq.{bytes_eq-Decides}
 use Rattle.schema_values.proofs.CallerLemmas.{contains_cases}
 use Rattle.handler_shapes.specs.declared.shape.ApiEndpointErrorResponse.{ApiEndpointErrorResponse}
 use Rattle.api_documents.specs.ErrorNames.{NamedErrorValue, TabledError, newly_named, same_desc, same_error, shared_by}
-use Rattle.api_documents.specs.ErrorNames.{with_error}
+use Rattle.api_documents.specs.ErrorNames.{named_errors, with_error}
 use Rattle.api_documents.proofs.SameDescs.{same_desc-is}
 
 -- two errors are the same exactly where they are equal
@@ -79,3 +80,41 @@ module _ (x : ApiEndpointErrorResponse) where
         (own_shared named first))
     | inr later ↦ errors_shared es (with_error named first) e later is
   ]
+
+-- ---- each error that has a name is the first that is equal to it
+
+first_kept : (o p : Option NamedErrorValue) (n : NamedErrorValue) → o ≡ Some n → option_or o p ≡ Some n
+first_kept None p n is = absurd (cc is)
+first_kept (Some m) p n is = is
+
+second_taken : (o p : Option NamedErrorValue) → is_some o ≡ false → option_or o p ≡ p
+second_taken None p none = refl
+second_taken (Some m) p none = absurd (true≢false none)
+
+abbrev AreFirst : List NamedErrorValue → Type 0
+AreFirst named = (n : NamedErrorValue) → Contains named n → shared_by n.error named ≡ Some n
+
+first_with : (named : List NamedErrorValue) (e : TabledError) → AreFirst named → AreFirst (with_error named e)
+first_with named e before = by_test (is_some (shared_by e.error named)) refl
+  where
+    by_test : (b : Bool) → is_some (shared_by e.error named) ≡ b
+        → AreFirst (cond b named (named ++ newly_named named e ∷ []))
+    by_test true h = before
+    by_test false h = λ n c.
+        find-append (λ (m : NamedErrorValue). same_error n.error m.error) named (newly_named named e ∷ [])
+        ∙ elim (Contains-push_cases named (newly_named named e) n c) [
+          | inl earlier ↦ first_kept (shared_by n.error named) _ n (before n earlier)
+          | inr own ↦
+              subst (λ (m : NamedErrorValue).
+              option_or (shared_by m.error named) (shared_by m.error (newly_named named e ∷ [])) ≡ Some m) own
+              (second_taken (shared_by e.error named) (shared_by e.error (newly_named named e ∷ [])) h
+              ∙ ap (λ (b : Bool). cond b (Some (newly_named named e)) None) ((same_error-is e.error e.error).1 refl))
+        ]
+
+first_from : (es : List TabledError) (named : List NamedErrorValue) → AreFirst named
+    → AreFirst (fold with_error named es)
+first_from [] named before = before
+first_from (e ∷ es) named before = first_from es (with_error named e) (first_with named e before)
+
+pub shared_itself : (es : List TabledError) → AreFirst (named_errors es)
+shared_itself es = first_from es [] (λ n c. absurd (omega (arith, c.1)))

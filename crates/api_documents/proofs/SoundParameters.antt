@@ -1,5 +1,5 @@
 -- The schemas of parameters are sound, and the names of the fields that are shown of a struct are distinct.
-use Rattle.std.proofs.Common.{◌≡◌, ℕ, zero, suc, pos, List, [], ◌∷◌, map, Option, Some, None}
+use Rattle.std.proofs.Common.{◌≡◌, ℕ, zero, suc, pos, Bool, List, [], ◌∷◌, map, Option, Some, None}
 use Rattle.std.proofs.Common.{option_map, option_and_then, unwrap_or, codes, refl, sym, ◌∙◌, ap, subst, arith}
 use Rattle.std.specs.List.{AllByRecursion}
 use Rattle.std.specs.Prelude.{Contains}
@@ -168,7 +168,7 @@ module _ (table : List Definition) (passes : TablePasses table) (short : TableHa
     scanned_sound : AllByRecursion IsSoundParameter (map (scan_parameter table) (listed_fields table desc))
     scanned_sound =
         each_made IsSoundParameter (scan_parameter table) (listed_fields table desc)
-            (fields_sound in_query in_query_sound)
+        (fields_sound in_query in_query_sound)
 
   pub slot_sound : (slot : Slot) → SlotPasses table slot → SlotHasShortLengths slot
       → AllByRecursion IsSoundParameter (slot_documented table slot)

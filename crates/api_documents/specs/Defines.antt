@@ -13,13 +13,16 @@ use Rattle.api_documents.specs.Components.{error_object}
 use Rattle.api_documents.specs.Drawn.{IsDrawn}
 use Rattle.api_documents.specs.Responses.{reference_to}
 
--- For the statuses 400 to 499, and for 500 to 599, an operation refers to a response of one name, and under this name a
--- document has the response of an error, as it is drawn in a table.
+-- for the statuses 400 to 499, and for 500 to 599, an operation refers to the response of a name
+pub record RefersToError (operation : Operation) (name : List ℕ) : Type 0 where
+  pub client : value_at (codes "4XX") operation.responses ≡ Some (reference_to name)
+  pub server : value_at (codes "5XX") operation.responses ≡ Some (reference_to name)
+
+-- an operation does, and under the name a document has the response of an error, as it is drawn in a table
 pub record LeadsToError (document : OpenApi) (operation : Operation) (table : List Definition)
     (error : ApiEndpointErrorResponse) : Type 0 where
   pub name : List ℕ
-  pub client : value_at (codes "4XX") operation.responses ≡ Some (reference_to name)
-  pub server : value_at (codes "5XX") operation.responses ≡ Some (reference_to name)
+  pub refers : RefersToError operation name
   pub stands : response_in document name ≡ Some (error_object (record { name = name; table = table; error = error }))
 
 -- a descriptor of which a schema of an operation is drawn leads to the definition of a name

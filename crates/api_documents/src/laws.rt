@@ -7,14 +7,14 @@ ghost use Rattle.semver.specs.Parse.{Parts};
 ghost use Rattle.schema_values.specs.Sound.{AreDistinct, IsSound};
 ghost use Rattle.openapi_values.specs.declared.info.Info.{Info as InfoValue};
 ghost use Rattle.openapi_values.specs.Document.{open_api_json};
-ghost use Rattle.openapi_values.specs.Find.{definition_in};
+ghost use Rattle.openapi_values.specs.Find.{definition_in, response_in};
 ghost use Rattle.descriptors.specs.declared.desc.Desc.{Desc as Descriptor};
 ghost use Rattle.written_schemas.specs.Reached.{DefinesReached};
 ghost use Rattle.handler_shapes.specs.declared.shape.ApiEndpointErrorResponse.{ApiEndpointErrorResponse as Error};
 ghost use Rattle.handler_shapes.specs.ShapeChecks.{ShapePasses};
 ghost use Rattle.api_declarations.specs.Values.{DeclarationValue};
 ghost use Rattle.api_documents.specs.Accepted.{DefinitionsAgree, MayBeListed};
-ghost use Rattle.api_documents.specs.Defines.{LeadsToDefinition, LeadsToError};
+ghost use Rattle.api_documents.specs.Defines.{LeadsToDefinition, LeadsToError, RefersToError};
 ghost use Rattle.api_documents.specs.Documents.{document_json_of, document_listing, document_of, errors_of};
 ghost use Rattle.api_documents.specs.Drawn.{IsDrawn};
 ghost use Rattle.api_documents.specs.ErrorNames.{IsLeastFree, TabledError, free_name, given_names};
@@ -44,12 +44,16 @@ pub fn documents_define()
         → DefinesReached (open_api_json (document_listing ds configured info)) d.shape.table desc }
 {}
 
-/// A document has no schema but those of definitions to which the operation of an endpoint leads.
+/// A document has no schema but those of definitions to which the operation of an endpoint leads, and no
+/// response but those of errors to which one refers.
 pub fn documents_define_no_more()
-    ensures { (ds : ListOf DeclarationValue) (configured : Configured) (info : InfoValue)
+    ensures schemas { (ds : ListOf DeclarationValue) (configured : Configured) (info : InfoValue)
         → All (λ (d : DeclarationValue). ShapePasses d.shape) ds → (name : ListOf ℕ)
         → IsSome (definition_in (document_listing ds configured info) name)
         → (d : DeclarationValue) × Contains ds d × LeadsToDefinition d.shape name }
+    ensures responses { (ds : ListOf DeclarationValue) (configured : Configured) (info : InfoValue)
+        (name : ListOf ℕ) → IsSome (response_in (document_listing ds configured info) name)
+        → (d : DeclarationValue) × Contains ds d × RefersToError (operation_of (errors_of ds) d) name }
 {}
 
 /// The references of an operation to the response of its error lead to it: the document has it under the
