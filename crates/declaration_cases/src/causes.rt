@@ -2,12 +2,11 @@
 ghost use Rattle.std.specs.Prelude.{map};
 ghost use Rattle.api_registration.specs.EndpointIndexes.{IsIndexed};
 
-use crate::endpoint::PlainEndpoint;
-use crate::members::items_at;
 use crate::registered::{register, settings_at};
 use api_declarations::Declared;
 use api_registration::{ApiDescriptionRegisterError, EndpointIndex};
 use case_notation::{CaseError, word};
+use endpoint_notation::{PlainEndpoint, items_at};
 use schema_values::{Json, List, Text};
 use std::alloc::{AllocError, Global};
 use tag_config::TagConfig;

@@ -5,14 +5,12 @@ ghost use Rattle.std.specs.Prelude.{All, IsTrue, map};
 ghost use Rattle.handler_shapes.specs.ShapeChecks.{ShapePasses};
 ghost use Rattle.api_registration.specs.EndpointIndexes.{IsIndexed};
 
-use crate::endpoint::PlainEndpoint;
-use crate::members::{items_at, text_or};
 use crate::registered::{register, settings_at};
-use crate::requests::version_at;
 use api_declarations::{Declaration, Declared};
 use api_documents::document;
 use api_registration::{ApiDescriptionRegisterError, EndpointIndex};
 use case_notation::{CaseError, check_names, form, given, maybe_text, text_of};
+use endpoint_notation::{PlainEndpoint, items_at, text_or, version_at};
 use handler_shapes::shape_passes;
 use openapi_values::{Contact, Info, License, Part};
 use schema_values::{Json, List, Text};

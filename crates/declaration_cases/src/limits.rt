@@ -1,11 +1,9 @@
 //! The limits that a context tells its handler. `"request_body_max_bytes"` is the limit of the
 //! endpoint, where null is none, `"limit"` what the client asks for; `"greatest"` and `"default"`
 //! are the server's.
-use crate::members::{number_or, u64_of};
-use crate::requests::parts_of;
 use api_respond::{RequestContext, RequestEndpointMetadata};
 use case_notation::{CaseError, given, number_of};
-use http_status::{RequestId, RequestIdError};
+use endpoint_notation::{number_or, parts_of, request_id_of, u64_of};
 use request_parts::{ApiEndpointBodyContentType, ServerConfig};
 use schema_values::{Json, Text};
 use std::alloc::Global;
@@ -63,16 +61,8 @@ fn context_of(
     };
     Ok(RequestContext {
         endpoint,
-        request_id: request_id(alloc)?,
+        request_id: request_id_of(alloc, "123")?,
         request: parts_of(alloc, &Json::Null, &Json::Null)?.info,
         config,
     })
-}
-
-fn request_id(alloc: Global) -> Result<RequestId, CaseError> {
-    match RequestId::new(alloc, "123") {
-        Ok(id) => Ok(id),
-        Err(RequestIdError::BadRequestId) => Err(CaseError::Expected("an id")),
-        Err(RequestIdError::OutOfMemory) => Err(CaseError::OutOfMemory),
-    }
 }

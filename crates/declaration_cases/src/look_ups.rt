@@ -1,8 +1,7 @@
 //! Which endpoint serves a template and a method at a version.
-use crate::endpoint::{PlainEndpoint, endpoints_at};
-use crate::requests::{method_at, version_at};
 use api_declarations::endpoint_for;
 use case_notation::{CaseError, given, text_of, word};
+use endpoint_notation::{PlainEndpoint, endpoints_at, method_at, version_at};
 use schema_values::Json;
 use std::alloc::Global;
 

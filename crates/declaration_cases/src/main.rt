@@ -4,16 +4,12 @@
 mod answers;
 mod causes;
 mod documents;
-mod endpoint;
 mod extracts;
 mod limits;
 mod look_ups;
 mod media;
-mod members;
 mod path_params;
 mod registered;
-mod requests;
-mod shapes;
 mod streams;
 mod tag_settings;
 mod templates;

@@ -1,5 +1,4 @@
 //! Calls on media types, by the kinds of bodies that they name.
-use crate::members::text_or;
 use case_notation::{CaseError, given, pair, text_of, word};
 use request_parts::{ApiEndpointBodyContentType, Unsupported};
 use schema_values::{Json, Text};
@@ -16,12 +15,4 @@ pub fn media_kind(alloc: Global, case: &Json) -> Result<Json, CaseError> {
         }
         Err(Unsupported) => Ok(word(alloc, "unsupported")?),
     }
-}
-
-/// The kind of body under `body_content_type`, JSON where it is left out.
-pub fn kind_at(alloc: Global, noted: &Json) -> Result<ApiEndpointBodyContentType, CaseError> {
-    let media_type = text_or(alloc, noted, "body_content_type", "application/json")?;
-    ApiEndpointBodyContentType::from_mime_type(media_type.as_str())
-        .ok()
-        .ok_or(CaseError::Expected("the media type of a body"))
 }

@@ -3,11 +3,10 @@
 ghost use Rattle.std.specs.Prelude.{◌∷◌, [], codes};
 ghost use Rattle.api_types.specs.Heads.{required, struct_of};
 
-use crate::members::push_word;
-use crate::requests::variables_at;
 use api_extract::http_extract_path_params;
 use api_types::{ApiStruct, ApiType, StructHead, table_of};
 use case_notation::{CaseError, form, given, put, text_of, tree_noted};
+use endpoint_notation::{push_word, variables_at};
 use http_status::{HttpError, HttpRefusal};
 use schema_values::{Json, List, Text};
 use std::alloc::{AllocError, Global};

@@ -3,12 +3,12 @@
 ghost use Rattle.std.specs.Prelude.{OnOk, map};
 ghost use Rattle.api_registration.specs.EndpointIndexes.{IsIndexed};
 
-use crate::endpoint::{PlainEndpoint, endpoint_of};
 use api_declarations::Declared;
 use api_registration::{ApiDescriptionRegisterError, EndpointIndex, first_cause};
 use case_notation::CaseError;
+use endpoint_notation::{PlainEndpoint, add_endpoint, endpoint_of};
 use schema_values::{Json, List};
-use std::alloc::{AllocError, Global};
+use std::alloc::Global;
 use tag_config::TagConfig;
 use typed_values::DecodeError;
 
@@ -50,23 +50,8 @@ pub fn register(
     )? {
         Some(refusal) => Ok(Some(refusal)),
         None => {
-            add(alloc, registered, index, endpoint)?;
+            add_endpoint(alloc, registered, index, endpoint)?;
             Ok(None)
         }
     }
-}
-
-// Adds an endpoint behind some, and to their index.
-fn add(
-    alloc: Global,
-    registered: &mut List<PlainEndpoint>,
-    index: &mut EndpointIndex,
-    endpoint: Box<PlainEndpoint>,
-) -> Result<(), AllocError>
-    requires { IsIndexed (map ⟦<PlainEndpoint as Declared>⟧.declared registered.old) index.old }
-    ensures { OnOk result
-        (IsIndexed (map ⟦<PlainEndpoint as Declared>⟧.declared registered.new) index.new) }
-{
-    index.add(alloc, registered.as_slice(), &*endpoint)?;
-    registered.push(Box::into_inner(endpoint))
 }

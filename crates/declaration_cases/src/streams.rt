@@ -1,14 +1,11 @@
 //! Calls on bodies that are read data by data. `"content"` is the content of a body that is kept as
-//! bytes; else `"body"` has the frames of one, as requests.rt says, which is read under `"cap"` and
-//! `"budget"`. `"calls"` is how often data is asked for.
-use crate::members::{number_or, u64_of};
-use crate::requests::body_of;
-use body_reading::{StreamRefusal, StreamingBody};
-use case_notation::{CaseError, check_names, form, given, text_of, word};
-use http_status::HttpError;
-use schema_values::{Json, List, Text};
+//! bytes; else `"body"` has the frames of one, as requests.rt of `endpoint_notation` says, which is
+//! read under `"cap"` and `"budget"`. `"calls"` is how often data is asked for.
+use body_reading::StreamingBody;
+use case_notation::{CaseError, check_names, given, text_of};
+use endpoint_notation::{body_of, data_told, number_or, u64_of};
+use schema_values::{Json, List};
 use std::alloc::Global;
-use std::str;
 
 /// What each call on the body of a case gives.
 pub fn next_data_told(alloc: Global, case: &Json) -> Result<Json, CaseError> {
@@ -26,43 +23,4 @@ fn stream_of(alloc: Global, case: &Json) -> Result<StreamingBody, CaseError> {
     let cap = number_or(case, "cap", 1_024)?;
     let budget = number_or(case, "budget", 1_000)?;
     Ok(StreamingBody::new(body_of(alloc, noted)?, cap, budget))
-}
-
-/// What each of so many calls gives: data, the end, or why there is none.
-pub fn data_told(alloc: Global, stream: &mut StreamingBody, calls: u64) -> Result<Json, CaseError> {
-    let mut answers = List::new(alloc);
-    for _ in 0..calls {
-        answers.push(answer_told(alloc, stream.next_data(alloc))?)?;
-    }
-    Ok(Json::List(answers))
-}
-
-fn answer_told(
-    alloc: Global,
-    answer: Result<Option<List<u8>>, StreamRefusal>,
-) -> Result<Json, CaseError> {
-    match answer {
-        Ok(Some(data)) => Ok(form(alloc, "data", bytes_noted(alloc, data.as_slice())?)?),
-        Ok(None) => Ok(word(alloc, "end")?),
-        Err(StreamRefusal::Fault(error)) => message_told(alloc, "fault", error),
-        Err(StreamRefusal::TooLarge(error)) => message_told(alloc, "too_large", error),
-        Err(StreamRefusal::FrameBudget(error)) => message_told(alloc, "frame_budget", error),
-        Err(StreamRefusal::Closed) => Ok(word(alloc, "closed")?),
-        Err(StreamRefusal::OutOfMemory) => Err(CaseError::OutOfMemory),
-    }
-}
-
-fn message_told(alloc: Global, name: &str, error: HttpError) -> Result<Json, CaseError> {
-    Ok(form(alloc, name, Json::Text(error.external_message))?)
-}
-
-/// Bytes as a text, or by their digits where they are none.
-pub fn bytes_noted(alloc: Global, bytes: &[u8]) -> Result<Json, CaseError> {
-    match str::from_utf8(bytes) {
-        Ok(text) => Ok(word(alloc, text)?),
-        Err(_) => {
-            let digits = Text::from_string(hex::encode(alloc, bytes)?);
-            Ok(form(alloc, "hex", Json::Text(digits))?)
-        }
-    }
 }

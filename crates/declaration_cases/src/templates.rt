@@ -1,6 +1,6 @@
 //! Calls on the templates of paths.
-use crate::requests::variables_at;
 use case_notation::{CaseError, form, given, text_of, word};
+use endpoint_notation::variables_at;
 use path_templates::{PathSegment, Template};
 use schema_values::{Json, List, Text};
 use std::alloc::{AllocError, Global};

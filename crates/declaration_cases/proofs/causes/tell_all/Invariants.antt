@@ -1,6 +1,6 @@
 use Rattle.std.proofs.Common.{map}
 use Rattle.api_registration.specs.EndpointIndexes.{IsIndexed}
-use Rattle.declaration_cases.specs.contracts.endpoint.PlainEndpointDeclared.TheImpl.{declared-value}
+use Rattle.endpoint_notation.specs.contracts.endpoint.PlainEndpointDeclared.TheImpl.{declared-value}
 use Rattle.declaration_cases.proofs.causes.tell_all.Given as goal
 
 -- the index is that of the endpoints that are registered so far

@@ -10,6 +10,7 @@ use http::Method;
 use http::method::MethodError;
 use http_bodies::{Body, Frame, MemoryFrames, SafeFrames};
 use http_header::{HeaderName, HeaderValue};
+use http_status::{RequestId, RequestIdError};
 use http_uri::Uri;
 use request_parts::{RequestInfo, RequestParts};
 use schema_values::{Json, List, Text, VariableSet};
@@ -89,6 +90,15 @@ pub fn version_of(alloc: Global, noted: &str) -> Result<Version, CaseError> {
         .ok_or(CaseError::Expected("a version"))
 }
 
+/// The id of a request.
+pub fn request_id_of(alloc: Global, text: &str) -> Result<RequestId, CaseError> {
+    match RequestId::new(alloc, text) {
+        Ok(id) => Ok(id),
+        Err(RequestIdError::BadRequestId) => Err(CaseError::Expected("the id of a request")),
+        Err(RequestIdError::OutOfMemory) => Err(CaseError::OutOfMemory),
+    }
+}
+
 /// The variables under `variables`, none where they are left out.
 pub fn variables_at(alloc: Global, noted: &Json) -> Result<VariableSet, CaseError> {
     let mut variables = BTreeMap::new(alloc);
@@ -106,7 +116,7 @@ pub fn variables_at(alloc: Global, noted: &Json) -> Result<VariableSet, CaseErro
 }
 
 /// The header lines that are noted, each a pair of a name and a text.
-fn lines_of(alloc: Global, noted: &[Json]) -> Result<HeaderList, CaseError> {
+pub fn lines_of(alloc: Global, noted: &[Json]) -> Result<HeaderList, CaseError> {
     let mut lines = HeaderList::new(alloc);
     for line in noted {
         let [name, value] = items_of(line)? else {
@@ -158,14 +168,22 @@ fn frames_of(alloc: Global, noted: &[Json]) -> Result<List<Frame>, CaseError> {
 }
 
 fn frame_of(alloc: Global, noted: &Json) -> Result<Frame, CaseError> {
+    match noted.get("trailers") {
+        Some(lines) => {
+            check_names(noted, &["trailers"])?;
+            Ok(Frame::Trailers(lines_of(alloc, items_of(lines)?)?))
+        }
+        None => Ok(Frame::Bytes(content_of(alloc, noted)?)),
+    }
+}
+
+/// A content: a text, or `{"hex":DIGITS}`.
+pub fn content_of(alloc: Global, noted: &Json) -> Result<List<u8>, CaseError> {
     if let Json::Text(text) = noted {
-        return Ok(Frame::Bytes(List::from_bytes(alloc, text.as_bytes())?));
+        return Ok(List::from_bytes(alloc, text.as_bytes())?);
     }
-    check_names(noted, &["hex", "trailers"])?;
-    if let Some(lines) = noted.get("trailers") {
-        return Ok(Frame::Trailers(lines_of(alloc, items_of(lines)?)?));
-    }
-    Ok(Frame::Bytes(bytes_of(alloc, text_of(given(noted, "hex")?)?)?))
+    check_names(noted, &["hex"])?;
+    bytes_of(alloc, text_of(given(noted, "hex")?)?)
 }
 
 fn bytes_of(alloc: Global, digits: &Text) -> Result<List<u8>, CaseError> {

@@ -3,7 +3,7 @@ use Rattle.std.specs.Prelude.{All}
 use Rattle.std.proofs.lemmas.List.{take_all}
 use Rattle.std.proofs.lemmas.List.Elements.{All-more}
 use Rattle.handler_shapes.specs.ShapeChecks.{SlotPasses}
-use Rattle.declaration_cases.proofs.extracts.all_pass.Goals as goal
+use Rattle.endpoint_notation.proofs.reading.all_pass.Goals as goal
 
 pub loop-slot-preserved : goal.loop-slot-preserved
 loop-slot-preserved c =

@@ -1,0 +1,27 @@
+//! How the programs of cases note endpoints, the shapes of their handlers, requests and bodies.
+#![tactic(auto)]
+
+mod arguments;
+mod endpoint;
+mod indexed;
+mod media;
+mod members;
+mod reading;
+mod refusals;
+mod requests;
+mod shapes;
+mod streams;
+
+pub use arguments::{arg_told, args_told};
+pub use endpoint::{PlainEndpoint, endpoint_of, endpoints_at};
+pub use indexed::add_endpoint;
+pub use media::kind_at;
+pub use members::{items_at, number_or, push_word, text_or, u64_of};
+pub use reading::{Reading, are_served, reading_of};
+pub use refusals::put_error;
+pub use requests::{
+    body_of, content_of, lines_of, method_at, parts_of, request_at, request_id_of, variables_at,
+    version_at,
+};
+pub use shapes::{shape_of, slots_at, table_at};
+pub use streams::{bytes_noted, data_told};

@@ -1,0 +1,46 @@
+//! What calls on bodies that are read content by content give, as cases note it.
+use body_reading::{StreamRefusal, StreamingBody};
+use case_notation::{CaseError, form, word};
+use http_status::HttpError;
+use schema_values::{Json, List, Text};
+use std::alloc::Global;
+use std::str;
+
+/// What each of so many calls gives: data, the end, or why there is none.
+pub fn data_told(alloc: Global, stream: &mut StreamingBody, calls: u64) -> Result<Json, CaseError> {
+    let mut answers = List::new(alloc);
+    for _ in 0..calls {
+        answers.push(answer_told(alloc, stream.next_data(alloc))?)?;
+    }
+    Ok(Json::List(answers))
+}
+
+fn answer_told(
+    alloc: Global,
+    answer: Result<Option<List<u8>>, StreamRefusal>,
+) -> Result<Json, CaseError> {
+    match answer {
+        Ok(Some(data)) => Ok(form(alloc, "data", bytes_noted(alloc, data.as_slice())?)?),
+        Ok(None) => Ok(word(alloc, "end")?),
+        Err(StreamRefusal::Fault(error)) => message_told(alloc, "fault", error),
+        Err(StreamRefusal::TooLarge(error)) => message_told(alloc, "too_large", error),
+        Err(StreamRefusal::FrameBudget(error)) => message_told(alloc, "frame_budget", error),
+        Err(StreamRefusal::Closed) => Ok(word(alloc, "closed")?),
+        Err(StreamRefusal::OutOfMemory) => Err(CaseError::OutOfMemory),
+    }
+}
+
+fn message_told(alloc: Global, name: &str, error: HttpError) -> Result<Json, CaseError> {
+    Ok(form(alloc, name, Json::Text(error.external_message))?)
+}
+
+/// Bytes as a text, or by their digits where they are none.
+pub fn bytes_noted(alloc: Global, bytes: &[u8]) -> Result<Json, CaseError> {
+    match str::from_utf8(bytes) {
+        Ok(text) => Ok(word(alloc, text)?),
+        Err(_) => {
+            let digits = Text::from_string(hex::encode(alloc, bytes)?);
+            Ok(form(alloc, "hex", Json::Text(digits))?)
+        }
+    }
+}
