@@ -9,9 +9,15 @@ use std::alloc::Global;
 
 /// What each of so many calls of the body of a case gives.
 pub fn body_told(alloc: Global, case: &Json) -> Result<Json, CaseError> {
+    let calls = number_of(given(case, "calls")?)?;
     let mut body = body_of(alloc, given(case, "body")?)?;
+    frames_told(alloc, &mut body, calls)
+}
+
+/// What each of so many calls of a body gives.
+pub fn frames_told(alloc: Global, body: &mut Body, calls: i128) -> Result<Json, CaseError> {
     let mut answers = List::new(alloc);
-    for _ in 0..number_of(given(case, "calls")?)? {
+    for _ in 0..calls {
         answers.push(frame_told(alloc, body.next_frame(alloc))?)?;
     }
     Ok(Json::List(answers))
@@ -19,9 +25,13 @@ pub fn body_told(alloc: Global, case: &Json) -> Result<Json, CaseError> {
 
 /// What dropping the body of a case within the budget of the case tells.
 pub fn dump_told(alloc: Global, case: &Json) -> Result<Json, CaseError> {
-    let mut body = body_of(alloc, given(case, "body")?)?;
     let budget = count_of(given(case, "budget")?)?;
-    match http_dump_body(alloc, &mut body, u64::from(budget)) {
+    let mut body = body_of(alloc, given(case, "body")?)?;
+    dropped_told(alloc, &mut body, budget)
+}
+
+fn dropped_told(alloc: Global, body: &mut Body, budget: u32) -> Result<Json, CaseError> {
+    match http_dump_body(alloc, body, u64::from(budget)) {
         Ok(count) => Ok(Json::Int(count.into())),
         Err(DumpError::Failed) => Ok(word(alloc, "failed")?),
         Err(DumpError::FrameBudget) => Ok(word(alloc, "frame budget")?),
@@ -36,22 +46,26 @@ pub fn count_of(noted: &Json) -> Result<u32, CaseError> {
         .ok_or(CaseError::Expected("a count of 32 bits"))
 }
 
-/// What a call for the next frame gives.
-pub fn frame_told(
-    alloc: Global,
-    answer: Result<Option<Frame>, FrameError>,
-) -> Result<Json, CaseError> {
+// What a call for the next frame gives.
+fn frame_told(alloc: Global, answer: Result<Option<Frame>, FrameError>) -> Result<Json, CaseError> {
     match answer {
-        Ok(Some(Frame::Bytes(bytes))) => {
-            Ok(form(alloc, "bytes", bytes_noted(alloc, bytes.as_slice())?)?)
-        }
-        Ok(Some(Frame::Trailers(lines))) => {
-            Ok(form(alloc, "trailers", lines_noted(alloc, &lines)?)?)
-        }
+        Ok(Some(frame)) => frame_noted(alloc, &frame),
         Ok(None) => Ok(word(alloc, "end")?),
         Err(FrameError::Failed) => Ok(word(alloc, "failed")?),
         Err(FrameError::OutOfMemory) => Err(CaseError::OutOfMemory),
     }
+}
+
+fn frame_noted(alloc: Global, frame: &Frame) -> Result<Json, CaseError> {
+    match frame {
+        Frame::Bytes(bytes) => content_told(alloc, bytes.as_slice()),
+        Frame::Trailers(lines) => Ok(form(alloc, "trailers", lines_noted(alloc, lines)?)?),
+    }
+}
+
+/// The text of content.
+pub fn content_told(alloc: Global, content: &[u8]) -> Result<Json, CaseError> {
+    Ok(form(alloc, "bytes", bytes_noted(alloc, content)?)?)
 }
 
 /// The body that is noted.

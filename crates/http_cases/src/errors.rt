@@ -7,30 +7,50 @@ use http_status::{
     HEADER_REQUEST_ID, HeaderError, HeaderList, HttpError, RequestId, RequestIdError, Response,
 };
 use schema_values::{Json, List, Text};
-use std::alloc::Global;
+use std::alloc::{AllocError, Global};
 
 /// An error that is made as the case says, its text and its response to the request of an id.
 pub fn error_told(alloc: Global, case: &Json) -> Result<Json, CaseError> {
+    let id = request_id_of(alloc, text_of(given(case, "id")?)?)?;
+    answer_to(alloc, case, &id)
+}
+
+fn answer_to(alloc: Global, case: &Json, id: &RequestId) -> Result<Json, CaseError> {
+    let steps = items_of(given(case, "steps")?)?;
     let mut error = made(alloc, items_of(given(case, "made")?)?)?;
-    for step in items_of(given(case, "steps")?)? {
-        match with_step(alloc, error, items_of(step)?)? {
-            Ok(changed) => error = changed,
-            Err(refusal) => return Ok(word(alloc, refusal)?),
+    changed_told(alloc, &mut error, steps, id)
+}
+
+// What is told of an error after some steps: what the first that is refused is refused as, if one is.
+fn changed_told(
+    alloc: Global,
+    error: &mut HttpError,
+    steps: &[Json],
+    id: &RequestId,
+) -> Result<Json, CaseError> {
+    for step in steps {
+        if let Some(refusal) = refusal_of(alloc, error, items_of(step)?)? {
+            return Ok(word(alloc, refusal)?);
         }
     }
-    let id = request_id_of(alloc, text_of(given(case, "id")?)?)?;
+    whole_told(alloc, error, id)
+}
+
+fn whole_told(alloc: Global, error: &HttpError, id: &RequestId) -> Result<Json, CaseError> {
     let mut told = List::new(alloc);
-    put(alloc, &mut told, "error", error_noted(alloc, &error)?)?;
-    let text = Text::from_string(error.to_string(alloc)?);
-    put(alloc, &mut told, "text", Json::Text(text))?;
-    let response = error.into_response(alloc, &id)?;
+    put(alloc, &mut told, "error", error_noted(alloc, error)?)?;
+    put(alloc, &mut told, "text", text_noted(alloc, error)?)?;
     put(
         alloc,
         &mut told,
         "response",
-        response_noted(alloc, response)?,
+        response_told(alloc, error, id)?,
     )?;
     Ok(Json::Object(told))
+}
+
+fn text_noted(alloc: Global, error: &HttpError) -> Result<Json, AllocError> {
+    Ok(Json::Text(Text::from_string(error.to_string(alloc)?)))
 }
 
 fn made(alloc: Global, noted: &[Json]) -> Result<HttpError, CaseError> {
@@ -97,40 +117,62 @@ fn client_status(number: i128) -> Option<ClientErrorStatusCode> {
     ClientErrorStatusCode::from_u16(number).ok()
 }
 
-// The error with one step more, or what the step is refused as.
-fn with_step(
+// Changes an error by one step, or tells what the step is refused as.
+fn refusal_of(
     alloc: Global,
-    mut error: HttpError,
+    error: &mut HttpError,
     step: &[Json],
-) -> Result<Result<HttpError, &'static str>, CaseError> {
+) -> Result<Option<&'static str>, CaseError> {
     match step {
         [Json::Text(step)] if step.equals_str("headers_mut") => {
             error.headers_mut(alloc);
-            Ok(Ok(error))
+            Ok(None)
         }
-        [Json::Text(step), Json::Text(name), Json::Text(value)] if step.equals_str("add_header") =>
-            {
-                match error.add_header(alloc, name.as_str(), value.as_bytes()) {
-                    Ok(_) => {}
-                    Err(refusal) => return refused(refusal),
-                }
-                Ok(Ok(error))
-            }
-        [Json::Text(step), Json::Text(name), Json::Text(value)] if step.equals_str("with_header") =>
-            {
-                match error.with_header(alloc, name.as_str(), value.as_bytes()) {
-                    Ok(error) => Ok(Ok(error)),
-                    Err(refusal) => refused(refusal),
-                }
-            }
+        [Json::Text(step), Json::Text(name), Json::Text(value)] => {
+            add(alloc, error, step.as_str(), name, value)
+        }
         _ => Err(CaseError::Expected("a step that changes an error")),
     }
 }
 
-fn refused(refusal: HeaderError) -> Result<Result<HttpError, &'static str>, CaseError> {
+fn add(
+    alloc: Global,
+    error: &mut HttpError,
+    step: &str,
+    name: &Text,
+    value: &Text,
+) -> Result<Option<&'static str>, CaseError> {
+    match step {
+        "add_header" => match error.add_header(alloc, name.as_str(), value.as_bytes()) {
+            Ok(_) => Ok(None),
+            Err(refusal) => refused(refusal),
+        },
+        "with_header" => put_copy(alloc, error, name, value),
+        _ => Err(CaseError::Expected("a step that changes an error")),
+    }
+}
+
+// Puts a copy of the error that has one line more in its place.
+fn put_copy(
+    alloc: Global,
+    error: &mut HttpError,
+    name: &Text,
+    value: &Text,
+) -> Result<Option<&'static str>, CaseError> {
+    let copy = error.copy(alloc)?;
+    match copy.with_header(alloc, name.as_str(), value.as_bytes()) {
+        Ok(changed) => {
+            *error = changed;
+            Ok(None)
+        }
+        Err(refusal) => refused(refusal),
+    }
+}
+
+fn refused(refusal: HeaderError) -> Result<Option<&'static str>, CaseError> {
     match refusal {
-        HeaderError::BadName => Ok(Err("bad header name")),
-        HeaderError::BadValue => Ok(Err("bad header value")),
+        HeaderError::BadName => Ok(Some("bad header name")),
+        HeaderError::BadValue => Ok(Some("bad header value")),
         HeaderError::OutOfMemory => Err(CaseError::OutOfMemory),
     }
 }
@@ -173,32 +215,52 @@ fn own_lines(alloc: Global, lines: &Option<HeaderList>) -> Result<Json, CaseErro
     }
 }
 
-fn response_noted(alloc: Global, response: Response) -> Result<Json, CaseError> {
-    let Response {
-        status,
-        headers,
-        mut body,
-    } = response;
+// The response of a copy of an error to the request of an id.
+fn response_told(alloc: Global, error: &HttpError, id: &RequestId) -> Result<Json, CaseError> {
+    let mut response = error.copy(alloc)?.into_response(alloc, id)?;
+    response_noted(alloc, &mut response)
+}
+
+fn response_noted(alloc: Global, response: &mut Response) -> Result<Json, CaseError> {
     let mut noted = List::new(alloc);
+    let status = Json::Int(response.status.as_u16().into());
+    put(alloc, &mut noted, "status", status)?;
     put(
         alloc,
         &mut noted,
-        "status",
-        Json::Int(status.as_u16().into()),
+        "headers",
+        lines_noted(alloc, &response.headers)?,
     )?;
-    put(alloc, &mut noted, "headers", lines_noted(alloc, &headers)?)?;
-    put(alloc, &mut noted, "body", only_frame(alloc, &mut body)?)?;
+    put(
+        alloc,
+        &mut noted,
+        "body",
+        only_frame(alloc, &mut response.body)?,
+    )?;
     Ok(Json::Object(noted))
 }
 
 // The text of a body of one frame.
 fn only_frame(alloc: Global, body: &mut Body) -> Result<Json, CaseError> {
-    match (body.next_frame(alloc), body.next_frame(alloc)) {
-        (Ok(Some(Frame::Bytes(bytes))), Ok(None)) => bytes_noted(alloc, bytes.as_slice()),
-        (Err(FrameError::OutOfMemory), _) | (_, Err(FrameError::OutOfMemory)) => {
-            Err(CaseError::OutOfMemory)
-        }
-        _ => Err(CaseError::Expected("a body of one frame")),
+    let content = content_of(next_frame(alloc, body)?)?;
+    match next_frame(alloc, body)? {
+        None => bytes_noted(alloc, content.as_slice()),
+        Some(_) => Err(CaseError::Expected("a body of one frame")),
+    }
+}
+
+fn next_frame(alloc: Global, body: &mut Body) -> Result<Option<Frame>, CaseError> {
+    match body.next_frame(alloc) {
+        Ok(frame) => Ok(frame),
+        Err(FrameError::Failed) => Err(CaseError::Expected("a body without faults")),
+        Err(FrameError::OutOfMemory) => Err(CaseError::OutOfMemory),
+    }
+}
+
+fn content_of(frame: Option<Frame>) -> Result<List<u8>, CaseError> {
+    match frame {
+        Some(Frame::Bytes(content)) => Ok(content),
+        _ => Err(CaseError::Expected("a frame of content")),
     }
 }
 
@@ -212,24 +274,31 @@ fn request_id_of(alloc: Global, text: &Text) -> Result<RequestId, CaseError> {
 
 /// The text of the id of a case, or that it is none.
 pub fn request_id_told(alloc: Global, case: &Json) -> Result<Json, CaseError> {
-    match RequestId::new(alloc, text_of(given(case, "id")?)?.as_str()) {
-        Ok(id) => Ok(form(alloc, "id", word(alloc, id.text())?)?),
+    let text = text_of(given(case, "id")?)?;
+    match RequestId::new(alloc, text.as_str()) {
+        Ok(id) => id_told(alloc, id.text()),
         Err(RequestIdError::BadRequestId) => Ok(word(alloc, "bad request id")?),
         Err(RequestIdError::OutOfMemory) => Err(CaseError::OutOfMemory),
     }
 }
 
+fn id_told(alloc: Global, text: &str) -> Result<Json, CaseError> {
+    Ok(form(alloc, "id", word(alloc, text)?)?)
+}
+
+const CONSTANTS: [&str; 6] = [
+    HEADER_REQUEST_ID,
+    CONTENT_TYPE_OCTET_STREAM,
+    CONTENT_TYPE_JSON,
+    CONTENT_TYPE_NDJSON,
+    CONTENT_TYPE_URL_ENCODED,
+    CONTENT_TYPE_MULTIPART_FORM_DATA,
+];
+
 /// The name of the header that holds the id of a request, and the media types of bodies.
 pub fn constants_told(alloc: Global) -> Result<Json, CaseError> {
     let mut told = List::new(alloc);
-    for text in [
-        HEADER_REQUEST_ID,
-        CONTENT_TYPE_OCTET_STREAM,
-        CONTENT_TYPE_JSON,
-        CONTENT_TYPE_NDJSON,
-        CONTENT_TYPE_URL_ENCODED,
-        CONTENT_TYPE_MULTIPART_FORM_DATA,
-    ] {
+    for &text in &CONSTANTS {
         told.push(word(alloc, text)?)?;
     }
     Ok(Json::List(told))

@@ -1,5 +1,5 @@
 //! Calls on lists of header lines. A step is a list: its name, and what it takes.
-use crate::lines::{lines_noted, lines_of, name_of, value_noted, value_of};
+use crate::lines::{lines_in, lines_noted, lines_of, name_of, value_noted, value_of};
 use case_notation::{CaseError, given, items_of, word};
 use http_header::HeaderValue;
 use http_status::HeaderList;
@@ -8,10 +8,15 @@ use std::alloc::Global;
 
 /// What each of the steps of a case answers, from the lines of the case on.
 pub fn headers_told(alloc: Global, case: &Json) -> Result<Json, CaseError> {
+    let steps = items_of(given(case, "steps")?)?;
     let mut lines = lines_of(alloc, given(case, "lines")?)?;
+    steps_told(alloc, &mut lines, steps)
+}
+
+fn steps_told(alloc: Global, lines: &mut HeaderList, steps: &[Json]) -> Result<Json, CaseError> {
     let mut answers = List::new(alloc);
-    for step in items_of(given(case, "steps")?)? {
-        answers.push(step_told(alloc, &mut lines, items_of(step)?)?)?;
+    for step in steps {
+        answers.push(step_told(alloc, lines, items_of(step)?)?)?;
     }
     Ok(Json::List(answers))
 }
@@ -23,7 +28,7 @@ fn step_told(alloc: Global, lines: &mut HeaderList, step: &[Json]) -> Result<Jso
             lines_noted(alloc, lines)
         }
         [Json::Text(step), Json::List(others)] if step.equals_str("extend") => {
-            lines.extend(lines_of(alloc, &Json::List(others.copy(alloc)?))?)?;
+            lines.extend(lines_in(alloc, others.as_slice())?)?;
             lines_noted(alloc, lines)
         }
         [Json::Text(step), Json::Text(name)] => {

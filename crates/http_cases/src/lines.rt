@@ -8,8 +8,13 @@ use std::str;
 
 /// The lines that are noted, in order.
 pub fn lines_of(alloc: Global, noted: &Json) -> Result<HeaderList, CaseError> {
+    lines_in(alloc, items_of(noted)?)
+}
+
+/// The lines of a list, in order.
+pub fn lines_in(alloc: Global, noted: &[Json]) -> Result<HeaderList, CaseError> {
     let mut lines = HeaderList::new(alloc);
-    for line in items_of(noted)? {
+    for line in noted {
         let [Json::Text(name), Json::Text(value)] = items_of(line)? else {
             return Err(CaseError::Expected("a name and a value"));
         };

@@ -67,9 +67,18 @@ fn read_lowered<T: ApiType>(
 
 fn read_told<T: ApiType>(alloc: Global, answer: Result<T, MapError>) -> Result<Json, CaseError> {
     match answer {
-        Ok(value) => Ok(form(alloc, "tree", tree_noted(alloc, &value.to_tree(alloc)?)?)?),
+        Ok(value) => value_told(alloc, &value),
         Err(error) => refused(alloc, error),
     }
+}
+
+fn value_told<T: ApiType>(alloc: Global, value: &T) -> Result<Json, CaseError> {
+    tree_told(alloc, &value.to_tree(alloc)?)
+}
+
+/// A tree that is told.
+pub fn tree_told(alloc: Global, tree: &Tree) -> Result<Json, CaseError> {
+    Ok(form(alloc, "tree", tree_noted(alloc, tree)?)?)
 }
 
 fn refused(alloc: Global, error: MapError) -> Result<Json, CaseError> {
@@ -94,12 +103,12 @@ pub fn map_written(alloc: Global, case: &Json) -> Result<Json, CaseError> {
 }
 
 fn written<T: ApiType>(alloc: Global, json: &Json) -> Result<Json, CaseError> {
-    let Ok(table) = table_of::<T>(alloc) else {
-        return Err(CaseError::Expected("a type that passes its checks"));
-    };
     if !json.sound() {
         return Err(CaseError::Expected("a sound value"));
     }
+    let Ok(table) = table_of::<T>(alloc) else {
+        return Err(CaseError::Expected("a type that passes its checks"));
+    };
     match json_value::<T>(alloc, &table, json) {
         Ok(value) => map_told(alloc, to_map(alloc, &value)),
         Err(_) => Err(CaseError::Expected("a value of the type")),
@@ -108,18 +117,19 @@ fn written<T: ApiType>(alloc: Global, json: &Json) -> Result<Json, CaseError> {
 
 /// The map of the tree of a case, under its descriptor, or what it is refused as.
 pub fn tree_map_written(alloc: Global, case: &Json) -> Result<Json, CaseError> {
-    let tree = tree_of(alloc, given(case, "tree")?)?;
-    tree_written(alloc, &scope_of(alloc, case)?, &tree)
+    let tree = given(case, "tree")?;
+    tree_written(alloc, &scope_of(alloc, case)?, tree)
 }
 
-fn tree_written(alloc: Global, scope: &Scope, tree: &Tree) -> Result<Json, CaseError>
+fn tree_written(alloc: Global, scope: &Scope, noted: &Json) -> Result<Json, CaseError>
     requires table { TablePasses scope.now.table }
     requires desc { DescPasses scope.now.table scope.now.desc }
 {
-    if !fits(&scope.table, &scope.desc, tree) {
+    let tree = tree_of(alloc, noted)?;
+    if !fits(&scope.table, &scope.desc, &tree) {
         return Err(CaseError::Expected("a tree that fits"));
     }
-    map_told(alloc, to_map_tree(alloc, &scope.table, &scope.desc, tree))
+    map_told(alloc, to_map_tree(alloc, &scope.table, &scope.desc, &tree))
 }
 
 fn map_told(

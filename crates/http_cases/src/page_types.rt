@@ -4,7 +4,7 @@ use case_notation::{CaseError, given, noted_desc, put, table_of, text_of};
 use page_tokens::{EmptyScanParams, PaginationOrder, ResultsPage};
 use schema_values::{Json, List};
 use std::alloc::Global;
-use typed_values::{AddError, Definition, DescTable};
+use typed_values::{AddError, Definition, Desc, DescTable};
 
 /// The name of the type of a case, and whether its descriptor and its definitions are those of the
 /// case.
@@ -18,12 +18,25 @@ pub fn page_type_told(alloc: Global, case: &Json) -> Result<Json, CaseError> {
 }
 
 fn type_told<T: ApiType>(alloc: Global, case: &Json) -> Result<Json, CaseError> {
-    let is_same = T::descriptor(alloc)?.equals(&noted_desc(alloc, case)?)
-        && has_definitions(&added::<T>(alloc)?, &table_of(alloc, case)?);
+    let is_same = has_descriptor::<T>(alloc, case)? && has_definitions::<T>(alloc, case)?;
     let mut told = List::new(alloc);
     put(alloc, &mut told, "name", Json::Text(T::type_name(alloc)?))?;
     put(alloc, &mut told, "same", Json::Bool(is_same))?;
     Ok(Json::Object(told))
+}
+
+fn has_descriptor<T: ApiType>(alloc: Global, case: &Json) -> Result<bool, CaseError> {
+    is_noted(alloc, &T::descriptor(alloc)?, case)
+}
+
+fn is_noted(alloc: Global, desc: &Desc, case: &Json) -> Result<bool, CaseError> {
+    Ok(noted_desc(alloc, case)?.equals(desc))
+}
+
+fn has_definitions<T: ApiType>(alloc: Global, case: &Json) -> Result<bool, CaseError> {
+    let table = added::<T>(alloc)?;
+    let noted = table_of(alloc, case)?;
+    Ok(same_definitions(table.definitions(), noted.definitions()))
 }
 
 // The definitions of a type, in an empty table.
@@ -34,10 +47,6 @@ fn added<T: ApiType>(alloc: Global) -> Result<DescTable, CaseError> {
         Err(AddError::Clash(_)) => Err(CaseError::Expected("definitions that do not clash")),
         Err(AddError::OutOfMemory) => Err(CaseError::OutOfMemory),
     }
-}
-
-fn has_definitions(table: &DescTable, other: &DescTable) -> bool {
-    same_definitions(table.definitions(), other.definitions())
 }
 
 fn same_definitions(definitions: &[Definition], others: &[Definition]) -> bool {

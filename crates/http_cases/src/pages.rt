@@ -1,4 +1,6 @@
 //! Calls on pages of results and their types.
+ghost use Rattle.typed_values.specs.Checks.{TablePasses, DescPasses};
+
 use crate::errors::error_noted;
 use crate::selectors::{Previous, Start};
 use api_types::{ApiType, table_of};
@@ -7,23 +9,21 @@ use http_status::HttpRefusal;
 use page_tokens::{ResultsPage, read_token};
 use schema_values::{Json, List, Text};
 use std::alloc::{AllocError, Global};
+use typed_values::{Desc, DescTable, Tree};
 
 /// A page of the numbers of a case, whose selector is the sum of the last and that of the scan.
 pub fn page_told(alloc: Global, case: &Json) -> Result<Json, CaseError> {
-    let scan = natural(given(case, "scan")?)?;
-    let mut items = List::new(alloc);
-    for item in items_of(given(case, "items")?)? {
-        items.push(natural(item)?)?;
-    }
     let Ok(_) = table_of::<Previous>(alloc) else {
         return Err(CaseError::Expected("a type that passes its checks"));
     };
+    let scan = natural(given(case, "scan")?)?;
+    let items = naturals(alloc, items_of(given(case, "items")?)?)?;
     let page = ResultsPage::new(alloc, items, &scan, |_: Global, last: &u64, scan: &u64| {
         previous(*last, *scan)
     });
     match page {
-        Ok(page) => numbers_noted(alloc, page),
-        Err(refusal) => refused(alloc, refusal),
+        Ok(page) => page_noted(alloc, &page),
+        Err(refusal) => refused(alloc, &refusal),
     }
 }
 
@@ -40,59 +40,85 @@ fn natural(noted: &Json) -> Result<u64, CaseError> {
         .ok_or(CaseError::Expected("a number of 64 bits"))
 }
 
-// The token of a page and its items, and the selector that the token is read as.
-fn numbers_noted(alloc: Global, page: ResultsPage<u64>) -> Result<Json, CaseError> {
-    let ResultsPage { next_page, items } = page;
-    let mut noted = List::new(alloc);
-    let selector = match &next_page {
-        Some(token) => Some(selector_noted(alloc, token)?),
-        None => None,
-    };
-    put(alloc, &mut noted, "next_page", token_noted(next_page))?;
+fn naturals(alloc: Global, noted: &[Json]) -> Result<List<u64>, CaseError> {
     let mut numbers = List::new(alloc);
-    for item in items.as_slice() {
-        numbers.push(Json::Int((*item).into()))?;
+    for number in noted {
+        numbers.push(natural(number)?)?;
     }
-    put(alloc, &mut noted, "items", Json::List(numbers))?;
-    if let Some(selector) = selector {
-        put(alloc, &mut noted, "selector", selector)?;
+    Ok(numbers)
+}
+
+// The token of a page and its items, and the selector that the token is read as.
+fn page_noted(alloc: Global, page: &ResultsPage<u64>) -> Result<Json, CaseError> {
+    let mut noted = List::new(alloc);
+    let token = token_noted(alloc, page.next_page.as_ref())?;
+    put(alloc, &mut noted, "next_page", token)?;
+    let items = numbers_noted(alloc, page.items.as_slice())?;
+    put(alloc, &mut noted, "items", items)?;
+    if let Some(token) = &page.next_page {
+        put(alloc, &mut noted, "selector", selector_noted(alloc, token)?)?;
     }
     Ok(Json::Object(noted))
 }
 
-fn token_noted(token: Option<Text>) -> Json {
+fn token_noted(alloc: Global, token: Option<&Text>) -> Result<Json, AllocError> {
     match token {
-        Some(token) => Json::Text(token),
-        None => Json::Null,
+        Some(token) => Ok(Json::Text(token.copy(alloc)?)),
+        None => Ok(Json::Null),
     }
 }
 
+fn numbers_noted(alloc: Global, numbers: &[u64]) -> Result<Json, AllocError> {
+    let mut noted = List::new(alloc);
+    for number in numbers {
+        noted.push(Json::Int((*number).into()))?;
+    }
+    Ok(Json::List(noted))
+}
+
 fn selector_noted(alloc: Global, token: &Text) -> Result<Json, CaseError> {
+    let desc = Previous::descriptor(alloc)?;
     let Ok(table) = table_of::<Previous>(alloc) else {
         return Err(CaseError::Expected("a type that passes its checks"));
     };
-    let desc = Previous::descriptor(alloc)?;
-    match read_token(alloc, &table, &desc, token.as_str()) {
-        Ok(tree) => Ok(tree_noted(alloc, &tree)?),
+    selector_of(alloc, &table, &desc, token)
+}
+
+// The tree of the selector that a token is read as.
+fn selector_of(
+    alloc: Global,
+    table: &DescTable,
+    desc: &Desc,
+    token: &Text,
+) -> Result<Json, CaseError>
+    requires table { TablePasses table.now }
+    requires desc { DescPasses table.now desc.now }
+{
+    match read_token(alloc, table, desc, token.as_str()) {
+        Ok(tree) => selector_told(alloc, &tree),
         Err(_) => Err(CaseError::Expected("a token that is read")),
     }
 }
 
-fn refused(alloc: Global, refusal: HttpRefusal) -> Result<Json, CaseError> {
+fn selector_told(alloc: Global, tree: &Tree) -> Result<Json, CaseError> {
+    Ok(tree_noted(alloc, tree)?)
+}
+
+fn refused(alloc: Global, refusal: &HttpRefusal) -> Result<Json, CaseError> {
     match refusal {
-        HttpRefusal::Http(error) => error_noted(alloc, &error),
+        HttpRefusal::Http(error) => error_noted(alloc, error),
         HttpRefusal::OutOfMemory => Err(CaseError::OutOfMemory),
     }
 }
 
 /// The token of a page of one item whose selector is a text of so many letters `e`.
 pub fn long_page_told(alloc: Global, case: &Json) -> Result<Json, CaseError> {
-    let letters = letters_of(alloc, number_of(given(case, "length")?)?)?;
-    let mut items = List::new(alloc);
-    items.push(true)?;
     let Ok(_) = table_of::<Start>(alloc) else {
         return Err(CaseError::Expected("a type that passes its checks"));
     };
+    let letters = letters_of(alloc, number_of(given(case, "length")?)?)?;
+    let mut items = List::new(alloc);
+    items.push(true)?;
     let page = ResultsPage::new(
         alloc,
         items,
@@ -100,9 +126,13 @@ pub fn long_page_told(alloc: Global, case: &Json) -> Result<Json, CaseError> {
         |alloc: Global, _: &bool, s: &Text| { start(alloc, s) },
     );
     match page {
-        Ok(page) => Ok(form(alloc, "next_page", token_noted(page.next_page))?),
-        Err(refusal) => refused(alloc, refusal),
+        Ok(page) => token_told(alloc, page.next_page.as_ref()),
+        Err(refusal) => refused(alloc, &refusal),
     }
+}
+
+fn token_told(alloc: Global, token: Option<&Text>) -> Result<Json, CaseError> {
+    Ok(form(alloc, "next_page", token_noted(alloc, token)?)?)
 }
 
 fn letters_of(alloc: Global, count: i128) -> Result<Text, CaseError> {

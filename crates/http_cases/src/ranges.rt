@@ -5,37 +5,52 @@ use api_versions::{
     ApiEndpointVersions, ClientSpecifiesVersionInHeader, DynamicVersionPolicy, VersionPolicy,
 };
 use case_notation::{CaseError, form, given, items_of, pair, put, text_of, word};
-use http_status::{HeaderList, HttpRefusal};
+use http_status::{HeaderList, HttpError, HttpRefusal};
 use schema_values::{Json, List, Text};
 use semver::Version;
 use std::alloc::Global;
 
 /// Whether the range of a case holds its version.
 pub fn matches_told(alloc: Global, case: &Json) -> Result<Json, CaseError> {
+    let version = given(case, "version")?;
     match range_of(alloc, given(case, "range")?)? {
-        Ok(range) => {
-            let version = version_or_none(alloc, given(case, "version")?)?;
-            Ok(Json::Bool(range.matches(version.as_ref())))
-        }
+        Ok(range) => matched(alloc, &range, version),
         Err(refusal) => Ok(form(alloc, "refused", word(alloc, refusal)?)?),
     }
 }
 
-/// Whether the two ranges of a case overlap, and so the other way round.
-pub fn overlaps_told(alloc: Global, case: &Json) -> Result<Json, CaseError> {
-    match (
-        range_of(alloc, given(case, "range")?)?,
-        range_of(alloc, given(case, "other")?)?,
-    ) {
-        (Ok(range), Ok(other)) => Ok(pair(
-            alloc,
-            Json::Bool(range.overlaps_with(&other)),
-            Json::Bool(other.overlaps_with(&range)),
-        )?),
-        _ => Err(CaseError::Expected("versions in order")),
-    }
+fn matched(alloc: Global, range: &ApiEndpointVersions, noted: &Json) -> Result<Json, CaseError> {
+    let version = version_or_none(alloc, noted)?;
+    Ok(Json::Bool(range.matches(version.as_ref())))
 }
 
+/// Whether the two ranges of a case overlap, and so the other way round.
+pub fn overlaps_told(alloc: Global, case: &Json) -> Result<Json, CaseError> {
+    let other = given(case, "other")?;
+    let range = ordered_range(alloc, given(case, "range")?)?;
+    overlap_told(alloc, &range, other)
+}
+
+fn overlap_told(
+    alloc: Global,
+    range: &ApiEndpointVersions,
+    noted: &Json,
+) -> Result<Json, CaseError> {
+    let (overlaps, back) = both_ways(range, &ordered_range(alloc, noted)?);
+    Ok(pair(alloc, Json::Bool(overlaps), Json::Bool(back))?)
+}
+
+fn both_ways(range: &ApiEndpointVersions, other: &ApiEndpointVersions) -> (bool, bool) {
+    (range.overlaps_with(other), other.overlaps_with(range))
+}
+
+fn ordered_range(alloc: Global, noted: &Json) -> Result<ApiEndpointVersions, CaseError> {
+    range_of(alloc, noted)?
+        .ok()
+        .ok_or(CaseError::Expected("versions in order"))
+}
+
+// The range that is noted, or why its versions are none.
 fn range_of(
     alloc: Global,
     noted: &Json,
@@ -43,11 +58,20 @@ fn range_of(
     let [first, end] = items_of(noted)? else {
         return Err(CaseError::Expected("two bounds"));
     };
-    match (version_or_none(alloc, first)?, version_or_none(alloc, end)?) {
-        (None, None) => Ok(Ok(ApiEndpointVersions::all())),
-        (Some(first), None) => Ok(Ok(ApiEndpointVersions::from(first))),
-        (None, Some(end)) => Ok(Ok(ApiEndpointVersions::until(end))),
-        (Some(first), Some(end)) => Ok(ApiEndpointVersions::from_until(first, end)),
+    let first = version_or_none(alloc, first)?;
+    let end = version_or_none(alloc, end)?;
+    Ok(range_between(first, end))
+}
+
+fn range_between(
+    first: Option<Version>,
+    end: Option<Version>,
+) -> Result<ApiEndpointVersions, &'static str> {
+    match (first, end) {
+        (None, None) => Ok(ApiEndpointVersions::all()),
+        (Some(first), None) => Ok(ApiEndpointVersions::from(first)),
+        (None, Some(end)) => Ok(ApiEndpointVersions::until(end)),
+        (Some(first), Some(end)) => ApiEndpointVersions::from_until(first, end),
     }
 }
 
@@ -68,23 +92,22 @@ fn version_of(alloc: Global, text: &Text) -> Result<Version, CaseError> {
 /// it is refused as. Where the case has no header, versions are not looked at.
 pub fn request_version_told(alloc: Global, case: &Json) -> Result<Json, CaseError> {
     let lines = lines_of(alloc, given(case, "lines")?)?;
-    if case.get("header").is_none() {
-        return version_told(
-            alloc,
-            VersionPolicy::Unversioned.request_version(alloc, &lines),
-        );
+    match case.get("header") {
+        Some(_) => version_by_header(alloc, case, &lines),
+        None => version_of_any(alloc, &lines),
     }
-    asked(alloc, &policy_of(alloc, case)?, &lines)
 }
 
-fn policy_of(alloc: Global, case: &Json) -> Result<ClientSpecifiesVersionInHeader, CaseError> {
-    let name = name_of(alloc, text_of(given(case, "header")?)?)?;
-    let greatest = version_of(alloc, text_of(given(case, "greatest")?)?)?;
-    let policy = ClientSpecifiesVersionInHeader::new(name, greatest);
-    match case.get("missing") {
-        Some(version) => Ok(policy.on_missing(version_of(alloc, text_of(version)?)?)),
-        None => Ok(policy),
+fn version_of_any(alloc: Global, lines: &HeaderList) -> Result<Json, CaseError> {
+    match VersionPolicy::Unversioned.request_version(alloc, lines) {
+        Ok(Some(version)) => version_told(alloc, &version),
+        Ok(None) => Ok(word(alloc, "unversioned")?),
+        Err(refusal) => refusal_told(alloc, &refusal),
     }
+}
+
+fn version_by_header(alloc: Global, case: &Json, lines: &HeaderList) -> Result<Json, CaseError> {
+    asked(alloc, &policy_of(alloc, case)?, lines)
 }
 
 fn asked(
@@ -93,33 +116,57 @@ fn asked(
     lines: &HeaderList,
 ) -> Result<Json, CaseError> {
     match policy.request_extract_version(alloc, lines) {
-        Ok(version) => version_told(alloc, Ok(Some(version))),
-        Err(refusal) => version_told(alloc, Err(refusal)),
+        Ok(version) => version_told(alloc, &version),
+        Err(refusal) => refusal_told(alloc, &refusal),
     }
 }
 
-fn version_told(
-    alloc: Global,
-    answer: Result<Option<Version>, HttpRefusal>,
-) -> Result<Json, CaseError> {
-    match answer {
-        Ok(Some(version)) => {
-            let text = Text::from_string(version.to_string(alloc)?);
-            Ok(form(alloc, "version", Json::Text(text))?)
-        }
-        Ok(None) => Ok(word(alloc, "unversioned")?),
-        Err(HttpRefusal::Http(error)) => {
-            let mut told = List::new(alloc);
-            let status = Json::Int(error.status_code.as_u16().into());
-            put(alloc, &mut told, "refused", status)?;
-            put(
-                alloc,
-                &mut told,
-                "message",
-                Json::Text(error.external_message),
-            )?;
-            Ok(Json::Object(told))
-        }
-        Err(HttpRefusal::OutOfMemory) => Err(CaseError::OutOfMemory),
+fn policy_of(alloc: Global, case: &Json) -> Result<ClientSpecifiesVersionInHeader, CaseError> {
+    let missing = version_at(alloc, case, "missing")?;
+    let policy = greatest_policy(alloc, case)?;
+    match missing {
+        Some(version) => Ok(policy.on_missing(version)),
+        None => Ok(policy),
     }
+}
+
+fn greatest_policy(
+    alloc: Global,
+    case: &Json,
+) -> Result<ClientSpecifiesVersionInHeader, CaseError> {
+    let (header, greatest) = (
+        text_of(given(case, "header")?)?,
+        text_of(given(case, "greatest")?)?,
+    );
+    let name = name_of(alloc, header)?;
+    let greatest = version_of(alloc, greatest)?;
+    Ok(ClientSpecifiesVersionInHeader::new(name, greatest))
+}
+
+fn version_at(alloc: Global, case: &Json, name: &str) -> Result<Option<Version>, CaseError> {
+    match case.get(name) {
+        Some(noted) => Ok(Some(version_of(alloc, text_of(noted)?)?)),
+        None => Ok(None),
+    }
+}
+
+fn version_told(alloc: Global, version: &Version) -> Result<Json, CaseError> {
+    let text = Text::from_string(version.to_string(alloc)?);
+    Ok(form(alloc, "version", Json::Text(text))?)
+}
+
+fn refusal_told(alloc: Global, refusal: &HttpRefusal) -> Result<Json, CaseError> {
+    match refusal {
+        HttpRefusal::Http(error) => error_told(alloc, error),
+        HttpRefusal::OutOfMemory => Err(CaseError::OutOfMemory),
+    }
+}
+
+fn error_told(alloc: Global, error: &HttpError) -> Result<Json, CaseError> {
+    let status = Json::Int(error.status_code.as_u16().into());
+    let mut told = List::new(alloc);
+    put(alloc, &mut told, "refused", status)?;
+    let message = word(alloc, error.external_message.as_str())?;
+    put(alloc, &mut told, "message", message)?;
+    Ok(Json::Object(told))
 }

@@ -1,19 +1,23 @@
 //! Calls that read a body under a limit on its content and a budget of frames.
-use crate::bodies::{body_of, count_of, frame_told};
+use crate::bodies::{body_of, content_told, count_of, frames_told};
 use crate::lines::bytes_noted;
 use body_reading::{BodyError, StreamRefusal, StreamingBody, gather_frames, read_whole};
 use case_notation::{CaseError, form, given, number_of, text_of, word};
-use http_status::HttpError;
+use http_status::{Body, HttpError};
 use schema_values::{Json, List};
 use std::alloc::Global;
 
 /// What reading the body of a case whole gives, within the limit and the budget of the case.
 pub fn whole_told(alloc: Global, case: &Json) -> Result<Json, CaseError> {
-    let mut body = body_of(alloc, given(case, "body")?)?;
     let limit = count_of(given(case, "limit")?)?;
     let budget = count_of(given(case, "budget")?)?;
-    match read_whole(alloc, &mut body, u64::from(limit), u64::from(budget)) {
-        Ok(content) => Ok(form(alloc, "bytes", bytes_noted(alloc, content.as_slice())?)?),
+    let mut body = body_of(alloc, given(case, "body")?)?;
+    read_told(alloc, &mut body, limit, budget)
+}
+
+fn read_told(alloc: Global, body: &mut Body, limit: u32, budget: u32) -> Result<Json, CaseError> {
+    match read_whole(alloc, body, u64::from(limit), u64::from(budget)) {
+        Ok(content) => content_told(alloc, content.as_slice()),
         Err(error) => error_told(alloc, error),
     }
 }
@@ -29,22 +33,37 @@ fn error_told(alloc: Global, error: BodyError) -> Result<Json, CaseError> {
 
 /// What each of so many calls of a body that is gathered of the body of a case gives.
 pub fn gathered_told(alloc: Global, case: &Json) -> Result<Json, CaseError> {
-    let mut source = body_of(alloc, given(case, "body")?)?;
+    let calls = number_of(given(case, "calls")?)?;
     let budget = count_of(given(case, "budget")?)?;
-    let mut body = gather_frames(alloc, &mut source, u64::from(budget))?;
-    let mut answers = List::new(alloc);
-    for _ in 0..number_of(given(case, "calls")?)? {
-        answers.push(frame_told(alloc, body.next_frame(alloc))?)?;
-    }
-    Ok(Json::List(answers))
+    let mut source = body_of(alloc, given(case, "body")?)?;
+    gathered_from(alloc, &mut source, budget, calls)
+}
+
+fn gathered_from(
+    alloc: Global,
+    source: &mut Body,
+    budget: u32,
+    calls: i128,
+) -> Result<Json, CaseError> {
+    let mut body = gather_frames(alloc, source, u64::from(budget))?;
+    frames_told(alloc, &mut body, calls)
 }
 
 /// What each of so many calls of a reader gives: of the bytes of a case, or of its body under the
 /// limit and the budget of the case.
 pub fn stream_told(alloc: Global, case: &Json) -> Result<Json, CaseError> {
+    let calls = number_of(given(case, "calls")?)?;
     let mut stream = stream_of(alloc, case)?;
+    contents_told(alloc, &mut stream, calls)
+}
+
+fn contents_told(
+    alloc: Global,
+    stream: &mut StreamingBody,
+    calls: i128,
+) -> Result<Json, CaseError> {
     let mut answers = List::new(alloc);
-    for _ in 0..number_of(given(case, "calls")?)? {
+    for _ in 0..calls {
         answers.push(data_told(alloc, stream.next_data(alloc))?)?;
     }
     Ok(Json::List(answers))
@@ -55,9 +74,9 @@ fn stream_of(alloc: Global, case: &Json) -> Result<StreamingBody, CaseError> {
         let bytes = List::from_bytes(alloc, text_of(content)?.as_bytes())?;
         return Ok(StreamingBody::from_bytes(bytes));
     }
-    let body = body_of(alloc, given(case, "body")?)?;
     let cap = count_of(given(case, "limit")?)?;
     let budget = count_of(given(case, "budget")?)?;
+    let body = body_of(alloc, given(case, "body")?)?;
     Ok(StreamingBody::new(body, u64::from(cap), u64::from(budget)))
 }
 
@@ -68,15 +87,21 @@ fn data_told(
     match answer {
         Ok(Some(bytes)) => bytes_noted(alloc, bytes.as_slice()),
         Ok(None) => Ok(word(alloc, "end")?),
-        Err(StreamRefusal::Fault(error)) => refusal_told(alloc, "fault", &error),
-        Err(StreamRefusal::TooLarge(error)) => refusal_told(alloc, "too large", &error),
-        Err(StreamRefusal::FrameBudget(error)) => refusal_told(alloc, "frames", &error),
-        Err(StreamRefusal::Closed) => Ok(word(alloc, "closed")?),
-        Err(StreamRefusal::OutOfMemory) => Err(CaseError::OutOfMemory),
+        Err(refusal) => refusal_told(alloc, &refusal),
     }
 }
 
-fn refusal_told(alloc: Global, kind: &str, error: &HttpError) -> Result<Json, CaseError> {
+fn refusal_told(alloc: Global, refusal: &StreamRefusal) -> Result<Json, CaseError> {
+    match refusal {
+        StreamRefusal::Fault(error) => message_told(alloc, "fault", error),
+        StreamRefusal::TooLarge(error) => message_told(alloc, "too large", error),
+        StreamRefusal::FrameBudget(error) => message_told(alloc, "frames", error),
+        StreamRefusal::Closed => Ok(word(alloc, "closed")?),
+        StreamRefusal::OutOfMemory => Err(CaseError::OutOfMemory),
+    }
+}
+
+fn message_told(alloc: Global, kind: &str, error: &HttpError) -> Result<Json, CaseError> {
     let message = word(alloc, error.external_message.as_str())?;
     Ok(form(alloc, kind, message)?)
 }

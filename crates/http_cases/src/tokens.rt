@@ -1,28 +1,32 @@
 //! Calls on page tokens.
 ghost use Rattle.typed_values.specs.Checks.{TablePasses, DescPasses};
 
-use case_notation::{
-    CaseError, Scope, form, given, pair, scope_of, text_of, tree_noted, tree_of, word,
-};
+use crate::maps::tree_told;
+use case_notation::{CaseError, Scope, form, given, pair, scope_of, text_of, tree_of, word};
 use page_tokens::{TokenError, read_token, write_token};
-use schema_values::Json;
+use schema_values::{Json, Text};
 use std::alloc::Global;
-use typed_values::{Tree, fits};
+use typed_values::fits;
 
 /// The token of the tree of a case, under its descriptor, or what it is refused as.
 pub fn token_written(alloc: Global, case: &Json) -> Result<Json, CaseError> {
-    let tree = tree_of(alloc, given(case, "tree")?)?;
-    written(alloc, &scope_of(alloc, case)?, &tree)
+    let tree = given(case, "tree")?;
+    written(alloc, &scope_of(alloc, case)?, tree)
 }
 
-fn written(alloc: Global, scope: &Scope, tree: &Tree) -> Result<Json, CaseError>
+fn written(alloc: Global, scope: &Scope, noted: &Json) -> Result<Json, CaseError>
     requires table { TablePasses scope.now.table }
     requires desc { DescPasses scope.now.table scope.now.desc }
 {
-    if !fits(&scope.table, &scope.desc, tree) {
+    let tree = tree_of(alloc, noted)?;
+    if !fits(&scope.table, &scope.desc, &tree) {
         return Err(CaseError::Expected("a tree that fits"));
     }
-    match write_token(alloc, &scope.table, &scope.desc, tree) {
+    token_told(alloc, write_token(alloc, &scope.table, &scope.desc, &tree))
+}
+
+fn token_told(alloc: Global, answer: Result<Text, TokenError>) -> Result<Json, CaseError> {
+    match answer {
         Ok(token) => Ok(form(alloc, "token", Json::Text(token))?),
         Err(error) => refused(alloc, error),
     }
@@ -31,9 +35,15 @@ fn written(alloc: Global, scope: &Scope, tree: &Tree) -> Result<Json, CaseError>
 /// The tree that the token of a case is read as, or what it is refused as.
 pub fn token_read(alloc: Global, case: &Json) -> Result<Json, CaseError> {
     let token = text_of(given(case, "token")?)?;
-    let Scope { table, desc } = scope_of(alloc, case)?;
-    match read_token(alloc, &table, &desc, token.as_str()) {
-        Ok(tree) => Ok(form(alloc, "tree", tree_noted(alloc, &tree)?)?),
+    read(alloc, &scope_of(alloc, case)?, token)
+}
+
+fn read(alloc: Global, scope: &Scope, token: &Text) -> Result<Json, CaseError>
+    requires table { TablePasses scope.now.table }
+    requires desc { DescPasses scope.now.table scope.now.desc }
+{
+    match read_token(alloc, &scope.table, &scope.desc, token.as_str()) {
+        Ok(tree) => tree_told(alloc, &tree),
         Err(error) => refused(alloc, error),
     }
 }
