@@ -14,16 +14,21 @@ use tag_config::TagConfig;
 /// What is told of each endpoint of a case: `registered`, or the cause and the message of its
 /// refusal. One that is refused is left out for those behind it.
 pub fn causes_told(alloc: Global, case: &Json) -> Result<Json, CaseError> {
+    let endpoints = items_at(case, "endpoints")?;
     let settings = settings_at(alloc, case)?;
+    told_under(alloc, &settings, endpoints)
+}
+
+fn told_under(alloc: Global, settings: &TagConfig, noted: &[Json]) -> Result<Json, CaseError> {
     let mut registered = List::new(alloc);
     let mut index = EndpointIndex::new(alloc);
     let mut told = List::new(alloc);
     tell_all(
         alloc,
-        &settings,
+        settings,
         &mut registered,
         &mut index,
-        items_at(case, "endpoints")?,
+        noted,
         &mut told,
     )?;
     Ok(Json::List(told))

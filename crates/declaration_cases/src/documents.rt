@@ -20,13 +20,22 @@ use tag_config::TagConfig;
 
 /// The document of the endpoints of a case, or why one of them may not be registered.
 pub fn document_told(alloc: Global, case: &Json) -> Result<Json, CaseError> {
+    let endpoints = items_at(case, "endpoints")?;
     let settings = settings_at(alloc, case)?;
+    told_under(alloc, case, &settings, endpoints)
+}
+
+fn told_under(
+    alloc: Global,
+    case: &Json,
+    settings: &TagConfig,
+    noted: &[Json],
+) -> Result<Json, CaseError> {
     let mut registered = List::new(alloc);
     let mut index = EndpointIndex::new(alloc);
-    let endpoints = items_at(case, "endpoints")?;
-    match register_all(alloc, &settings, &mut registered, &mut index, endpoints)? {
-        Some(error) => Ok(form(alloc, "refused", error_told(alloc, &error)?)?),
-        None => document_of(alloc, case, &settings, registered.as_slice()),
+    match register_all(alloc, settings, &mut registered, &mut index, noted)? {
+        Some(error) => refusal_told(alloc, &error),
+        None => document_of(alloc, case, settings, registered.as_slice()),
     }
 }
 
@@ -46,6 +55,10 @@ fn register_all(
         }
     }
     Ok(None)
+}
+
+fn refusal_told(alloc: Global, error: &ApiDescriptionRegisterError) -> Result<Json, CaseError> {
+    Ok(form(alloc, "refused", error_told(alloc, error)?)?)
 }
 
 fn error_told(alloc: Global, error: &ApiDescriptionRegisterError) -> Result<Json, AllocError> {
@@ -105,7 +118,22 @@ fn written(
 {
     let version = version_at(alloc, case)?;
     let info = info_of(alloc, case, &version)?;
-    let document = document(alloc, declarations, settings, &info, &version)?;
+    written_at(alloc, declarations, settings, &info, &version)
+}
+
+fn written_at(
+    alloc: Global,
+    declarations: &[Declaration<'_>],
+    settings: &TagConfig,
+    info: &Info,
+    version: &Version,
+) -> Result<Json, CaseError>
+    requires { All (λ d. ShapePasses d.shape) declarations.now }
+{
+    let document = Box::new(
+        alloc,
+        document(alloc, declarations, settings, info, version)?,
+    )?;
     Ok(document.to_json(alloc)?)
 }
 

@@ -70,14 +70,23 @@ fn outcome_told(
     outcome: Result<ArgList, ExtractError>,
     calls: u64,
 ) -> Result<List<Member>, CaseError> {
-    let mut told = List::new(alloc);
     match outcome {
-        Ok(args) => {
-            push_word(alloc, &mut told, "outcome", "denoted")?;
-            put(alloc, &mut told, "args", args_told(alloc, args, calls)?)?;
-        }
-        Err(error) => put_error(alloc, &mut told, &error)?,
+        Ok(args) => denoted_told(alloc, args, calls),
+        Err(error) => error_told(alloc, &error),
     }
+}
+
+fn denoted_told(alloc: Global, args: ArgList, calls: u64) -> Result<List<Member>, CaseError> {
+    let args = args_told(alloc, args, calls)?;
+    let mut told = List::new(alloc);
+    push_word(alloc, &mut told, "outcome", "denoted")?;
+    put(alloc, &mut told, "args", args)?;
+    Ok(told)
+}
+
+fn error_told(alloc: Global, error: &ExtractError) -> Result<List<Member>, CaseError> {
+    let mut told = List::new(alloc);
+    put_error(alloc, &mut told, error)?;
     Ok(told)
 }
 

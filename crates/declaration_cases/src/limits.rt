@@ -3,7 +3,7 @@
 //! are the server's.
 use api_respond::{RequestContext, RequestEndpointMetadata};
 use case_notation::{CaseError, given, number_of};
-use endpoint_notation::{number_or, parts_of, request_id_of, u64_of};
+use endpoint_notation::{info_of, number_or, request_id_of, u64_of};
 use request_parts::{ApiEndpointBodyContentType, ServerConfig};
 use schema_values::{Json, Text};
 use std::alloc::Global;
@@ -53,6 +53,8 @@ fn context_of(
     config: ServerConfig,
     request_body_max_bytes: Option<u64>,
 ) -> Result<RequestContext, CaseError> {
+    let request_id = request_id_of(alloc, "123")?;
+    let request = info_of(alloc, &Json::Null)?;
     let endpoint = RequestEndpointMetadata {
         operation_id: Text::new(alloc),
         variables: BTreeMap::new(alloc),
@@ -61,8 +63,8 @@ fn context_of(
     };
     Ok(RequestContext {
         endpoint,
-        request_id: request_id_of(alloc, "123")?,
-        request: parts_of(alloc, &Json::Null, &Json::Null)?.info,
+        request_id,
+        request,
         config,
     })
 }

@@ -12,10 +12,14 @@ pub fn found(alloc: Global, case: &Json) -> Result<Json, CaseError> {
 }
 
 fn found_among(alloc: Global, case: &Json, endpoints: &[PlainEndpoint]) -> Result<Json, CaseError> {
+    let template = text_of(given(case, "template")?)?;
     let version = version_at(alloc, case)?;
     let method = method_at(alloc, case, "GET")?;
-    let template = text_of(given(case, "template")?)?;
-    match endpoint_for(endpoints, &version, &method, template) {
+    name_told(alloc, endpoint_for(endpoints, &version, &method, template))
+}
+
+fn name_told(alloc: Global, endpoint: Option<&PlainEndpoint>) -> Result<Json, CaseError> {
+    match endpoint {
         Some(endpoint) => Ok(word(alloc, endpoint.operation_id.as_str())?),
         None => Ok(Json::Null),
     }

@@ -34,13 +34,19 @@ fn value_told<T: ApiType>(
     answer: Result<T, HttpRefusal>,
 ) -> Result<Json, CaseError> {
     match answer {
-        Ok(value) => Ok(form(alloc, "tree", tree_told(alloc, &value)?)?),
-        Err(HttpRefusal::Http(error)) => Ok(refusal_told(alloc, &error)?),
-        Err(HttpRefusal::OutOfMemory) => Err(CaseError::OutOfMemory),
+        Ok(value) => tree_told(alloc, &value),
+        Err(refusal) => refusal_told(alloc, &refusal),
     }
 }
 
-fn refusal_told(alloc: Global, error: &HttpError) -> Result<Json, AllocError> {
+fn refusal_told(alloc: Global, refusal: &HttpRefusal) -> Result<Json, CaseError> {
+    match refusal {
+        HttpRefusal::Http(error) => Ok(error_told(alloc, error)?),
+        HttpRefusal::OutOfMemory => Err(CaseError::OutOfMemory),
+    }
+}
+
+fn error_told(alloc: Global, error: &HttpError) -> Result<Json, AllocError> {
     let mut told = List::new(alloc);
     let status = Json::Int(error.status_code.as_u16().into());
     put(alloc, &mut told, "refused", status)?;
@@ -48,7 +54,11 @@ fn refusal_told(alloc: Global, error: &HttpError) -> Result<Json, AllocError> {
     Ok(Json::Object(told))
 }
 
-fn tree_told<T: ApiType>(alloc: Global, value: &T) -> Result<Json, AllocError> {
+fn tree_told<T: ApiType>(alloc: Global, value: &T) -> Result<Json, CaseError> {
+    Ok(form(alloc, "tree", tree_of(alloc, value)?)?)
+}
+
+fn tree_of<T: ApiType>(alloc: Global, value: &T) -> Result<Json, AllocError> {
     tree_noted(alloc, &value.to_tree(alloc)?)
 }
 

@@ -12,11 +12,21 @@ pub fn settings_told(alloc: Global, case: &Json) -> Result<Json, CaseError> {
         return Err(CaseError::Expected("sound JSON"));
     }
     match TagConfig::from_json(alloc, json) {
-        Ok(settings) => Ok(settings.to_json(alloc)?),
-        Err(DecodeError::Fault(fault)) => {
+        Ok(settings) => written(alloc, &settings),
+        Err(error) => refused(alloc, &error),
+    }
+}
+
+fn written(alloc: Global, settings: &TagConfig) -> Result<Json, CaseError> {
+    Ok(settings.to_json(alloc)?)
+}
+
+fn refused(alloc: Global, error: &DecodeError) -> Result<Json, CaseError> {
+    match error {
+        DecodeError::Fault(fault) => {
             let text = fault.text(alloc)?;
             Ok(form(alloc, "refused", Json::Text(text))?)
         }
-        Err(DecodeError::OutOfMemory) => Err(CaseError::OutOfMemory),
+        DecodeError::OutOfMemory => Err(CaseError::OutOfMemory),
     }
 }

@@ -20,8 +20,8 @@ pub use members::{items_at, number_or, push_word, text_or, u64_of};
 pub use reading::{Reading, are_served, reading_of};
 pub use refusals::put_error;
 pub use requests::{
-    body_of, content_of, lines_of, method_at, parts_of, request_at, request_id_of, variables_at,
-    version_at,
+    body_of, content_of, info_of, lines_of, method_at, parts_of, request_at, request_id_of,
+    variables_at, version_at,
 };
 pub use shapes::{shape_of, slots_at, table_at};
 pub use streams::{bytes_noted, data_told};

@@ -47,10 +47,11 @@ pub fn parts_of(alloc: Global, case: &Json, noted: &Json) -> Result<RequestParts
     })
 }
 
-fn info_of(alloc: Global, noted: &Json) -> Result<RequestInfo, CaseError> {
+/// What a request is without its body.
+pub fn info_of(alloc: Global, noted: &Json) -> Result<RequestInfo, CaseError> {
+    let headers = lines_of(alloc, items_at(noted, "headers")?)?;
     let method = method_at(alloc, noted, "GET")?;
     let uri = uri_at(alloc, noted)?;
-    let headers = lines_of(alloc, items_at(noted, "headers")?)?;
     Ok(RequestInfo::new(
         method,
         uri,

@@ -25,10 +25,10 @@ use typed_values::{AddError, Desc, DescTable};
 /// The shape that is noted.
 pub fn shape_of(alloc: Global, noted: &Json) -> Result<HandlerShape, CaseError> {
     Ok(HandlerShape {
-        error: error_at(alloc, noted)?,
-        response: response_at(alloc, noted)?,
         table: table_at(alloc, noted)?,
         slots: slots_at(alloc, noted)?,
+        error: error_at(alloc, noted)?,
+        response: response_at(alloc, noted)?,
     })
 }
 
@@ -99,14 +99,15 @@ fn slot_with(alloc: Global, form: &str, noted: &Json) -> Result<Slot, CaseError>
 
 fn pages_of(alloc: Global, noted: &Json) -> Result<Slot, CaseError> {
     check_names(noted, &["scan", "selector", "table"])?;
+    let (scan, selector) = (given(noted, "scan")?, given(noted, "selector")?);
     let mut selector_table = DescTable::new(alloc);
     for definition in items_at(noted, "table")? {
         define_noted(alloc, &mut selector_table, definition)?;
     }
     Ok(Slot::PagedQuery {
         selector_table,
-        scan: desc_of(alloc, given(noted, "scan")?)?,
-        selector: desc_of(alloc, given(noted, "selector")?)?,
+        scan: desc_of(alloc, scan)?,
+        selector: desc_of(alloc, selector)?,
     })
 }
 
@@ -190,8 +191,8 @@ fn status_of(number: i128) -> Option<StatusCode> {
 fn error_at(alloc: Global, noted: &Json) -> Result<Option<ApiEndpointErrorResponse>, CaseError> {
     match noted.get("error") {
         None => Ok(Some(ApiEndpointErrorResponse {
-            desc: Desc::Ref(Text::from_str(alloc, "Error")?),
             name: Text::from_str(alloc, "Error")?,
+            desc: Desc::Ref(Text::from_str(alloc, "Error")?),
         })),
         Some(Json::Null) => Ok(None),
         Some(noted) => {

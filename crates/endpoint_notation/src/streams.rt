@@ -20,18 +20,29 @@ fn answer_told(
     answer: Result<Option<List<u8>>, StreamRefusal>,
 ) -> Result<Json, CaseError> {
     match answer {
-        Ok(Some(data)) => Ok(form(alloc, "data", bytes_noted(alloc, data.as_slice())?)?),
+        Ok(Some(data)) => content_told(alloc, data.as_slice()),
         Ok(None) => Ok(word(alloc, "end")?),
-        Err(StreamRefusal::Fault(error)) => message_told(alloc, "fault", error),
-        Err(StreamRefusal::TooLarge(error)) => message_told(alloc, "too_large", error),
-        Err(StreamRefusal::FrameBudget(error)) => message_told(alloc, "frame_budget", error),
-        Err(StreamRefusal::Closed) => Ok(word(alloc, "closed")?),
-        Err(StreamRefusal::OutOfMemory) => Err(CaseError::OutOfMemory),
+        Err(refusal) => refusal_told(alloc, &refusal),
     }
 }
 
-fn message_told(alloc: Global, name: &str, error: HttpError) -> Result<Json, CaseError> {
-    Ok(form(alloc, name, Json::Text(error.external_message))?)
+fn content_told(alloc: Global, content: &[u8]) -> Result<Json, CaseError> {
+    Ok(form(alloc, "data", bytes_noted(alloc, content)?)?)
+}
+
+fn refusal_told(alloc: Global, refusal: &StreamRefusal) -> Result<Json, CaseError> {
+    match refusal {
+        StreamRefusal::Fault(error) => message_told(alloc, "fault", error),
+        StreamRefusal::TooLarge(error) => message_told(alloc, "too_large", error),
+        StreamRefusal::FrameBudget(error) => message_told(alloc, "frame_budget", error),
+        StreamRefusal::Closed => Ok(word(alloc, "closed")?),
+        StreamRefusal::OutOfMemory => Err(CaseError::OutOfMemory),
+    }
+}
+
+fn message_told(alloc: Global, name: &str, error: &HttpError) -> Result<Json, CaseError> {
+    let message = word(alloc, error.external_message.as_str())?;
+    Ok(form(alloc, name, message)?)
 }
 
 /// Bytes as a text, or by their digits where they are none.
