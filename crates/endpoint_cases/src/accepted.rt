@@ -10,7 +10,7 @@ use crate::registering::refusal;
 use crate::requests::{request_at, version_of, wire_request};
 use crate::streams::{lines_told, sink_of};
 use api_description::api_respond::RouteHandler;
-use api_description::{ApiDescription, ApiEndpoint, TagConfig, WriteError};
+use api_description::{ApiDescription, ApiEndpoint, RegisterError, TagConfig, WriteError};
 use case_notation::{CaseError, form, given, put, text_of};
 use line_session::MemorySink;
 use request_admission::check_admits;
@@ -41,11 +41,13 @@ pub fn over_accepted(
 ) -> Result<Json, CaseError> {
     match ApiDescription::of_endpoints(alloc, TagConfig::default_config(alloc), endpoints) {
         Ok(api) => over_api(alloc, case, call, &api),
-        Err(error) => {
-            let told = refusal(alloc, &error)?;
-            Ok(form(alloc, "refused", told)?)
-        }
+        Err(error) => refused(alloc, &error),
     }
+}
+
+fn refused(alloc: Global, error: &RegisterError) -> Result<Json, CaseError> {
+    let told = refusal(alloc, error)?;
+    Ok(form(alloc, "refused", told)?)
 }
 
 fn over_api(
@@ -154,11 +156,16 @@ fn admits(alloc: Global, case: &Json, api: &ApiDescription) -> Result<Json, Case
     requires { AreAccepted
         (boxed ⟦<dyn RouteHandler as RouteHandler>⟧) [] api.now.endpoints.items }
 {
-    let document = document(alloc, case, api)?;
     let noted = request_at(case)?;
+    let document = document(alloc, case, api)?;
+    admitted(alloc, &document, noted)
+}
+
+fn admitted(alloc: Global, document: &Json, noted: &Json) -> Result<Json, CaseError>
+    requires { IsSound document.now }
+{
     let path = text_of(given(noted, "template")?)?.as_str();
     let method = text_of(given(noted, "method")?)?.as_str();
     let request = wire_request(alloc, noted)?;
-    let admitted = check_admits(alloc, &document, path, method, &request)?;
-    Ok(Json::Bool(admitted))
+    Ok(Json::Bool(check_admits(alloc, document, path, method, &request)?))
 }

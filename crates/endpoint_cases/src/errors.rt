@@ -68,14 +68,14 @@ pub fn status_code(alloc: Global, case: &Json) -> Result<Json, CaseError> {
 /// The body of an error that the JSON under `"text"` denotes: its tree, what it is written as by
 /// its type and by itself, and the name of its type.
 pub fn error_body(alloc: Global, case: &Json) -> Result<Json, CaseError> {
+    let json = read(alloc, text_of(given(case, "text")?)?)?;
     let table = match table_of::<HttpErrorResponseBody>(alloc) {
         Ok(table) => table,
         Err(TypeError::OutOfMemory) => return Err(CaseError::OutOfMemory),
         Err(_) => return Err(CaseError::Expected("a type with a table")),
     };
-    let json = read(alloc, text_of(given(case, "text")?)?)?;
     match json_value(alloc, &table, &json) {
-        Ok(body) => body_told(alloc, &body, &value_json(alloc, &table, &body)?),
+        Ok(body) => body_told(alloc, &body, value_json(alloc, &table, &body)),
         Err(DecodeError::OutOfMemory) => Err(CaseError::OutOfMemory),
         Err(DecodeError::Fault(_)) => Err(CaseError::Expected("the body of an error")),
     }
@@ -94,12 +94,13 @@ fn read(alloc: Global, text: &Text) -> Result<Json, CaseError>
 fn body_told(
     alloc: Global,
     body: &HttpErrorResponseBody,
-    written: &Json,
+    written: Result<Json, AllocError>,
 ) -> Result<Json, CaseError> {
+    let written = written?;
     let mut members = List::new(alloc);
     put(alloc, &mut members, "type_name", type_name(alloc)?)?;
     put(alloc, &mut members, "tree", tree_told(alloc, body)?)?;
-    put(alloc, &mut members, "written", written.copy(alloc)?)?;
+    put(alloc, &mut members, "written", written)?;
     let json = body.copy(alloc)?.to_json(alloc)?;
     put(
         alloc,

@@ -29,8 +29,18 @@ pub fn session(
     front: &str,
 ) -> Result<Json, CaseError> {
     let mut setting = setting_of(alloc, case)?;
-    let status = run_session(alloc, endpoints, &mut setting)?;
-    session_told(alloc, case, &setting, &status, front)
+    session_in(alloc, case, endpoints, &mut setting, front)
+}
+
+fn session_in(
+    alloc: Global,
+    case: &Json,
+    endpoints: Vec<ApiEndpoint>,
+    setting: &mut Setting,
+    front: &str,
+) -> Result<Json, CaseError> {
+    let status = run_session(alloc, endpoints, setting)?;
+    session_told(alloc, case, setting, &status, front)
 }
 
 // The words `session` and the version of the case, limits that are not in reach, ends of which no
@@ -127,11 +137,14 @@ fn push_status(
 
 /// The title and the limits of a copy of the shipped configuration.
 pub fn shipped_config(alloc: Global) -> Result<Json, CaseError> {
-    let config = sample::config(alloc)?.copy(alloc)?;
+    config_told(alloc, &sample::config(alloc)?.copy(alloc)?)
+}
+
+fn config_told(alloc: Global, config: &ToolConfig) -> Result<Json, CaseError> {
     let server = &config.server;
     let mut members = List::new(alloc);
     push_word(alloc, &mut members, "title", config.title.as_str())?;
-    for (name, limit) in [
+    for &(name, limit) in &[
         (
             "default_request_body_max_bytes",
             server.default_request_body_max_bytes,
