@@ -303,6 +303,13 @@ module _ (table : List Definition) (request : Request) (slots : List Slot) (slot
         | inr same ↦ inr same
       ]
 
+  pub last_most : {P Q : Type 0} → (takes_stream slot ≡ true) × P ⊎ Q → IsTrue (list_any takes_stream slots) × P ⊎ Q
+  last_most most =
+      elim most [
+        | inl whole ↦ inl (last_alone takes_stream streams_only ∙ whole.0, whole.1)
+        | inr few ↦ inr few
+      ]
+
   pub last_moved : {P : Type 0} → (takes_stream slot ≡ true → P)
       → OnOk result (IsTrue (list_any takes_stream slots) → P)
   last_moved {P} moved = by_result result

@@ -71,10 +71,10 @@ pub fn extract(
         → body.new ≡ body.old }
     ensures unasked { list_any takes_body slots.now ≡ false → body.new ≡ body.old }
 
-    // Of a body that is read at most one frame more than the budget is taken; a stream takes it
+    // At most one frame more than the budget is taken of the body, but where a stream takes it
     // whole.
-    ensures most { (body.new ≡ never_failing []) ⊎ TakesAtMost (budget + 1)
-        (Some (frames_of body.old)) (Some (frames_of body.new)) }
+    ensures most { IsTrue (list_any takes_stream slots.now) × (body.new ≡ never_failing [])
+        ⊎ TakesAtMost (budget + 1) (Some (frames_of body.old)) (Some (frames_of body.new)) }
     ensures moved { OnOk result
         (IsTrue (list_any takes_stream slots.now) → body.new ≡ never_failing []) }
 

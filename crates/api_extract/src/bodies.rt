@@ -47,8 +47,8 @@ pub(crate) fn body_argument(
     requires budget { reading.budget < 2 ^ 64 - 1 }
     ensures outcome { ComesTo result (slot_extracted (terms table.now reading.content_type
         reading.limit reading.budget) request.now body.old slot.now) }
-    ensures most { (body.new ≡ never_failing []) ⊎ TakesAtMost (reading.budget + 1)
-        (Some (frames_of body.old)) (Some (frames_of body.new)) }
+    ensures most { (takes_stream slot.now ≡ true) × (body.new ≡ never_failing [])
+        ⊎ TakesAtMost (reading.budget + 1) (Some (frames_of body.old)) (Some (frames_of body.new)) }
     ensures moved { takes_stream slot.now ≡ true → body.new ≡ never_failing [] }
     ensures asked { IsErrAnd result IsOfReading → reads_body slot.now ≡ true }
     ensures read { reads_body slot.now ≡ true → ReadsFor reading.limit reading.budget

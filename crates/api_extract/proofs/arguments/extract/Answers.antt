@@ -13,7 +13,7 @@ use Rattle.api_extract.proofs.GivenAnswers.{fault_of_reading}
 use Rattle.api_extract.proofs.Joined.{IsAnsweredBehind, all_come, front_comes, front_early, front_not_reading}
 use Rattle.api_extract.proofs.Joined.{front_read, given_early, given_in_front, told_in_front}
 use Rattle.api_extract.proofs.Joined.{last_asked, last_comes, last_counts, last_early, last_fault, last_moved}
-use Rattle.api_extract.proofs.Joined.{last_read, last_unasked, no_reader, no_stream}
+use Rattle.api_extract.proofs.Joined.{last_most, last_read, last_unasked, no_reader, no_stream}
 use Rattle.api_extract.proofs.arguments.extract.Goals as goal
 
 -- a slot before the body gives an error
@@ -87,7 +87,7 @@ returns-in-Some c =
       early = λ other e. last_early table request slots slot last result behind other e;
       untouched = λ other e. last_early table request slots slot last result behind other e;
       unasked = λ e. last_unasked table request slots slot last result behind e;
-      most = c.body_argument.ensures.most;
+      most = last_most table request slots slot last result behind c.body_argument.ensures.most;
       moved = last_moved table request slots slot last result behind c.body_argument.ensures.moved;
       asked = last_asked table request slots slot last result behind c.body_argument.ensures.asked;
       read = λ asks. last_read table request slots slot last result behind c.args.limit c.args.budget
