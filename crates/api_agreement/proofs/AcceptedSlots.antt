@@ -142,6 +142,23 @@ same_fields (Some desc) fields e = by_level (out-Desc desc) e
 -- ---- each slot
 
 module _ (tags : Configuration) (before : List DeclarationValue) (e : DeclarationValue)
+    (may : MayRegister tags before e) where
+  no_pages_beside
+      : (has_query_beside_pages e.shape.slots || list_any (takes_page_name e.shape.table) e.shape.slots) ≡ false
+  no_pages_beside =
+      by_test (has_query_beside_pages e.shape.slots || list_any (takes_page_name e.shape.table) e.shape.slots) refl
+    where
+      by_test : (b : Bool)
+          → (has_query_beside_pages e.shape.slots || list_any (takes_page_name e.shape.table) e.shape.slots) ≡ b
+          → b ≡ false
+      by_test true is = absurd (may.none cause.BadPagination (_, (is, refl)))
+      by_test false is = refl
+
+  -- whether or not documents show the endpoint
+  pub read_apart : AllPairs ReadApart e.shape.slots
+  read_apart = apart e.shape.slots (are_few e.shape.slots (neither _ _ no_pages_beside).0)
+
+module _ (tags : Configuration) (before : List DeclarationValue) (e : DeclarationValue)
     (may : MayRegister tags before e) (visible : IsTrue e.visible) where
   abbrev table : List Definition
   table = e.shape.table
@@ -211,15 +228,6 @@ module _ (tags : Configuration) (before : List DeclarationValue) (e : Declaratio
         same = same;
       }
 
-  no_pages_beside : (has_query_beside_pages e.shape.slots || list_any (takes_page_name table) e.shape.slots) ≡ false
-  no_pages_beside =
-      by_test (has_query_beside_pages e.shape.slots || list_any (takes_page_name table) e.shape.slots) refl
-    where
-      by_test : (b : Bool)
-          → (has_query_beside_pages e.shape.slots || list_any (takes_page_name table) e.shape.slots) ≡ b → b ≡ false
-      by_test true is = absurd (may.none cause.BadPagination (_, (is, refl)))
-      by_test false is = refl
-
   -- no field of what is scanned has a name that pages read
   scanned : (scan selector : Desc) (selector_table : List Definition)
       → Contains e.shape.slots (PagedQuery scan selector selector_table)
@@ -230,7 +238,7 @@ module _ (tags : Configuration) (before : List DeclarationValue) (e : Declaratio
       λ field k.
       neither _ _
       (fails_of (λ f. is_page_name f.name) (fields_of_struct table scan)
-      (fails_of (takes_page_name table) e.shape.slots (neither _ _ no_pages_beside).1
+      (fails_of (takes_page_name table) e.shape.slots (neither _ _ (no_pages_beside tags before e may)).1
       (PagedQuery scan selector selector_table) c) field (subst (λ fs. Contains fs field) (sym same) k)) in
       record {
         no_limit = λ field k is. absurd (cc ((others field k).0, (bytes_eq-Decides field.name (codes "limit")).1 is));
@@ -294,6 +302,6 @@ module _ (tags : Configuration) (before : List DeclarationValue) (e : Declaratio
     each = λ k d h. let c =
         All-contains_itself e.shape.slots k d h in shown_slot _ c
         (All-contains (SlotPasses table) e.shape.slots _ passes.slots c);
-    pages = apart e.shape.slots (are_few e.shape.slots (neither _ _ no_pages_beside).0);
+    pages = read_apart tags before e may;
     last = may.clear cause.TwoBodies;
   }

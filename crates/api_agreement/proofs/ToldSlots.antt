@@ -1,7 +1,11 @@
 -- What registration looks at of slots is what is told of them, and what is told of the slots of an endpoint that may be
 -- registered is listed by a document.
-use Rattle.std.proofs.Common.{◌≡◌, true, false, List, [], Option, Some, None, option_and_then, unwrap_or, refl}
+use Rattle.std.proofs.Common.{◌≡◌, true, false, List, [], ◌∷◌, Option, Some, None, IfSome, option_and_then, unwrap_or}
+use Rattle.std.proofs.Common.{refl, ◌∙◌, ap, subst, arith, inl, inr}
 use Rattle.std.proofs.lemmas.List.Elements.{All-contains, All-contains_itself}
+use Rattle.std.specs.List.{AllByRecursion}
+use Rattle.std.specs.Prelude.{AllPairs}
+use Rattle.schema_values.proofs.CallerLemmas.{contains_cases}
 use Rattle.descriptors.specs.declared.desc.Desc.{Desc, out-Desc}
 use Rattle.descriptors.specs.declared.desc.Desc.TheOpen.{Desc-F}
 use Rattle.descriptors.specs.declared.table.Definition.{Definition}
@@ -16,8 +20,12 @@ use Rattle.endpoint_parameters.specs.Parameters.{fields_of_level, fields_of_reso
 use Rattle.api_registration.specs.declared.cause.RegisterCause.TheVariants as cause
 use Rattle.api_registration.specs.Accepted.{MayStandBehind}
 use Rattle.api_registration.specs.Types.{IsOpenStruct, TakesOpenStruct}
+use Rattle.endpoint_metadata.specs.Modes.{AskAlike, AskFor, PageNames, asked_names, first_asked}
 use Rattle.endpoint_metadata.specs.Structs.{IsStruct, fields_at, listed_fields}
 use Rattle.endpoint_metadata.specs.WellTyped.{AreWellTyped, TakesStruct}
+use Rattle.api_agreement.specs.ShownSlots.{ReadApart}
+use Rattle.api_agreement.proofs.AcceptedSlots.{read_apart}
+use Rattle.api_agreement.proofs.SlotsApart.{pages_to}
 
 -- ---- the fields of a struct
 
@@ -73,3 +81,29 @@ well_typed before d may =
             struct = takes_struct d.shape.table _ (supported.parameters _ c);
           };
     }
+
+-- ---- all slots of pages ask alike, as there is one at most
+
+of_itself : (o : Option PageNames) → IfSome o (λ names. Some names ≡ o)
+of_itself None = tt
+of_itself (Some names) = refl
+
+module _ (table : List Definition) (P : PageNames → Type 0) where
+  asked_of : (slots : List Slot) → AllByRecursion (λ slot. IfSome (asked_names table slot) P) slots
+      → (names : PageNames) → AskFor table slots names → P names
+  asked_of [] all names asks = absurd (omega (arith, asks.1.1))
+  asked_of (slot ∷ slots) all names asks = elim (contains_cases slot slots asks.0 asks.1) [
+    | inl same ↦
+        subst (λ (o : Option PageNames). IfSome o P) (ap (asked_names table) same ∙ asks.2) all.0
+    | inr later ↦ asked_of slots all.1 names (asks.0, later, asks.2)
+  ]
+
+alike_apart : (table : List Definition) (slots : List Slot) → AllPairs ReadApart slots → AskAlike table slots
+alike_apart table slots apart one other this that =
+    let IsFirst : PageNames → Type 0 = λ names. Some names ≡ first_asked table slots in
+    let all = pages_to table IsFirst slots apart (of_itself (first_asked table slots)) in
+    cc (asked_of table IsFirst slots all one this, asked_of table IsFirst slots all other that)
+
+pub asked_alike : (before : List DeclarationValue) (d : DeclarationValue)
+    → MayStandBehind before d → AskAlike d.shape.table d.shape.slots
+asked_alike before d may = alike_apart d.shape.table d.shape.slots (read_apart may.0 before d may.1)

@@ -9,6 +9,7 @@ ghost use Rattle.descriptors.specs.declared.table.Definition.{Definition as Entr
 ghost use Rattle.api_declarations.specs.Values.{DeclarationValue};
 ghost use Rattle.endpoint_parameters.specs.Parameters.{fields_of_struct};
 ghost use Rattle.api_registration.specs.Accepted.{AreRegistered, MayStandBehind};
+ghost use Rattle.endpoint_metadata.specs.Modes.{AskAlike};
 ghost use Rattle.endpoint_metadata.specs.Structs.{listed_fields};
 ghost use Rattle.endpoint_metadata.specs.WellTyped.{AreWellTyped};
 ghost use Rattle.api_documents.specs.Accepted.{MayBeListed};
@@ -83,9 +84,11 @@ pub fn registered_fields_are_listed()
     ensures { (table : ListOf Entry) (desc : Descriptor) → fields_of_struct table desc ≡ listed_fields table desc }
 {}
 
-/// The slots of an endpoint that may be registered are such that `metadata` tells their parameters: those
-/// of the endpoint's operation in a document.
+/// The slots of an endpoint that may be registered are such that `metadata` tells their parameters, those
+/// of the endpoint's operation in a document, and no modes that differ.
 pub fn accepted_are_told()
-    ensures { (before : ListOf DeclarationValue) (d : DeclarationValue)
+    ensures typed { (before : ListOf DeclarationValue) (d : DeclarationValue)
         → MayStandBehind before d → AreWellTyped d.shape.table d.shape.slots }
+    ensures alike { (before : ListOf DeclarationValue) (d : DeclarationValue)
+        → MayStandBehind before d → AskAlike d.shape.table d.shape.slots }
 {}
