@@ -26,6 +26,10 @@ use tag_config::TagConfig;
 /// The document of endpoints at a version, as a value of the document's types (OpenAPI 3.0.3, OpenAPI
 /// Object). It lists the endpoints that are visible and whose ranges hold the version. Fails only for
 /// want of memory.
+///
+/// Beside what grows with the endpoints, the error of each is compared with the errors that are named
+/// before it, the endpoints of one path are looked through for each method, and the table of each is
+/// gone through once more for each further step along its references.
 pub fn document(
     alloc: Global,
     declarations: &[Declaration<'_>],

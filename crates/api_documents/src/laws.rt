@@ -25,7 +25,7 @@ ghost use Rattle.api_documents.specs.Operations.{operation_of};
 ghost use Rattle.api_documents.specs.Tags.{Configured};
 
 /// The document of endpoints at a version lists those that are visible and whose ranges hold it, each
-/// once, and so does its JSON.
+/// once. Its JSON has the operation of each at its path and method, and none at others.
 pub fn documents_list()
     ensures lists { (version : Parts) (ds : ListOf DeclarationValue) (configured : Configured)
         (info : InfoValue) → MayBeListed (listed version ds)
@@ -79,7 +79,8 @@ pub fn error_names_differ()
         → AreDistinct (given_names (named_errors es)) }
 {}
 
-/// Errors share a name exactly where they are equal: by the name of their type and the descriptor.
+/// Two errors are the same to a document exactly where they are equal: in the name of their type and the
+/// descriptor.
 pub fn same_errors_are_equal()
     ensures { (a b : Error) → IsTrue (same_error a b) ↔ (a ≡ b) }
 {}
