@@ -1,12 +1,14 @@
 -- Which struct the texts under flat names denote, and which fault is told first where they denote none: those of a
 -- path, of a query, of headers or of a form (OpenAPI 3.0.3, Parameter Object; Request Body Object for forms).
-use Rattle.std.specs.Prelude.{◌≡◌, ℕ, zero, suc, false, List, Option, Some, None, option_map, option_and_then}
+use Rattle.std.specs.Prelude.{◌≡◌, ⊤, ℕ, zero, suc, false, List, Option, Some, None, option_map, option_and_then}
 use Rattle.std.specs.declared.result.Result.TheVariants.{Ok}
 use Rattle.schema_values.specs.declared.variables.VariableValue.{VariableValue}
 use Rattle.schema_values.specs.declared.variables.VariableValue.TheVariants.{String, Components}
 use Rattle.descriptors.specs.declared.desc.Desc.{Desc, out-Desc}
 use Rattle.descriptors.specs.declared.desc.Desc.TheOpen.{Desc-F}
 use Rattle.descriptors.specs.declared.desc.Field.{Field}
+use Rattle.descriptors.specs.declared.desc.Presence.{Presence}
+use Rattle.descriptors.specs.declared.desc.Presence.TheVariants.{Required, Nullable, Skipped, Default}
 use Rattle.descriptors.specs.declared.table.Definition.{Definition}
 use Rattle.descriptors.specs.declared.tree.Tree.{Tree, Fields as Parts}
 use Rattle.descriptors.specs.Definitions.{definition}
@@ -49,6 +51,13 @@ texts_told table texts (Some d) = texts_by table texts (out-Desc d)
 abbrev pub given_told : List Definition → Desc → VariableValue → Told
 given_told table d (String text) = text_told table text d
 given_told table d (Components texts) = texts_told table texts (resolved table d)
+
+-- a field that is none where it is absent
+abbrev pub IsNoneIfAbsent : Presence → Type 0
+IsNoneIfAbsent Required = ⊥
+IsNoneIfAbsent Nullable = ⊤
+IsNoneIfAbsent Skipped = ⊤
+IsNoneIfAbsent (Default tree) = ⊥
 
 -- the struct of some fields in order, of which each has what is told of its value, where it is there
 abbrev pub fields_told : (Field → Option Told) → List Field → Told

@@ -1,11 +1,11 @@
 // The fields of a struct, from what stands under their names.
-ghost use Rattle.std.specs.Prelude.{Contains, option_map};
+ghost use Rattle.std.specs.Prelude.{Contains, IsOk, option_map};
 ghost use Rattle.descriptors.specs.declared.desc.Field.{Field};
 ghost use Rattle.typed_values.specs.Answer.{Tells};
 ghost use Rattle.typed_values.specs.Checks.{TablePasses, DescPasses};
 ghost use Rattle.typed_values.specs.declared.fault.Place.TheVariants.{Name};
 ghost use Rattle.typed_values.specs.Denotes.{Told, below, by_presence, if_absent, if_present};
-ghost use Rattle.flat_maps.specs.Flat.{fields_told, given_told, looked_up};
+ghost use Rattle.flat_maps.specs.Flat.{IsNoneIfAbsent, fields_told, given_told, looked_up};
 ghost use Rattle.flat_maps.specs.Lookups.{given_of};
 
 use crate::given::{Given, LookUp, decode_given};
@@ -66,9 +66,10 @@ pub fn present_field(alloc: Global, field: &Field, answer: Result<Tree, Stop>) -
     }
 }
 
-/// What an absent field gives, by its presence.
+/// What an absent field gives, by its presence. A nullable or a skipped one takes no memory.
 pub fn absent_field(alloc: Global, field: &Field) -> Result<Tree, Stop>
-    ensures { Tells result (if_absent field.now.presence field.now.name) }
+    ensures told { Tells result (if_absent field.now.presence field.now.name) }
+    ensures without_memory { IsNoneIfAbsent field.now.presence → IsOk result }
 {
     match &field.presence {
         Presence::Required => Err(Stop::missing(alloc, &field.name)),
