@@ -35,6 +35,18 @@ impl ParsedPath {
         Ok(ParsedPath { text, template })
     }
 
+    /// A path equal to this one.
+    pub fn copy(&self, alloc: Global) -> Result<ParsedPath, AllocError>
+        ensures { IfOk result (λ copy. copy ≡ self.now) }
+    {
+        let text = self.text.copy(alloc)?;
+        let template = match &self.template {
+            Some(template) => Some(template.copy(alloc)?),
+            None => None,
+        };
+        Ok(ParsedPath { text, template })
+    }
+
     /// The text that it was made of.
     pub fn text(&self) -> &Text
         ensures { result.now ≡ self.now }
