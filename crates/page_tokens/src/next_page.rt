@@ -1,5 +1,5 @@
 //! The page of some items.
-ghost use Rattle.std.specs.Prelude.{◌≡◌, ◌≤◌, ◌++◌, [], IfOk, IfErr, IsErr, OnOk, length};
+ghost use Rattle.std.specs.Prelude.{◌≡◌, ◌≤◌, ◌++◌, [], IfOk, IfErr, IsErr, IsOk, OnOk, length};
 ghost use Rattle.std.specs.Fmt.{decimal};
 ghost use Rattle.http_status.specs.Errors.{internal_error};
 ghost use Rattle.api_types.specs.Additions.{with_all};
@@ -17,7 +17,7 @@ use typed_values::{AddError, DescTable};
 
 impl<T: Drop> ResultsPage<T> {
     /// The page of some items: its token is that of the selector that `get_page_selector` gives for
-    /// the last of them, and none exactly where there is no item.
+    /// the last of them, and none exactly where there is no item, which takes no memory.
     ///
     /// Where that token would have above 512 bytes, the refusal is the internal error
     /// `serialized token is too large (K bytes, max is 512)`.
@@ -45,6 +45,7 @@ impl<T: Drop> ResultsPage<T> {
             (Selects F.Fn get_page_selector scan_params.now)
             (λ selector. type_token P.definitions_of P.desc_of (P.tree_of selector))
             items → IsErr result }
+        ensures empty { items ≡ [] → IsOk result }
     {
         let next_page = next_page(alloc, items.as_slice(), scan_params, get_page_selector)?;
         Ok(ResultsPage { next_page, items })
@@ -69,6 +70,7 @@ where
     ensures refused { IfErr result (IsNoPage (Selects F.Fn get_page_selector scan_params.now)
         (λ selector. type_token P.definitions_of P.desc_of (P.tree_of selector))
         items.now) }
+    ensures empty { items.now ≡ [] → IsOk result }
 {
     match items.last() {
         Some(item) => {
