@@ -43,6 +43,7 @@ fn joined(mode: ExtensionMode, names: List<Text>) -> Result<ExtensionMode, ModeE
     ensures same { (first : PageNames) → mode ≡ Paginated first → IfOk result (λ _. first ≡ names) }
     ensures differ { IfErr result (λ _.
         (first : PageNames) × (mode ≡ Paginated first) × (first ≢ names)) }
+    ensures told { IfErr result (λ error. error ≡ IncompatibleModes) }
 {
     match mode {
         ExtensionMode::None => Ok(ExtensionMode::Paginated(names)),

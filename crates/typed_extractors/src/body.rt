@@ -1,5 +1,7 @@
 //! The body of a request: as a value, as bytes, or read content by content.
-ghost use Rattle.std.specs.Prelude.{◌≡◌, IfErr, IfOk, IsUtf8, OnErr};
+ghost use Rattle.std.specs.Prelude.{◌≡◌, [], IfErr, IfOk, IsUtf8, OnErr};
+ghost use Rattle.http_bodies.specs.Bodies.{never_failing};
+ghost use Rattle.body_reading.specs.Streams.{fresh_stream};
 ghost use Rattle.handler_shapes.specs.declared.arguments.Arg.TheVariants as arguments;
 ghost use Rattle.handler_shapes.specs.declared.slot.Slot.TheVariants as slots;
 ghost use Rattle.typed_extractors.specs.Texts.{IsNotText, not_utf8};
@@ -201,7 +203,8 @@ impl ExclusiveExtractor for StreamingBody {
 
 // The reader of a body, in whose place one of an empty body stays.
 fn taken(body: &mut StreamingBody) -> StreamingBody
-    ensures { result ≡ body.old }
+    ensures taken { result ≡ body.old }
+    ensures left { body.new ≡ fresh_stream (never_failing []) 0 0 }
 {
     mem::replace(body, StreamingBody::new(Body::empty(), 0, 0))
 }
