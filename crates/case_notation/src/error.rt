@@ -47,3 +47,10 @@ impl CaseError {
         Ok(text)
     }
 }
+
+/// Keeps what went wrong, where nothing went wrong before.
+pub fn keep_first(flaw: &mut Option<CaseError>, error: CaseError) {
+    if flaw.is_none() {
+        *flaw = Some(error);
+    }
+}

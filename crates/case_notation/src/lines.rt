@@ -6,6 +6,7 @@
 //! answered by its name, a colon and the answer as compact JSON.
 use crate::error::CaseError;
 use crate::parts::{check_names, given, members_of, text_of};
+use crate::told::Record;
 use schema_values::{Json, List, Member, Text};
 use std::alloc::{AllocError, Global};
 use std::io;
@@ -75,24 +76,20 @@ impl Cases {
     /// The case on a line, with the members of the case that it is like.
     fn read(&self, alloc: Global, names: &[&str], line: &str) -> Result<Json, CaseError> {
         let case = Json::read(alloc, line.as_bytes())?;
-        check_names(&case, names)?;
-        self.completed(alloc, &case)
+        self.completed(alloc, names, &case)
     }
 
-    fn completed(&self, alloc: Global, case: &Json) -> Result<Json, CaseError> {
-        if self.named(text_of(given(case, "case")?)?).is_some() {
-            return Err(CaseError::Expected("a new name"));
+    fn completed(&self, alloc: Global, names: &[&str], case: &Json) -> Result<Json, CaseError> {
+        check_names(case, names)?;
+        self.check_new(case)?;
+        joined(alloc, case, members_of(case)?, self.members_like(case)?)
+    }
+
+    fn check_new(&self, case: &Json) -> Result<(), CaseError> {
+        match self.named(text_of(given(case, "case")?)?) {
+            None => Ok(()),
+            Some(_) => Err(CaseError::Expected("a new name")),
         }
-        let mut members = List::new(alloc);
-        for member in members_of(case)? {
-            members.push(member.copy(alloc)?)?;
-        }
-        for member in self.members_like(case)? {
-            if case.get(member.name.as_str()).is_none() {
-                members.push(member.copy(alloc)?)?;
-            }
-        }
-        Ok(Json::Object(members))
     }
 
     /// The members of the case that a case is like.
@@ -121,9 +118,38 @@ fn is_named(case: &Json, name: &Text) -> bool {
     }
 }
 
+/// A case with its own members, and those of others that it does not have itself.
+fn joined(
+    alloc: Global,
+    case: &Json,
+    own: &[Member],
+    others: &[Member],
+) -> Result<Json, CaseError> {
+    let mut joined = Record::new(alloc);
+    for member in own {
+        joined.add(member.name.as_str(), member.value.copy(alloc));
+    }
+    add_missing(alloc, &mut joined, others, case);
+    joined.done()
+}
+
+fn add_missing(alloc: Global, joined: &mut Record, others: &[Member], case: &Json) {
+    for member in others {
+        if case.get(member.name.as_str()).is_none() {
+            joined.add(member.name.as_str(), member.value.copy(alloc));
+        }
+    }
+}
+
 fn answered<P: AnswersCases>(alloc: Global, program: &P, case: &Json) -> Result<Text, CaseError> {
-    let answer = program.answer(alloc, case)?.compact(alloc)?;
-    let mut reply = text_of(given(case, "case")?)?.copy(alloc)?;
+    let name = text_of(given(case, "case")?)?;
+    let answer = program.answer(alloc, case)?;
+    reply_of(alloc, name, &answer)
+}
+
+fn reply_of(alloc: Global, name: &Text, answer: &Json) -> Result<Text, CaseError> {
+    let answer = answer.compact(alloc)?;
+    let mut reply = name.copy(alloc)?;
     reply.push_str(": ")?;
     reply.push_text(&answer)?;
     Ok(reply)

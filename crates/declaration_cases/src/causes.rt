@@ -5,10 +5,10 @@ ghost use Rattle.api_registration.specs.EndpointIndexes.{IsIndexed};
 use crate::registered::{register, settings_at};
 use api_declarations::Declared;
 use api_registration::{ApiDescriptionRegisterError, EndpointIndex};
-use case_notation::{CaseError, word};
+use case_notation::{CaseError, Row, say, string_told};
 use endpoint_notation::{PlainEndpoint, items_at};
-use schema_values::{Json, List, Text};
-use std::alloc::{AllocError, Global};
+use schema_values::{Json, List};
+use std::alloc::Global;
 use tag_config::TagConfig;
 
 /// What is told of each endpoint of a case: `registered`, or the cause and the message of its
@@ -22,7 +22,7 @@ pub fn causes_told(alloc: Global, case: &Json) -> Result<Json, CaseError> {
 fn told_under(alloc: Global, settings: &TagConfig, noted: &[Json]) -> Result<Json, CaseError> {
     let mut registered = List::new(alloc);
     let mut index = EndpointIndex::new(alloc);
-    let mut told = List::new(alloc);
+    let mut told = Row::new(alloc);
     tell_all(
         alloc,
         settings,
@@ -31,7 +31,7 @@ fn told_under(alloc: Global, settings: &TagConfig, noted: &[Json]) -> Result<Jso
         noted,
         &mut told,
     )?;
-    Ok(Json::List(told))
+    told.done()
 }
 
 fn tell_all(
@@ -40,13 +40,13 @@ fn tell_all(
     registered: &mut List<PlainEndpoint>,
     index: &mut EndpointIndex,
     noted: &[Json],
-    told: &mut List<Json>,
+    told: &mut Row,
 ) -> Result<(), CaseError>
     requires { IsIndexed (map ⟦<PlainEndpoint as Declared>⟧.declared registered.old) index.old }
 {
     for one in noted {
         let refusal = register(alloc, settings, registered, index, one)?;
-        told.push(refusal_told(alloc, refusal)?)?;
+        told.push(refusal_told(alloc, refusal));
     }
     Ok(())
 }
@@ -54,12 +54,13 @@ fn tell_all(
 fn refusal_told(
     alloc: Global,
     refusal: Option<ApiDescriptionRegisterError>,
-) -> Result<Json, AllocError> {
+) -> Result<Json, CaseError> {
     match refusal {
-        Some(error) => {
-            let told = format!(in alloc; "{:?}: {}", error.cause(), error.message())?;
-            Ok(Json::Text(Text::from_string(told)))
-        }
-        None => word(alloc, "registered"),
+        Some(error) => error_told(alloc, &error),
+        None => say(alloc, "registered"),
     }
+}
+
+fn error_told(alloc: Global, error: &ApiDescriptionRegisterError) -> Result<Json, CaseError> {
+    string_told(format!(in alloc; "{:?}: {}", error.cause(), error.message()))
 }

@@ -9,8 +9,8 @@ use crate::registered::{register, settings_at};
 use api_declarations::{Declaration, Declared};
 use api_documents::document;
 use api_registration::{ApiDescriptionRegisterError, EndpointIndex};
-use case_notation::{CaseError, check_names, form, given, maybe_text, text_of};
-use endpoint_notation::{PlainEndpoint, items_at, text_or, version_at};
+use case_notation::{CaseError, Reader, labelled, string_told};
+use endpoint_notation::{PlainEndpoint, items_at, read_text_or, version_at};
 use handler_shapes::shape_passes;
 use openapi_values::{Contact, Info, License, Part};
 use schema_values::{Json, List, Text};
@@ -58,13 +58,9 @@ fn register_all(
 }
 
 fn refusal_told(alloc: Global, error: &ApiDescriptionRegisterError) -> Result<Json, CaseError> {
-    Ok(form(alloc, "refused", error_told(alloc, error)?)?)
-}
-
-fn error_told(alloc: Global, error: &ApiDescriptionRegisterError) -> Result<Json, AllocError> {
     let (cause, id) = (error.cause(), error.operation_id());
-    let told = format!(in alloc; "{error}, {cause:?} of {id}")?;
-    Ok(Json::Text(Text::from_string(told)))
+    let told = format!(in alloc; "{error}, {cause:?} of {id}");
+    labelled(alloc, "refused", string_told(told))
 }
 
 fn document_of(
@@ -138,42 +134,45 @@ fn written_at(
 }
 
 fn info_of(alloc: Global, case: &Json, version: &Version) -> Result<Info, CaseError> {
-    let noted = case.get("info").unwrap_or(&Json::Null);
-    if case.get("info").is_some() {
-        check_names(
-            noted,
-            &["description", "terms_of_service", "contact", "license"],
-        )?;
+    let version = Text::from_string(format!(in alloc; "{version}")?);
+    let mut reader = Reader::new(alloc);
+    let info = match case.get("info") {
+        Some(noted) => {
+            let names = ["description", "terms_of_service", "contact", "license"];
+            reader.check_names(noted, &names);
+            read_info(&mut reader, case, version, noted)
+        }
+        None => read_info(&mut reader, case, version, &Json::Null),
+    };
+    reader.finish(info)
+}
+
+fn read_info(reader: &mut Reader, case: &Json, version: Text, noted: &Json) -> Info {
+    Info {
+        title: read_text_or(reader, case, "title", "sample"),
+        version,
+        description: reader.maybe_text(noted.get("description")),
+        terms_of_service: reader.maybe_text(noted.get("terms_of_service")),
+        contact: read_contact(reader, noted),
+        license: read_license(reader, noted),
     }
-    Ok(Info {
-        title: text_or(alloc, case, "title", "sample")?,
-        version: Text::from_string(format!(in alloc; "{version}")?),
-        description: maybe_text(alloc, noted.get("description"))?,
-        terms_of_service: maybe_text(alloc, noted.get("terms_of_service"))?,
-        contact: contact_of(alloc, noted)?,
-        license: license_of(alloc, noted)?,
+}
+
+fn read_contact(reader: &mut Reader, noted: &Json) -> Option<Contact> {
+    let contact = noted.get("contact")?;
+    reader.check_names(contact, &["name", "url", "email"]);
+    Some(Contact {
+        name: reader.maybe_text(contact.get("name")),
+        url: reader.maybe_text(contact.get("url")),
+        email: reader.maybe_text(contact.get("email")),
     })
 }
 
-fn contact_of(alloc: Global, noted: &Json) -> Result<Option<Contact>, CaseError> {
-    let Some(contact) = noted.get("contact") else {
-        return Ok(None);
-    };
-    check_names(contact, &["name", "url", "email"])?;
-    Ok(Some(Contact {
-        name: maybe_text(alloc, contact.get("name"))?,
-        url: maybe_text(alloc, contact.get("url"))?,
-        email: maybe_text(alloc, contact.get("email"))?,
-    }))
-}
-
-fn license_of(alloc: Global, noted: &Json) -> Result<Option<License>, CaseError> {
-    let Some(license) = noted.get("license") else {
-        return Ok(None);
-    };
-    check_names(license, &["name", "url"])?;
-    Ok(Some(License {
-        name: text_of(given(license, "name")?)?.copy(alloc)?,
-        url: maybe_text(alloc, license.get("url"))?,
-    }))
+fn read_license(reader: &mut Reader, noted: &Json) -> Option<License> {
+    let license = noted.get("license")?;
+    reader.check_names(license, &["name", "url"]);
+    Some(License {
+        name: reader.text_at(license, "name"),
+        url: reader.maybe_text(license.get("url")),
+    })
 }

@@ -1,14 +1,14 @@
 //! What requests denote as arguments of slots.
 use api_extract::{ExtractError, extract};
-use case_notation::{CaseError, put};
+use case_notation::{CaseError, Record};
 use endpoint_notation::{
-    are_served, args_told, body_of, parts_of, push_word, put_error, reading_of, request_at,
-    slots_at, table_at,
+    are_served, args_told, body_of, error_told, parts_of, reading_of, request_at, slots_at,
+    table_at,
 };
 use handler_shapes::ArgList;
 use http_bodies::{Body, FrameError};
 use request_parts::RequestParts;
-use schema_values::{Json, List, Member};
+use schema_values::Json;
 use std::alloc::{AllocError, Global};
 
 /// What comes of the request of a case for its slots, and how many frames its body then has left.
@@ -24,10 +24,9 @@ fn extracted_from(
     noted: &Json,
     body: &mut Body,
 ) -> Result<Json, CaseError> {
-    let mut told = outcome_of(alloc, case, noted, body)?;
+    let told = outcome_of(alloc, case, noted, body)?;
     let left = frames_left(alloc, body)?;
-    put(alloc, &mut told, "left", Json::Int(left.into()))?;
-    Ok(Json::Object(told))
+    told.number("left", left.into()).done()
 }
 
 fn outcome_of(
@@ -35,8 +34,8 @@ fn outcome_of(
     case: &Json,
     noted: &Json,
     body: &mut Body,
-) -> Result<List<Member>, CaseError> {
-    let request = parts_of(alloc, case, noted)?;
+) -> Result<Record, CaseError> {
+    let request = Box::new(alloc, parts_of(alloc, case, noted)?)?;
     served(alloc, case, &request, body)
 }
 
@@ -45,7 +44,7 @@ fn served(
     case: &Json,
     request: &RequestParts,
     body: &mut Body,
-) -> Result<List<Member>, CaseError> {
+) -> Result<Record, CaseError> {
     let reading = reading_of(alloc, case)?;
     let table = table_at(alloc, case)?;
     let slots = slots_at(alloc, case)?;
@@ -69,25 +68,15 @@ fn outcome_told(
     alloc: Global,
     outcome: Result<ArgList, ExtractError>,
     calls: u64,
-) -> Result<List<Member>, CaseError> {
+) -> Result<Record, CaseError> {
     match outcome {
-        Ok(args) => denoted_told(alloc, args, calls),
+        Ok(args) => Ok(
+            Record::new(alloc)
+                .text("outcome", "denoted")
+                .put("args", args_told(alloc, args, calls)),
+        ),
         Err(error) => error_told(alloc, &error),
     }
-}
-
-fn denoted_told(alloc: Global, args: ArgList, calls: u64) -> Result<List<Member>, CaseError> {
-    let args = args_told(alloc, args, calls)?;
-    let mut told = List::new(alloc);
-    push_word(alloc, &mut told, "outcome", "denoted")?;
-    put(alloc, &mut told, "args", args)?;
-    Ok(told)
-}
-
-fn error_told(alloc: Global, error: &ExtractError) -> Result<List<Member>, CaseError> {
-    let mut told = List::new(alloc);
-    put_error(alloc, &mut told, error)?;
-    Ok(told)
 }
 
 // How many frames a body gives, of at most a hundred calls.

@@ -52,7 +52,7 @@ fn context_of(
     alloc: Global,
     config: ServerConfig,
     request_body_max_bytes: Option<u64>,
-) -> Result<RequestContext, CaseError> {
+) -> Result<Box<RequestContext>, CaseError> {
     let request_id = request_id_of(alloc, "123")?;
     let request = info_of(alloc, &Json::Null)?;
     let endpoint = RequestEndpointMetadata {
@@ -61,10 +61,11 @@ fn context_of(
         body_content_type: ApiEndpointBodyContentType::Json,
         request_body_max_bytes,
     };
-    Ok(RequestContext {
+    let context = RequestContext {
         endpoint,
         request_id,
         request,
         config,
-    })
+    };
+    Ok(Box::new(alloc, context)?)
 }

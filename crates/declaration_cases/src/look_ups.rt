@@ -1,6 +1,6 @@
 //! Which endpoint serves a template and a method at a version.
 use api_declarations::endpoint_for;
-use case_notation::{CaseError, given, text_of, word};
+use case_notation::{CaseError, given, say, text_of};
 use endpoint_notation::{PlainEndpoint, endpoints_at, method_at, version_at};
 use schema_values::Json;
 use std::alloc::Global;
@@ -20,7 +20,7 @@ fn found_among(alloc: Global, case: &Json, endpoints: &[PlainEndpoint]) -> Resul
 
 fn name_told(alloc: Global, endpoint: Option<&PlainEndpoint>) -> Result<Json, CaseError> {
     match endpoint {
-        Some(endpoint) => Ok(word(alloc, endpoint.operation_id.as_str())?),
+        Some(endpoint) => say(alloc, endpoint.operation_id.as_str()),
         None => Ok(Json::Null),
     }
 }

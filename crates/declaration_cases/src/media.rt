@@ -1,7 +1,7 @@
 //! Calls on media types, by the kinds of bodies that they name.
-use case_notation::{CaseError, given, pair, text_of, word};
+use case_notation::{CaseError, both, given, say, string_told, text_of};
 use request_parts::{ApiEndpointBodyContentType, Unsupported};
-use schema_values::{Json, Text};
+use schema_values::Json;
 use std::alloc::Global;
 
 /// The kind of body that the media type of a case names, and the media type of that kind.
@@ -9,10 +9,9 @@ pub fn media_kind(alloc: Global, case: &Json) -> Result<Json, CaseError> {
     let media_type = text_of(given(case, "media_type")?)?;
     match ApiEndpointBodyContentType::from_mime_type(media_type.as_str()) {
         Ok(kind) => {
-            let name = format!(in alloc; "{kind:?}")?;
-            let name = Json::Text(Text::from_string(name));
-            Ok(pair(alloc, name, word(alloc, kind.mime_type())?)?)
+            let name = string_told(format!(in alloc; "{kind:?}"));
+            both(alloc, name, say(alloc, kind.mime_type()))
         }
-        Err(Unsupported) => Ok(word(alloc, "unsupported")?),
+        Err(Unsupported) => say(alloc, "unsupported"),
     }
 }

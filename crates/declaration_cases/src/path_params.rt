@@ -5,8 +5,8 @@ ghost use Rattle.api_types.specs.Heads.{required, struct_of};
 
 use api_extract::http_extract_path_params;
 use api_types::{ApiStruct, ApiType, StructHead, table_of};
-use case_notation::{CaseError, form, given, put, text_of, tree_noted};
-use endpoint_notation::{push_word, variables_at};
+use case_notation::{CaseError, Record, given, labelled, text_of, tree_noted};
+use endpoint_notation::variables_at;
 use http_status::{HttpError, HttpRefusal};
 use schema_values::{Json, List, Text};
 use std::alloc::{AllocError, Global};
@@ -41,25 +41,20 @@ fn value_told<T: ApiType>(
 
 fn refusal_told(alloc: Global, refusal: &HttpRefusal) -> Result<Json, CaseError> {
     match refusal {
-        HttpRefusal::Http(error) => Ok(error_told(alloc, error)?),
+        HttpRefusal::Http(error) => error_told(alloc, error),
         HttpRefusal::OutOfMemory => Err(CaseError::OutOfMemory),
     }
 }
 
-fn error_told(alloc: Global, error: &HttpError) -> Result<Json, AllocError> {
-    let mut told = List::new(alloc);
-    let status = Json::Int(error.status_code.as_u16().into());
-    put(alloc, &mut told, "refused", status)?;
-    push_word(alloc, &mut told, "message", error.external_message.as_str())?;
-    Ok(Json::Object(told))
+fn error_told(alloc: Global, error: &HttpError) -> Result<Json, CaseError> {
+    Record::new(alloc)
+        .number("refused", error.status_code.as_u16().into())
+        .text("message", error.external_message.as_str())
+        .done()
 }
 
 fn tree_told<T: ApiType>(alloc: Global, value: &T) -> Result<Json, CaseError> {
-    Ok(form(alloc, "tree", tree_of(alloc, value)?)?)
-}
-
-fn tree_of<T: ApiType>(alloc: Global, value: &T) -> Result<Json, AllocError> {
-    tree_noted(alloc, &value.to_tree(alloc)?)
+    labelled(alloc, "tree", tree_noted(alloc, &value.to_tree(alloc)?))
 }
 
 /// A text.

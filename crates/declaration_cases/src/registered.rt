@@ -20,10 +20,13 @@ pub fn settings_at(alloc: Global, case: &Json) -> Result<TagConfig, CaseError> {
     if !json.sound() {
         return Err(CaseError::Expected("sound JSON"));
     }
-    match TagConfig::from_json(alloc, json) {
-        Ok(settings) => Ok(settings),
-        Err(DecodeError::Fault(_)) => Err(CaseError::Expected("settings of tags")),
-        Err(DecodeError::OutOfMemory) => Err(CaseError::OutOfMemory),
+    TagConfig::from_json(alloc, json).map_err(not_decoded)
+}
+
+fn not_decoded(error: DecodeError) -> CaseError {
+    match error {
+        DecodeError::Fault(_) => CaseError::Expected("settings of tags"),
+        DecodeError::OutOfMemory => CaseError::OutOfMemory,
     }
 }
 

@@ -10,7 +10,8 @@ use std::alloc::Global;
 /// What each call on the body of a case gives.
 pub fn next_data_told(alloc: Global, case: &Json) -> Result<Json, CaseError> {
     let calls = u64_of(given(case, "calls")?)?;
-    data_told(alloc, &mut stream_of(alloc, case)?, calls)
+    let mut stream = Box::new(alloc, stream_of(alloc, case)?)?;
+    data_told(alloc, &mut stream, calls)
 }
 
 fn stream_of(alloc: Global, case: &Json) -> Result<StreamingBody, CaseError> {

@@ -1,5 +1,5 @@
 //! Calls on the settings of tags.
-use case_notation::{CaseError, form, given};
+use case_notation::{CaseError, given, labelled, text_told};
 use schema_values::Json;
 use std::alloc::Global;
 use tag_config::TagConfig;
@@ -23,10 +23,7 @@ fn written(alloc: Global, settings: &TagConfig) -> Result<Json, CaseError> {
 
 fn refused(alloc: Global, error: &DecodeError) -> Result<Json, CaseError> {
     match error {
-        DecodeError::Fault(fault) => {
-            let text = fault.text(alloc)?;
-            Ok(form(alloc, "refused", Json::Text(text))?)
-        }
+        DecodeError::Fault(fault) => labelled(alloc, "refused", text_told(fault.text(alloc))),
         DecodeError::OutOfMemory => Err(CaseError::OutOfMemory),
     }
 }

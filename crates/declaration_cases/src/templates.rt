@@ -1,32 +1,36 @@
 //! Calls on the templates of paths.
-use case_notation::{CaseError, form, given, text_of, word};
+use case_notation::{CaseError, Row, given, labelled, say, text_of};
 use endpoint_notation::variables_at;
 use path_templates::{PathSegment, Template};
-use schema_values::{Json, List, Text};
-use std::alloc::{AllocError, Global};
+use schema_values::{Json, Text};
+use std::alloc::Global;
 
 /// The segments of the template of the path of a case, or that it is none.
 pub fn template_told(alloc: Global, case: &Json) -> Result<Json, CaseError> {
     match Template::parse(alloc, text_of(given(case, "path")?)?)? {
-        Some(template) => Ok(segments_told(alloc, &template)?),
-        None => Ok(word(alloc, "no template")?),
+        Some(template) => segments_told(alloc, &template),
+        None => say(alloc, "no template"),
     }
 }
 
-fn segments_told(alloc: Global, template: &Template) -> Result<Json, AllocError> {
-    let mut told = List::new(alloc);
+fn segments_told(alloc: Global, template: &Template) -> Result<Json, CaseError> {
+    let mut told = Row::new(alloc);
     for segment in template.segments() {
-        told.push(segment_told(alloc, segment)?)?;
+        told.push(segment_told(alloc, segment));
     }
-    Ok(Json::List(told))
+    told.done()
 }
 
-fn segment_told(alloc: Global, segment: &PathSegment) -> Result<Json, AllocError> {
+fn segment_told(alloc: Global, segment: &PathSegment) -> Result<Json, CaseError> {
     match segment {
-        PathSegment::Literal(text) => word(alloc, text.as_str()),
-        PathSegment::VarnameSegment(name) => form(alloc, "variable", word(alloc, name.as_str())?),
-        PathSegment::VarnameWildcard(name) => form(alloc, "wildcard", word(alloc, name.as_str())?),
+        PathSegment::Literal(text) => say(alloc, text.as_str()),
+        PathSegment::VarnameSegment(name) => variable_told(alloc, "variable", name),
+        PathSegment::VarnameWildcard(name) => variable_told(alloc, "wildcard", name),
     }
+}
+
+fn variable_told(alloc: Global, kind: &str, name: &Text) -> Result<Json, CaseError> {
+    labelled(alloc, kind, say(alloc, name.as_str()))
 }
 
 /// Whether the templates of the two paths of a case have one shape.

@@ -5,16 +5,16 @@ ghost use Rattle.api_description.specs.Registering.{AreAccepted};
 ghost use Rattle.schema_values.specs.Sound.{IsSound};
 
 use crate::exchanges::exchanged;
-use crate::members::{push_word, text_or};
+use crate::members::text_or;
 use crate::registering::refusal;
 use crate::requests::{request_at, version_of, wire_request};
 use crate::streams::{lines_told, sink_of};
 use api_description::api_respond::RouteHandler;
 use api_description::{ApiDescription, ApiEndpoint, RegisterError, TagConfig, WriteError};
-use case_notation::{CaseError, form, given, put, text_of};
+use case_notation::{CaseError, Record, given, labelled, text_of};
 use line_session::MemorySink;
 use request_admission::check_admits;
-use schema_values::{Json, List, Text};
+use schema_values::{Json, Text};
 use std::alloc::Global;
 
 /// A call over an API.
@@ -46,8 +46,7 @@ pub fn over_accepted(
 }
 
 fn refused(alloc: Global, error: &RegisterError) -> Result<Json, CaseError> {
-    let told = refusal(alloc, error)?;
-    Ok(form(alloc, "refused", told)?)
+    labelled(alloc, "refused", refusal(alloc, error))
 }
 
 fn over_api(
@@ -141,15 +140,10 @@ fn written_told(
     written: &[u8],
     document: &str,
 ) -> Result<Json, CaseError> {
-    let mut members = List::new(alloc);
-    push_word(alloc, &mut members, "ended", ended)?;
-    put(
-        alloc,
-        &mut members,
-        "written",
-        lines_told(alloc, written, document)?,
-    )?;
-    Ok(Json::Object(members))
+    Record::new(alloc)
+        .text("ended", ended)
+        .put("written", lines_told(alloc, written, document))
+        .done()
 }
 
 fn admits(alloc: Global, case: &Json, api: &ApiDescription) -> Result<Json, CaseError>

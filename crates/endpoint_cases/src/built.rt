@@ -6,7 +6,7 @@ use crate::registering::{registered, shown};
 use crate::sessions::session;
 use api_description::api_versions::ApiEndpointVersions;
 use api_description::{ApiEndpoint, NewEndpointError};
-use case_notation::{CaseError, form, given, items_of};
+use case_notation::{CaseError, given, items_of, labelled, string_told};
 use contract_tool::sample::PointCreate;
 use http::Method;
 use schema_values::{Json, Text};
@@ -96,10 +96,7 @@ fn over_one(
 fn not_made(alloc: Global, error: &NewEndpointError) -> Result<Json, CaseError> {
     match error.copy(alloc)? {
         NewEndpointError::OutOfMemory => Err(CaseError::OutOfMemory),
-        error => {
-            let told = format!(in alloc; "{error}")?;
-            Ok(form(alloc, "not_made", Json::Text(Text::from_string(told)))?)
-        }
+        error => labelled(alloc, "not_made", string_told(format!(in alloc; "{error}"))),
     }
 }
 

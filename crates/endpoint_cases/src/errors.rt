@@ -10,8 +10,10 @@ use api_description::http_status::{
     ErrorStatusCode, HttpError, HttpErrorResponseBody, RequestId, RequestIdError, Response,
 };
 use api_types::{ApiType, TypeError, table_of};
-use case_notation::{CaseError, given, maybe_text, number_of, put, text_of, tree_noted};
-use schema_values::{Json, List, ReadError, Text};
+use case_notation::{
+    CaseError, Record, given, maybe_text, number_of, string_told, text_of, text_told, tree_noted,
+};
+use schema_values::{Json, ReadError, Text};
 use std::alloc::{AllocError, Global};
 use type_wire::{json_value, value_json};
 use typed_values::DecodeError;
@@ -21,7 +23,7 @@ pub fn bad_request(alloc: Global, case: &Json) -> Result<Json, CaseError> {
     let id = text_of(given(case, "request_id")?)?;
     match RequestId::new(alloc, id.as_str()) {
         Ok(request_id) => answer_told(alloc, &request_id, case),
-        Err(RequestIdError::BadRequestId) => Ok(outcome(alloc, "bad-request-id")?),
+        Err(RequestIdError::BadRequestId) => outcome(alloc, "bad-request-id"),
         Err(RequestIdError::OutOfMemory) => Err(CaseError::OutOfMemory),
     }
 }
@@ -58,11 +60,10 @@ pub fn status_code(alloc: Global, case: &Json) -> Result<Json, CaseError> {
     let Some(status) = status_of(number_of(given(case, "number")?)?) else {
         return Err(CaseError::Expected("a status code"));
     };
-    let told = match ErrorStatusCode::from_status(status) {
-        Ok(code) => format!(in alloc; "{code}; {code:?}")?,
-        Err(error) => format!(in alloc; "{error}")?,
-    };
-    Ok(Json::Text(Text::from_string(told)))
+    match ErrorStatusCode::from_status(status) {
+        Ok(code) => string_told(format!(in alloc; "{code}; {code:?}")),
+        Err(error) => string_told(format!(in alloc; "{error}")),
+    }
 }
 
 /// The body of an error that the JSON under `"text"` denotes: its tree, what it is written as by
@@ -96,26 +97,19 @@ fn body_told(
     body: &HttpErrorResponseBody,
     written: Result<Json, AllocError>,
 ) -> Result<Json, CaseError> {
-    let written = written?;
-    let mut members = List::new(alloc);
-    put(alloc, &mut members, "type_name", type_name(alloc)?)?;
-    put(alloc, &mut members, "tree", tree_told(alloc, body)?)?;
-    put(alloc, &mut members, "written", written)?;
     let json = body.copy(alloc)?.to_json(alloc)?;
-    put(
-        alloc,
-        &mut members,
-        "pretty",
-        Json::Text(json.pretty(alloc)?),
-    )?;
-    put(alloc, &mut members, "json", json)?;
-    Ok(Json::Object(members))
+    Record::new(alloc)
+        .put(
+            "type_name",
+            text_told(HttpErrorResponseBody::type_name(alloc)),
+        )
+        .put("tree", tree_told(alloc, body))
+        .put("written", written)
+        .put("pretty", text_told(json.pretty(alloc)))
+        .put::<CaseError>("json", Ok(json))
+        .done()
 }
 
-fn type_name(alloc: Global) -> Result<Json, AllocError> {
-    Ok(Json::Text(HttpErrorResponseBody::type_name(alloc)?))
-}
-
-fn tree_told(alloc: Global, body: &HttpErrorResponseBody) -> Result<Json, AllocError> {
+fn tree_told(alloc: Global, body: &HttpErrorResponseBody) -> Result<Json, CaseError> {
     tree_noted(alloc, &body.to_tree(alloc)?)
 }

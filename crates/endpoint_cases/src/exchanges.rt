@@ -9,9 +9,9 @@ use api_description::api_extract::RequestParts;
 use api_description::api_respond::RouteHandler;
 use api_description::tree_store::Store;
 use api_description::{ApiDescription, Exchange, ExchangeError};
-use case_notation::{CaseError, form, word};
+use case_notation::{CaseError, labelled, say};
 use schema_values::Json;
-use std::alloc::{AllocError, Global};
+use std::alloc::Global;
 
 /// The answer to the request of a case, from an empty store: as a reply line of the tool tells it.
 pub fn exchanged(alloc: Global, case: &Json, api: &ApiDescription) -> Result<Json, CaseError>
@@ -50,13 +50,13 @@ fn exchange_told(alloc: Global, exchange: &Exchange) -> Result<Json, CaseError> 
 
 fn error_told(alloc: Global, error: ExchangeError) -> Result<Json, CaseError> {
     match error {
-        ExchangeError::BadRequestId => Ok(outcome(alloc, "bad-request-id")?),
-        ExchangeError::NoSuchOperation => Ok(outcome(alloc, "no-such-operation")?),
+        ExchangeError::BadRequestId => outcome(alloc, "bad-request-id"),
+        ExchangeError::NoSuchOperation => outcome(alloc, "no-such-operation"),
         ExchangeError::OutOfMemory => Err(CaseError::OutOfMemory),
     }
 }
 
 /// An outcome without a response.
-pub fn outcome(alloc: Global, outcome: &str) -> Result<Json, AllocError> {
-    form(alloc, "outcome", word(alloc, outcome)?)
+pub fn outcome(alloc: Global, outcome: &str) -> Result<Json, CaseError> {
+    labelled(alloc, "outcome", say(alloc, outcome))
 }

@@ -1,7 +1,7 @@
-//! Members of cases that may be left out, and members of answers.
-use case_notation::{CaseError, given, items_of, number_of, put, text_of, word};
-use schema_values::{Json, List, Member, Text};
-use std::alloc::{AllocError, Global};
+//! Members of cases that may be left out.
+use case_notation::{CaseError, Reader, given, number_of, text_of};
+use schema_values::{Json, List, Text};
+use std::alloc::Global;
 
 /// The text under a name.
 pub fn text_at(alloc: Global, noted: &Json, name: &'static str) -> Result<Text, CaseError> {
@@ -29,13 +29,15 @@ pub fn number_or(noted: &Json, name: &str, other: u32) -> Result<u32, CaseError>
 
 /// The numbers under a name, or none where it is left out.
 pub fn numbers_of(alloc: Global, noted: &Json, name: &str) -> Result<List<u64>, CaseError> {
+    let mut reader = Reader::new(alloc);
     let mut numbers = List::new(alloc);
     if let Some(noted) = noted.get(name) {
-        for number in items_of(noted)? {
-            numbers.push(u64_of(number)?)?;
+        for number in reader.items(noted) {
+            let number = reader.or(u64_of(number), 0);
+            reader.push(&mut numbers, number);
         }
     }
-    Ok(numbers)
+    reader.finish(numbers)
 }
 
 fn u64_of(noted: &Json) -> Result<u64, CaseError> {
@@ -43,14 +45,4 @@ fn u64_of(noted: &Json) -> Result<u64, CaseError> {
         Ok(number) => Ok(number),
         Err(_) => Err(CaseError::Expected("a number of 64 bits")),
     }
-}
-
-/// Adds a member whose value is a text.
-pub fn push_word(
-    alloc: Global,
-    members: &mut List<Member>,
-    name: &str,
-    text: &str,
-) -> Result<(), AllocError> {
-    put(alloc, members, name, word(alloc, text)?)
 }

@@ -1,27 +1,25 @@
 //! What is told of endpoints as they are registered, and which endpoints an API then has.
-use crate::members::push_word;
 use api_description::{ApiDescription, ApiEndpoint, RegisterError};
-use case_notation::{CaseError, put, word};
-use schema_values::{Json, List, Text};
-use std::alloc::{AllocError, Global};
+use case_notation::{CaseError, Record, Row, say, string_told};
+use schema_values::Json;
+use std::alloc::Global;
 
 /// What is told of each endpoint as it is registered: `registered`, or the cause and the message of
 /// its refusal.
 pub fn registered(alloc: Global, endpoints: Vec<ApiEndpoint>) -> Result<Json, CaseError> {
     let mut api = ApiDescription::new(alloc);
-    let mut words = List::new(alloc);
+    let mut words = Row::new(alloc);
     for endpoint in endpoints {
-        words.push(told(alloc, api.register(endpoint))?)?;
+        words.push(told(alloc, api.register(endpoint)));
     }
-    Ok(Json::List(words))
+    words.done()
 }
 
 fn told(alloc: Global, outcome: Result<(), RegisterError>) -> Result<Json, CaseError> {
     match outcome {
-        Ok(()) => Ok(word(alloc, "registered")?),
+        Ok(()) => say(alloc, "registered"),
         Err(RegisterError::Refused(error)) => {
-            let told = format!(in alloc; "{:?}: {}", error.cause(), error.message())?;
-            Ok(Json::Text(Text::from_string(told)))
+            string_told(format!(in alloc; "{:?}: {}", error.cause(), error.message()))
         }
         Err(RegisterError::OutOfMemory) => Err(CaseError::OutOfMemory),
     }
@@ -32,8 +30,7 @@ pub fn refusal(alloc: Global, error: &RegisterError) -> Result<Json, CaseError> 
     match error.copy(alloc)? {
         RegisterError::Refused(error) => {
             let (cause, id) = (error.cause(), error.operation_id());
-            let told = format!(in alloc; "{error}, {cause:?} of {id}")?;
-            Ok(Json::Text(Text::from_string(told)))
+            string_told(format!(in alloc; "{error}, {cause:?} of {id}"))
         }
         RegisterError::OutOfMemory => Err(CaseError::OutOfMemory),
     }
@@ -47,40 +44,28 @@ pub fn shown(alloc: Global, endpoints: Vec<ApiEndpoint>) -> Result<Json, CaseErr
             return Err(CaseError::OutOfMemory);
         }
     }
-    Ok(all_shown(alloc, api.endpoints())?)
+    all_shown(alloc, api.endpoints())
 }
 
-fn all_shown(alloc: Global, endpoints: &[ApiEndpoint]) -> Result<Json, AllocError> {
-    let mut shown = List::new(alloc);
+fn all_shown(alloc: Global, endpoints: &[ApiEndpoint]) -> Result<Json, CaseError> {
+    let mut shown = Row::new(alloc);
     for endpoint in endpoints {
-        shown.push(endpoint_shown(alloc, endpoint)?)?;
+        shown.push(endpoint_shown(alloc, endpoint));
     }
-    Ok(Json::List(shown))
+    shown.done()
 }
 
-fn endpoint_shown(alloc: Global, endpoint: &ApiEndpoint) -> Result<Json, AllocError> {
-    let mime_type = endpoint.body_content_type().mime_type();
-    let mut members = List::new(alloc);
-    push_word(
-        alloc,
-        &mut members,
-        "operation_id",
-        endpoint.operation_id().as_str(),
-    )?;
-    push_word(alloc, &mut members, "method", endpoint.method().as_str())?;
-    push_word(alloc, &mut members, "path", endpoint.path().as_str())?;
-    push_word(alloc, &mut members, "body_content_type", mime_type)?;
-    put(
-        alloc,
-        &mut members,
-        "versions",
-        versions_shown(alloc, endpoint)?,
-    )?;
-    push_word(alloc, &mut members, "handler", endpoint.handler().label())?;
-    Ok(Json::Object(members))
-}
-
-fn versions_shown(alloc: Global, endpoint: &ApiEndpoint) -> Result<Json, AllocError> {
-    let versions = format!(in alloc; "{:?}", endpoint.versions())?;
-    Ok(Json::Text(Text::from_string(versions)))
+fn endpoint_shown(alloc: Global, endpoint: &ApiEndpoint) -> Result<Json, CaseError> {
+    let versions = format!(in alloc; "{:?}", endpoint.versions());
+    Record::new(alloc)
+        .text("operation_id", endpoint.operation_id().as_str())
+        .text("method", endpoint.method().as_str())
+        .text("path", endpoint.path().as_str())
+        .text(
+            "body_content_type",
+            endpoint.body_content_type().mime_type(),
+        )
+        .put("versions", string_told(versions))
+        .text("handler", endpoint.handler().label())
+        .done()
 }

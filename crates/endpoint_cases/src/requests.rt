@@ -2,9 +2,9 @@
 //! `"template"` and `"request_id"` and whose body is the one text of `"frames"`. The version stands
 //! in the case, `1.0.0` where it is left out.
 use crate::endpoint::method_of;
-use crate::members::{push_word, text_at, text_or};
+use crate::members::{text_at, text_or};
 use api_description::api_extract::{RequestInfo, RequestParts, ServerConfig};
-use case_notation::{CaseError, check_names, given, items_of, put};
+use case_notation::{CaseError, Record, check_names, given, items_of, string_told};
 use openapi_values::WireRequest;
 use schema_values::{Json, List, Text};
 use semver::Version;
@@ -43,32 +43,13 @@ pub fn request_told(alloc: Global, case: &Json) -> Result<Json, CaseError> {
 }
 
 fn parts_told(alloc: Global, request: &RequestParts) -> Result<Json, CaseError> {
-    let mut members = List::new(alloc);
-    push_word(
-        alloc,
-        &mut members,
-        "method",
-        request.info.method().as_str(),
-    )?;
-    push_word(alloc, &mut members, "template", request.template.as_str())?;
-    put(
-        alloc,
-        &mut members,
-        "version",
-        version_told(alloc, request)?,
-    )?;
-    push_word(
-        alloc,
-        &mut members,
-        "request_id",
-        request.request_id.as_str(),
-    )?;
-    Ok(Json::Object(members))
-}
-
-fn version_told(alloc: Global, request: &RequestParts) -> Result<Json, AllocError> {
-    let version = format!(in alloc; "{}", request.version)?;
-    Ok(Json::Text(Text::from_string(version)))
+    let version = format!(in alloc; "{}", request.version);
+    Record::new(alloc)
+        .text("method", request.info.method().as_str())
+        .text("template", request.template.as_str())
+        .put("version", string_told(version))
+        .text("request_id", request.request_id.as_str())
+        .done()
 }
 
 /// The version of a case.

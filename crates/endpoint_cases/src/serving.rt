@@ -1,7 +1,7 @@
 //! Sessions of lines of which each is answered with itself.
-use crate::members::{number_or, push_word};
+use crate::members::number_or;
 use crate::streams::{lines_told, sink_of, source_of};
-use case_notation::{CaseError, put};
+use case_notation::{CaseError, Record, string_told};
 use line_session::{Answering, MemorySink, MemorySource, SessionEnd, serve};
 use schema_values::{Json, List};
 use std::alloc::{AllocError, Global};
@@ -82,15 +82,9 @@ fn ended(
 }
 
 fn end_told(alloc: Global, end: SessionEnd, lines: u64, written: &[u8]) -> Result<Json, CaseError> {
-    let end = format!(in alloc; "{end:?}")?;
-    let mut members = List::new(alloc);
-    push_word(alloc, &mut members, "ended", end.as_str())?;
-    put(alloc, &mut members, "answered", Json::Int(lines.into()))?;
-    put(
-        alloc,
-        &mut members,
-        "written",
-        lines_told(alloc, written, "")?,
-    )?;
-    Ok(Json::Object(members))
+    Record::new(alloc)
+        .put("ended", string_told(format!(in alloc; "{end:?}")))
+        .number("answered", lines.into())
+        .put("written", lines_told(alloc, written, ""))
+        .done()
 }

@@ -1,12 +1,12 @@
 //! Sessions of the tool over the endpoints of a case.
-use crate::members::{number_or, push_word, text_or};
+use crate::members::{number_or, text_or};
 use crate::stores::tree_at;
 use crate::streams::{lines_told, sink_of, source_of};
 use api_description::tree_store::Store;
 use api_description::{ApiEndpoint, TagConfig};
-use case_notation::{CaseError, items_of, put, text_of};
+use case_notation::{CaseError, Record, items_of, text_of};
 use contract_tool::{MemorySink, MemorySource, ToolConfig, ToolStatus, run, sample};
-use schema_values::{Json, List, Member};
+use schema_values::Json;
 use std::alloc::{AllocError, Global};
 
 /// What a session is run with.
@@ -101,38 +101,28 @@ fn session_told(
     status: &ToolStatus,
     front: &str,
 ) -> Result<Json, CaseError> {
-    let mut members = List::new(alloc);
-    push_status(alloc, &mut members, status)?;
-    put(
-        alloc,
-        &mut members,
+    let told = status_told(alloc, status)?.put(
         "written",
-        lines_told(alloc, setting.sink.taken(), front)?,
-    )?;
-    if let Some(key) = case.get("key") {
-        put(
-            alloc,
-            &mut members,
-            "stored",
-            tree_at(alloc, &setting.store, key)?,
-        )?;
+        lines_told(alloc, setting.sink.taken(), front),
+    );
+    match case.get("key") {
+        Some(key) => told
+            .put("stored", tree_at(alloc, &setting.store, key))
+            .done(),
+        None => told.done(),
     }
-    Ok(Json::Object(members))
 }
 
 // The code of a copy of a status, and its text where it is no success.
-fn push_status(
-    alloc: Global,
-    members: &mut List<Member>,
-    status: &ToolStatus,
-) -> Result<(), CaseError> {
+fn status_told(alloc: Global, status: &ToolStatus) -> Result<Record, CaseError> {
     let status = status.copy(alloc)?;
-    put(alloc, members, "status", Json::Int(status.code().into()))?;
-    let told = format!(in alloc; "{status}")?;
-    if !told.is_empty() {
-        push_word(alloc, members, "text", told.as_str())?;
+    let text = format!(in alloc; "{status}")?;
+    let told = Record::new(alloc).number("status", status.code().into());
+    if text.is_empty() {
+        Ok(told)
+    } else {
+        Ok(told.text("text", text.as_str()))
     }
-    Ok(())
 }
 
 /// The title and the limits of a copy of the shipped configuration.
@@ -142,23 +132,19 @@ pub fn shipped_config(alloc: Global) -> Result<Json, CaseError> {
 
 fn config_told(alloc: Global, config: &ToolConfig) -> Result<Json, CaseError> {
     let server = &config.server;
-    let mut members = List::new(alloc);
-    push_word(alloc, &mut members, "title", config.title.as_str())?;
-    for &(name, limit) in &[
-        (
+    Record::new(alloc)
+        .text("title", config.title.as_str())
+        .number(
             "default_request_body_max_bytes",
-            server.default_request_body_max_bytes,
-        ),
-        (
+            server.default_request_body_max_bytes.into(),
+        )
+        .number(
             "page_default_nitems",
-            u64::from(server.page_default_nitems.get()),
-        ),
-        ("page_max_nitems", u64::from(server.page_max_nitems.get())),
-        ("frame_budget", config.frame_budget),
-        ("longest_line", config.longest_line),
-        ("most_input", config.most_input),
-    ] {
-        put(alloc, &mut members, name, Json::Int(limit.into()))?;
-    }
-    Ok(Json::Object(members))
+            server.page_default_nitems.get().into(),
+        )
+        .number("page_max_nitems", server.page_max_nitems.get().into())
+        .number("frame_budget", config.frame_budget.into())
+        .number("longest_line", config.longest_line.into())
+        .number("most_input", config.most_input.into())
+        .done()
 }

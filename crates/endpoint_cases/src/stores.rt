@@ -2,19 +2,23 @@
 //! TREE]`, which puts a tree there and tells the one that it replaces. Null is told where there is
 //! none.
 use api_description::tree_store::Store;
-use case_notation::{CaseError, given, items_of, tree_noted, tree_of};
-use schema_values::{Json, List};
-use std::alloc::{AllocError, Global};
+use case_notation::{CaseError, Row, given, items_of, tree_noted, tree_of};
+use schema_values::Json;
+use std::alloc::Global;
 use typed_values::Tree;
 
 /// What the steps of a case tell, from an empty store.
 pub fn stored(alloc: Global, case: &Json) -> Result<Json, CaseError> {
-    let mut store = Store::new(alloc);
-    let mut told = List::new(alloc);
-    for step in items_of(given(case, "steps")?)? {
-        told.push(step_told(alloc, &mut store, step)?)?;
+    let steps = items_of(given(case, "steps")?)?;
+    steps_told(alloc, &mut Store::new(alloc), steps)
+}
+
+fn steps_told(alloc: Global, store: &mut Store, steps: &[Json]) -> Result<Json, CaseError> {
+    let mut told = Row::new(alloc);
+    for step in steps {
+        told.push(step_told(alloc, store, step));
     }
-    Ok(Json::List(told))
+    told.done()
 }
 
 fn step_told(alloc: Global, store: &mut Store, step: &Json) -> Result<Json, CaseError> {
@@ -22,7 +26,7 @@ fn step_told(alloc: Global, store: &mut Store, step: &Json) -> Result<Json, Case
         [Json::Text(table), Json::Text(key), tree] => {
             let tree = tree_of(alloc, tree)?;
             let replaced = store.insert(table.as_str(), key.as_str(), tree)?;
-            Ok(tree_or_null(alloc, replaced.as_ref())?)
+            tree_or_null(alloc, replaced.as_ref())
         }
         _ => tree_at(alloc, store, step),
     }
@@ -32,13 +36,13 @@ fn step_told(alloc: Global, store: &mut Store, step: &Json) -> Result<Json, Case
 pub fn tree_at(alloc: Global, store: &Store, key: &Json) -> Result<Json, CaseError> {
     match items_of(key)? {
         [Json::Text(table), Json::Text(key)] => {
-            Ok(tree_or_null(alloc, store.get(table.as_str(), key.as_str()))?)
+            tree_or_null(alloc, store.get(table.as_str(), key.as_str()))
         }
         _ => Err(CaseError::Expected("a table and a key")),
     }
 }
 
-fn tree_or_null(alloc: Global, tree: Option<&Tree>) -> Result<Json, AllocError> {
+fn tree_or_null(alloc: Global, tree: Option<&Tree>) -> Result<Json, CaseError> {
     match tree {
         Some(tree) => tree_noted(alloc, tree),
         None => Ok(Json::Null),

@@ -4,11 +4,11 @@
 //! lines too, `"document"` in place of those of the document, and what stands behind the last
 //! newline as `{"cut":TEXT}`.
 use crate::members::numbers_of;
-use case_notation::{CaseError, check_names, form, given, items_of, text_of, word};
+use case_notation::{CaseError, Row, check_names, given, items_of, labelled, say, text_of};
 use hex::FromHexError;
 use line_session::{MemorySink, MemorySource};
 use schema_values::{Json, List, Text};
-use std::alloc::{AllocError, Global};
+use std::alloc::Global;
 use std::str;
 
 /// The source of the lines of a case.
@@ -60,23 +60,23 @@ pub fn lines_told(alloc: Global, written: &[u8], document: &str) -> Result<Json,
     let Ok(text) = str::from_utf8(written) else {
         return Err(CaseError::Expected("lines of text"));
     };
-    let mut told = List::new(alloc);
+    let mut told = Row::new(alloc);
     let text = match text.strip_prefix(document) {
         Some(rest) if !document.is_empty() => {
-            told.push(word(alloc, "document")?)?;
+            told.push(say(alloc, "document"));
             rest
         }
         _ => text,
     };
     for line in text.split_inclusive('\n') {
-        told.push(line_told(alloc, line)?)?;
+        told.push(line_told(alloc, line));
     }
-    Ok(Json::List(told))
+    told.done()
 }
 
-fn line_told(alloc: Global, line: &str) -> Result<Json, AllocError> {
+fn line_told(alloc: Global, line: &str) -> Result<Json, CaseError> {
     match line.strip_suffix('\n') {
-        Some(line) => word(alloc, line),
-        None => form(alloc, "cut", word(alloc, line)?),
+        Some(line) => say(alloc, line),
+        None => labelled(alloc, "cut", say(alloc, line)),
     }
 }

@@ -8,12 +8,12 @@
 //! by POST at `/a` and gives one, in all versions, visible, without tags: so `{"path":"/b"}` is
 //! that endpoint at another path. shapes.rt says how the shape is noted.
 use crate::media::kind_at;
-use crate::members::{items_at, number_or, text_or, truth_or};
+use crate::members::{items_at, read_text_or, truth_or, u64_of};
 use crate::requests::{method_at, version_of};
-use crate::shapes::shape_of;
+use crate::shapes::read_shape;
 use api_declarations::{Declaration, Declared};
 use api_versions::ApiEndpointVersions;
-use case_notation::{CaseError, check_names, items_of, maybe_text, text_of, texts_of};
+use case_notation::{CaseError, Reader, items_of, text_of};
 use handler_shapes::HandlerShape;
 use http::Method;
 use request_parts::ApiEndpointBodyContentType;
@@ -96,44 +96,71 @@ const MEMBERS: [&str; 15] = [
 
 /// The endpoints of a case.
 pub fn endpoints_at(alloc: Global, case: &Json) -> Result<List<PlainEndpoint>, CaseError> {
+    let items = items_at(case, "endpoints")?;
+    let mut reader = Reader::new(alloc);
     let mut endpoints = List::new(alloc);
-    for noted in items_at(case, "endpoints")? {
-        endpoints.push(endpoint_of(alloc, noted)?)?;
+    for noted in items {
+        let endpoint = read_endpoint(&mut reader, noted);
+        reader.push(&mut endpoints, endpoint);
     }
-    Ok(endpoints)
+    reader.finish(endpoints)
 }
 
 /// The endpoint that is noted.
 pub fn endpoint_of(alloc: Global, noted: &Json) -> Result<PlainEndpoint, CaseError> {
-    check_names(noted, &MEMBERS)?;
-    Ok(PlainEndpoint {
-        visible: truth_or(noted, "visible", true)?,
-        deprecated: truth_or(noted, "deprecated", false)?,
-        body_limit: body_limit_at(noted)?,
-        body_content_type: kind_at(alloc, noted)?,
-        operation_id: text_or(alloc, noted, "operation_id", "o")?,
-        path: text_or(alloc, noted, "path", "/a")?,
-        method: method_at(alloc, noted, "POST")?,
-        summary: maybe_text(alloc, noted.get("summary"))?,
-        description: maybe_text(alloc, noted.get("description"))?,
-        tags: tags_at(alloc, noted)?,
-        versions: versions_at(alloc, noted)?,
-        shape: shape_of(alloc, noted)?,
-    })
+    let mut reader = Reader::new(alloc);
+    let endpoint = read_endpoint(&mut reader, noted);
+    reader.finish(endpoint)
+}
+
+fn read_endpoint(reader: &mut Reader, noted: &Json) -> PlainEndpoint {
+    reader.check_names(noted, &MEMBERS);
+    PlainEndpoint {
+        operation_id: read_text_or(reader, noted, "operation_id", "o"),
+        method: read_method(reader, noted),
+        path: read_text_or(reader, noted, "path", "/a"),
+        body_content_type: read_kind(reader, noted),
+        versions: read_versions(reader, noted),
+        visible: reader.or(truth_or(noted, "visible", true), true),
+        deprecated: reader.or(truth_or(noted, "deprecated", false), false),
+        tags: read_tags(reader, noted),
+        summary: reader.maybe_text(noted.get("summary")),
+        description: reader.maybe_text(noted.get("description")),
+        body_limit: reader.or(body_limit_at(noted), None),
+        shape: read_shape(reader, noted),
+    }
+}
+
+fn read_method(reader: &mut Reader, noted: &Json) -> Method {
+    reader.or(method_at(reader.alloc(), noted, "POST"), Method::POST)
+}
+
+fn read_kind(reader: &mut Reader, noted: &Json) -> ApiEndpointBodyContentType {
+    reader.or(
+        kind_at(reader.alloc(), noted),
+        ApiEndpointBodyContentType::Json,
+    )
 }
 
 fn body_limit_at(noted: &Json) -> Result<Option<u64>, CaseError> {
     match noted.get("request_body_max_bytes") {
-        Some(_) => Ok(Some(number_or(noted, "request_body_max_bytes", 0)?)),
+        Some(limit) => Ok(Some(u64_of(limit)?)),
         None => Ok(None),
     }
 }
 
-fn tags_at(alloc: Global, noted: &Json) -> Result<List<Text>, CaseError> {
+fn read_tags(reader: &mut Reader, noted: &Json) -> List<Text> {
     match noted.get("tags") {
-        Some(tags) => texts_of(alloc, tags),
-        None => Ok(List::new(alloc)),
+        Some(tags) => reader.texts(tags),
+        None => List::new(reader.alloc()),
     }
+}
+
+fn read_versions(reader: &mut Reader, noted: &Json) -> ApiEndpointVersions {
+    reader.or(
+        versions_at(reader.alloc(), noted),
+        ApiEndpointVersions::all(),
+    )
 }
 
 fn versions_at(alloc: Global, noted: &Json) -> Result<ApiEndpointVersions, CaseError> {
@@ -143,15 +170,26 @@ fn versions_at(alloc: Global, noted: &Json) -> Result<ApiEndpointVersions, CaseE
     let [first, end] = items_of(versions)? else {
         return Err(CaseError::Expected("two bounds"));
     };
-    match (version_or_none(alloc, first)?, version_or_none(alloc, end)?) {
+    let first = version_or_none(alloc, first)?;
+    versions_between(first, version_or_none(alloc, end)?)
+}
+
+fn versions_between(
+    first: Option<Version>,
+    end: Option<Version>,
+) -> Result<ApiEndpointVersions, CaseError> {
+    match (first, end) {
         (None, None) => Ok(ApiEndpointVersions::all()),
         (Some(first), None) => Ok(ApiEndpointVersions::from(first)),
         (None, Some(end)) => Ok(ApiEndpointVersions::until(end)),
-        (Some(first), Some(end)) => match ApiEndpointVersions::from_until(first, end) {
-            Ok(versions) => Ok(versions),
-            Err(_) => Err(CaseError::Expected("versions in order")),
-        },
+        (Some(first), Some(end)) => versions_from_until(first, end),
     }
+}
+
+fn versions_from_until(first: Version, end: Version) -> Result<ApiEndpointVersions, CaseError> {
+    ApiEndpointVersions::from_until(first, end)
+        .ok()
+        .ok_or(CaseError::Expected("versions in order"))
 }
 
 fn version_or_none(alloc: Global, noted: &Json) -> Result<Option<Version>, CaseError> {

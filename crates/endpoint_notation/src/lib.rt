@@ -16,9 +16,9 @@ pub use arguments::{arg_told, args_told};
 pub use endpoint::{PlainEndpoint, endpoint_of, endpoints_at};
 pub use indexed::add_endpoint;
 pub use media::kind_at;
-pub use members::{items_at, number_or, push_word, text_or, u64_of};
+pub use members::{items_at, number_or, read_text_or, text_or, u64_of};
 pub use reading::{Reading, are_served, reading_of};
-pub use refusals::put_error;
+pub use refusals::error_told;
 pub use requests::{
     body_of, content_of, info_of, lines_of, method_at, parts_of, request_at, request_id_of,
     variables_at, version_at,

@@ -1,13 +1,21 @@
-//! Members of cases that may be left out, and members of answers.
-use case_notation::{CaseError, items_of, number_of, put, text_of, truth_of, word};
-use schema_values::{Json, List, Member, Text};
-use std::alloc::{AllocError, Global};
+//! Members of cases that may be left out.
+use case_notation::{CaseError, Reader, items_of, number_of, text_of, truth_of};
+use schema_values::{Json, Text};
+use std::alloc::Global;
 
 /// The text under a name, or another where there is none.
 pub fn text_or(alloc: Global, noted: &Json, name: &str, other: &str) -> Result<Text, CaseError> {
     match noted.get(name) {
         Some(text) => Ok(text_of(text)?.copy(alloc)?),
         None => Ok(Text::from_str(alloc, other)?),
+    }
+}
+
+/// Reads the text under a name, or another where there is none.
+pub fn read_text_or(reader: &mut Reader, noted: &Json, name: &str, other: &str) -> Text {
+    match noted.get(name) {
+        Some(text) => reader.text(text),
+        None => reader.text_from(other),
     }
 }
 
@@ -41,14 +49,4 @@ pub fn items_at<'a>(noted: &'a Json, name: &str) -> Result<&'a [Json], CaseError
         Some(items) => items_of(items),
         None => Ok(&[]),
     }
-}
-
-/// Adds a member whose value is a text.
-pub fn push_word(
-    alloc: Global,
-    members: &mut List<Member>,
-    name: &str,
-    text: &str,
-) -> Result<(), AllocError> {
-    put(alloc, members, name, word(alloc, text)?)
 }

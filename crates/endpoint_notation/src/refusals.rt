@@ -1,32 +1,26 @@
 //! Why a request gives no arguments, as cases note it.
-use crate::members::push_word;
 use api_extract::ExtractError;
-use case_notation::{CaseError, put};
-use schema_values::{Json, List, Member};
+use case_notation::{CaseError, Record};
 use std::alloc::Global;
 
-/// Adds what is told of an error.
-pub fn put_error(
-    alloc: Global,
-    told: &mut List<Member>,
-    error: &ExtractError,
-) -> Result<(), CaseError> {
+/// What is told of an error.
+pub fn error_told(alloc: Global, error: &ExtractError) -> Result<Record, CaseError> {
+    let told = Record::new(alloc);
     match error {
-        ExtractError::Refused(fault, message) => {
-            push_word(alloc, told, "outcome", "refused")?;
-            push_word(alloc, told, "at", fault.path.as_str())?;
-            push_word(alloc, told, "message", message.as_str())?;
-        }
-        ExtractError::BodyFault => push_word(alloc, told, "outcome", "body-fault")?,
-        ExtractError::BodyTooLarge(sum) => {
-            push_word(alloc, told, "outcome", "body-too-large")?;
-            put(alloc, told, "sum", Json::Int((*sum).into()))?;
-        }
-        ExtractError::FrameBudget(count) => {
-            push_word(alloc, told, "outcome", "frame-budget")?;
-            put(alloc, told, "count", Json::Int((*count).into()))?;
-        }
-        ExtractError::OutOfMemory => return Err(CaseError::OutOfMemory),
+        ExtractError::Refused(fault, message) => Ok(
+            told.text("outcome", "refused")
+                .text("at", fault.path.as_str())
+                .text("message", message.as_str()),
+        ),
+        ExtractError::BodyFault => Ok(told.text("outcome", "body-fault")),
+        ExtractError::BodyTooLarge(sum) => Ok(
+            told.text("outcome", "body-too-large")
+                .number("sum", (*sum).into()),
+        ),
+        ExtractError::FrameBudget(count) => Ok(
+            told.text("outcome", "frame-budget")
+                .number("count", (*count).into()),
+        ),
+        ExtractError::OutOfMemory => Err(CaseError::OutOfMemory),
     }
-    Ok(())
 }

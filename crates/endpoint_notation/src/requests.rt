@@ -2,8 +2,8 @@
 //! `"template"`, `"request_id"`, `"uri"`, `"variables"`, `"headers"` and `"frames"`, each of which
 //! may be left out. A frame is a text, `{"hex":DIGITS}` or `{"trailers":LINES}`; `"failing"` are
 //! the numbers of the calls on the body that fail.
-use crate::members::{items_at, text_or, u64_of};
-use case_notation::{CaseError, check_names, given, items_of, text_of, variable_of};
+use crate::members::{items_at, read_text_or, text_or, u64_of};
+use case_notation::{CaseError, Reader, check_names, given, items_of, read_variable, text_of};
 use header_lists::HeaderList;
 use hex::FromHexError;
 use http::Method;
@@ -38,13 +38,25 @@ pub fn request_at(case: &Json) -> Result<&Json, CaseError> {
 
 /// The head of a request. Its version of the API stands in the case, 1.0.0 where it is left out.
 pub fn parts_of(alloc: Global, case: &Json, noted: &Json) -> Result<RequestParts, CaseError> {
-    Ok(RequestParts {
-        template: text_or(alloc, noted, "template", "/a")?,
-        request_id: text_or(alloc, noted, "request_id", "123")?,
-        version: version_at(alloc, case)?,
-        variables: variables_at(alloc, noted)?,
-        info: info_of(alloc, noted)?,
-    })
+    let version = version_at(alloc, case)?;
+    parts_with(alloc, noted, version, info_of(alloc, noted)?)
+}
+
+fn parts_with(
+    alloc: Global,
+    noted: &Json,
+    version: Version,
+    info: RequestInfo,
+) -> Result<RequestParts, CaseError> {
+    let mut reader = Reader::new(alloc);
+    let parts = RequestParts {
+        template: read_text_or(&mut reader, noted, "template", "/a"),
+        request_id: read_text_or(&mut reader, noted, "request_id", "123"),
+        version,
+        variables: read_variables(&mut reader, noted),
+        info,
+    };
+    reader.finish(parts)
 }
 
 /// What a request is without its body.
@@ -102,31 +114,37 @@ pub fn request_id_of(alloc: Global, text: &str) -> Result<RequestId, CaseError> 
 
 /// The variables under `variables`, none where they are left out.
 pub fn variables_at(alloc: Global, noted: &Json) -> Result<VariableSet, CaseError> {
-    let mut variables = BTreeMap::new(alloc);
-    match noted.get("variables") {
-        None => Ok(variables),
-        Some(Json::Object(members)) => {
-            for member in members.as_slice() {
-                let value = variable_of(alloc, &member.value)?;
-                variables.insert(member.name.copy(alloc)?, value)?;
-            }
-            Ok(variables)
+    let mut reader = Reader::new(alloc);
+    let variables = read_variables(&mut reader, noted);
+    reader.finish(variables)
+}
+
+fn read_variables(reader: &mut Reader, noted: &Json) -> VariableSet {
+    let mut variables = BTreeMap::new(reader.alloc());
+    if let Some(noted) = noted.get("variables") {
+        for member in reader.members(noted) {
+            read_variable(reader, &member.name, &member.value, &mut variables);
         }
-        Some(_) => Err(CaseError::Expected("variables")),
     }
+    variables
 }
 
 /// The header lines that are noted, each a pair of a name and a text.
 pub fn lines_of(alloc: Global, noted: &[Json]) -> Result<HeaderList, CaseError> {
     let mut lines = HeaderList::new(alloc);
     for line in noted {
-        let [name, value] = items_of(line)? else {
-            return Err(CaseError::Expected("a name and a value"));
-        };
-        let name = name_of(alloc, text_of(name)?)?;
-        lines.append(name, value_of(alloc, text_of(value)?)?)?;
+        append(alloc, &mut lines, items_of(line)?)?;
     }
     Ok(lines)
+}
+
+fn append(alloc: Global, lines: &mut HeaderList, line: &[Json]) -> Result<(), CaseError> {
+    let [Json::Text(name), Json::Text(value)] = line else {
+        return Err(CaseError::Expected("a name and a value"));
+    };
+    let name = name_of(alloc, name)?;
+    lines.append(name, value_of(alloc, value)?)?;
+    Ok(())
 }
 
 fn name_of(alloc: Global, text: &Text) -> Result<HeaderName, CaseError> {
@@ -153,29 +171,38 @@ pub fn body_of(alloc: Global, noted: &Json) -> Result<Body, CaseError> {
 }
 
 fn failing_of(alloc: Global, noted: &[Json]) -> Result<List<u64>, CaseError> {
+    let mut reader = Reader::new(alloc);
     let mut calls = List::new(alloc);
     for call in noted {
-        calls.push(u64_of(call)?)?;
+        let call = reader.or(u64_of(call), 0);
+        reader.push(&mut calls, call);
     }
-    Ok(calls)
+    reader.finish(calls)
 }
 
 fn frames_of(alloc: Global, noted: &[Json]) -> Result<List<Frame>, CaseError> {
+    let mut reader = Reader::new(alloc);
     let mut frames = List::new(alloc);
     for frame in noted {
-        frames.push(frame_of(alloc, frame)?)?;
+        let frame = read_frame(&mut reader, frame);
+        reader.push(&mut frames, frame);
     }
-    Ok(frames)
+    reader.finish(frames)
 }
 
-fn frame_of(alloc: Global, noted: &Json) -> Result<Frame, CaseError> {
+fn read_frame(reader: &mut Reader, noted: &Json) -> Frame {
+    let alloc = reader.alloc();
     match noted.get("trailers") {
         Some(lines) => {
-            check_names(noted, &["trailers"])?;
-            Ok(Frame::Trailers(lines_of(alloc, items_of(lines)?)?))
+            reader.check_names(noted, &["trailers"]);
+            Frame::Trailers(reader.or(trailers_of(alloc, lines), HeaderList::new(alloc)))
         }
-        None => Ok(Frame::Bytes(content_of(alloc, noted)?)),
+        None => Frame::Bytes(reader.or(content_of(alloc, noted), List::new(alloc))),
     }
+}
+
+fn trailers_of(alloc: Global, lines: &Json) -> Result<HeaderList, CaseError> {
+    lines_of(alloc, items_of(lines)?)
 }
 
 /// A content: a text, or `{"hex":DIGITS}`.

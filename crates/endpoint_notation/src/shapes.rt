@@ -8,11 +8,9 @@
 //! `"freeform"`. `"error"`: `{"desc":D, "name":NAME}`. Null stands for no success code and for no
 //! error. What is left out: the table of `Error` alone, a slot `["bool","Body"]`, content
 //! `["bool","Flag"]`, no headers, code 200, `successful operation`, and the errors of `HttpError`.
-use crate::members::{items_at, text_or};
+use crate::members::{items_at, read_text_or};
 use api_types::ApiType;
-use case_notation::{
-    CaseError, check_names, define, definition_of, desc_of, given, items_of, number_of, text_of,
-};
+use case_notation::{CaseError, Reader, define, definition_of, read_desc};
 use handler_shapes::{
     ApiEndpointErrorResponse, ApiEndpointResponse, ContentShape, HandlerShape, Slot,
 };
@@ -24,24 +22,47 @@ use typed_values::{AddError, Desc, DescTable};
 
 /// The shape that is noted.
 pub fn shape_of(alloc: Global, noted: &Json) -> Result<HandlerShape, CaseError> {
-    Ok(HandlerShape {
-        table: table_at(alloc, noted)?,
-        slots: slots_at(alloc, noted)?,
-        error: error_at(alloc, noted)?,
-        response: response_at(alloc, noted)?,
-    })
+    let mut reader = Reader::new(alloc);
+    let shape = read_shape(&mut reader, noted);
+    reader.finish(shape)
+}
+
+/// Reads a shape.
+pub fn read_shape(reader: &mut Reader, noted: &Json) -> HandlerShape {
+    HandlerShape {
+        table: read_table(reader, noted),
+        slots: read_slots(reader, noted),
+        response: read_response(reader, noted),
+        error: read_error(reader, noted),
+    }
 }
 
 /// The definitions that are noted.
 pub fn table_at(alloc: Global, noted: &Json) -> Result<DescTable, CaseError> {
+    let mut reader = Reader::new(alloc);
+    let table = read_table(&mut reader, noted);
+    reader.finish(table)
+}
+
+fn read_table(reader: &mut Reader, noted: &Json) -> DescTable {
+    let alloc = reader.alloc();
+    match noted.get("table") {
+        Some(definitions) => read_definitions(reader, definitions),
+        None => {
+            let mut table = DescTable::new(alloc);
+            reader.or(define_error(alloc, &mut table), ());
+            table
+        }
+    }
+}
+
+fn read_definitions(reader: &mut Reader, noted: &Json) -> DescTable {
+    let alloc = reader.alloc();
     let mut table = DescTable::new(alloc);
-    if noted.get("table").is_none() {
-        define_error(alloc, &mut table)?;
+    for definition in reader.items(noted) {
+        reader.or(define_noted(alloc, &mut table, definition), ());
     }
-    for definition in items_at(noted, "table")? {
-        define_noted(alloc, &mut table, definition)?;
-    }
-    Ok(table)
+    table
 }
 
 fn define_noted(alloc: Global, table: &mut DescTable, noted: &Json) -> Result<(), CaseError> {
@@ -61,54 +82,85 @@ fn define_error(alloc: Global, table: &mut DescTable) -> Result<(), CaseError> {
 
 /// The slots that are noted.
 pub fn slots_at(alloc: Global, noted: &Json) -> Result<List<Slot>, CaseError> {
-    let mut slots = List::new(alloc);
-    if noted.get("slots").is_none() {
-        slots.push(Slot::TypedBody(Desc::Bool, Text::from_str(alloc, "Body")?))?;
-    }
-    for slot in items_at(noted, "slots")? {
-        slots.push(slot_of(alloc, slot)?)?;
-    }
-    Ok(slots)
+    let mut reader = Reader::new(alloc);
+    let slots = read_slots(&mut reader, noted);
+    reader.finish(slots)
 }
 
-fn slot_of(alloc: Global, noted: &Json) -> Result<Slot, CaseError> {
-    match noted {
-        Json::Text(word) if word.equals_str("raw_body") => Ok(Slot::RawBody),
-        Json::Text(word) if word.equals_str("stream_body") => Ok(Slot::StreamBody),
-        Json::Object(members) => match members.as_slice() {
-            [member] => slot_with(alloc, member.name.as_str(), &member.value),
-            _ => Err(CaseError::Expected("a slot of one form")),
-        },
-        _ => Err(CaseError::Expected("a slot")),
-    }
-}
-
-fn slot_with(alloc: Global, form: &str, noted: &Json) -> Result<Slot, CaseError> {
-    match form {
-        "path" => Ok(Slot::Path(desc_of(alloc, noted)?)),
-        "query" => Ok(Slot::Query(desc_of(alloc, noted)?)),
-        "header" => Ok(Slot::Header(desc_of(alloc, noted)?)),
-        "paged_query" => pages_of(alloc, noted),
-        "typed_body" => {
-            let NamedType { name, desc } = named_type(alloc, noted)?;
-            Ok(Slot::TypedBody(desc, name))
+fn read_slots(reader: &mut Reader, noted: &Json) -> List<Slot> {
+    let mut slots = List::new(reader.alloc());
+    match noted.get("slots") {
+        Some(noted) => add_slots(reader, noted, &mut slots),
+        None => {
+            let slot = Slot::TypedBody(Desc::Bool, reader.text_from("Body"));
+            reader.push(&mut slots, slot);
         }
-        _ => Err(CaseError::Expected("a form of slots")),
+    }
+    slots
+}
+
+fn add_slots(reader: &mut Reader, noted: &Json, slots: &mut List<Slot>) {
+    for slot in reader.items(noted) {
+        let slot = read_slot(reader, slot);
+        reader.push(slots, slot);
     }
 }
 
-fn pages_of(alloc: Global, noted: &Json) -> Result<Slot, CaseError> {
-    check_names(noted, &["scan", "selector", "table"])?;
-    let (scan, selector) = (given(noted, "scan")?, given(noted, "selector")?);
-    let mut selector_table = DescTable::new(alloc);
-    for definition in items_at(noted, "table")? {
-        define_noted(alloc, &mut selector_table, definition)?;
+fn read_slot(reader: &mut Reader, noted: &Json) -> Slot {
+    match noted {
+        Json::Text(word) if word.equals_str("raw_body") => Slot::RawBody,
+        Json::Text(word) if word.equals_str("stream_body") => Slot::StreamBody,
+        Json::Object(members) => match members.as_slice() {
+            [member] => read_slot_with(reader, member.name.as_str(), &member.value),
+            _ => unread(reader, "a slot of one form"),
+        },
+        _ => unread(reader, "a slot"),
     }
-    Ok(Slot::PagedQuery {
-        selector_table,
-        scan: desc_of(alloc, scan)?,
-        selector: desc_of(alloc, selector)?,
-    })
+}
+
+fn unread(reader: &mut Reader, expected: &'static str) -> Slot {
+    reader.expected(expected);
+    Slot::RawBody
+}
+
+fn read_slot_with(reader: &mut Reader, form: &str, noted: &Json) -> Slot {
+    match form {
+        "path" => Slot::Path(read_desc(reader, noted)),
+        "query" => Slot::Query(read_desc(reader, noted)),
+        "header" => Slot::Header(read_desc(reader, noted)),
+        "paged_query" => read_pages(reader, noted),
+        "typed_body" => {
+            let NamedType { name, desc } = read_named_type(reader, noted);
+            Slot::TypedBody(desc, name)
+        }
+        _ => unread(reader, "a form of slots"),
+    }
+}
+
+fn read_pages(reader: &mut Reader, noted: &Json) -> Slot {
+    reader.check_names(noted, &["scan", "selector", "table"]);
+    Slot::PagedQuery {
+        selector_table: read_own_table(reader, noted),
+        scan: read_desc_at(reader, noted, "scan"),
+        selector: read_desc_at(reader, noted, "selector"),
+    }
+}
+
+fn read_own_table(reader: &mut Reader, noted: &Json) -> DescTable {
+    match noted.get("table") {
+        Some(definitions) => read_definitions(reader, definitions),
+        None => DescTable::new(reader.alloc()),
+    }
+}
+
+fn read_desc_at(reader: &mut Reader, noted: &Json, name: &'static str) -> Desc {
+    match noted.get(name) {
+        Some(desc) => read_desc(reader, desc),
+        None => {
+            reader.expected(name);
+            Desc::Never
+        }
+    }
 }
 
 /// A descriptor and the name of its type: `[D, NAME]`.
@@ -118,89 +170,108 @@ struct NamedType {
     desc: Desc,
 }
 
-fn named_type(alloc: Global, noted: &Json) -> Result<NamedType, CaseError> {
-    match items_of(noted)? {
-        [desc, name] => Ok(NamedType {
-            name: text_of(name)?.copy(alloc)?,
-            desc: desc_of(alloc, desc)?,
-        }),
-        _ => Err(CaseError::Expected("a descriptor and a name")),
+fn read_named_type(reader: &mut Reader, noted: &Json) -> NamedType {
+    match reader.items(noted) {
+        [desc, name] => NamedType {
+            name: reader.text(name),
+            desc: read_desc(reader, desc),
+        },
+        _ => {
+            reader.expected("a descriptor and a name");
+            NamedType {
+                name: Text::new(reader.alloc()),
+                desc: Desc::Never,
+            }
+        }
     }
 }
 
-fn response_at(alloc: Global, noted: &Json) -> Result<ApiEndpointResponse, CaseError> {
+fn read_response(reader: &mut Reader, noted: &Json) -> ApiEndpointResponse {
     match noted.get("response") {
         Some(response) => {
-            check_names(response, &["content", "headers", "success", "description"])?;
-            response_of(alloc, response)
+            reader.check_names(response, &["content", "headers", "success", "description"]);
+            read_response_of(reader, response)
         }
-        None => response_of(alloc, &Json::Null),
+        None => read_response_of(reader, &Json::Null),
     }
 }
 
-fn response_of(alloc: Global, noted: &Json) -> Result<ApiEndpointResponse, CaseError> {
-    let number = success_number(noted)?;
-    Ok(ApiEndpointResponse {
-        success: success_of(number),
-        description: text_or(alloc, noted, "description", "successful operation")?,
-        headers: headers_at(alloc, noted)?,
-        content: content_at(alloc, noted)?,
-    })
+fn read_response_of(reader: &mut Reader, noted: &Json) -> ApiEndpointResponse {
+    ApiEndpointResponse {
+        content: read_content(reader, noted),
+        headers: read_headers(reader, noted),
+        success: read_success(reader, noted),
+        description: read_text_or(reader, noted, "description", "successful operation"),
+    }
 }
 
-fn headers_at(alloc: Global, noted: &Json) -> Result<Option<Desc>, CaseError> {
+fn read_headers(reader: &mut Reader, noted: &Json) -> Option<Desc> {
     match noted.get("headers") {
-        Some(headers) => Ok(Some(desc_of(alloc, headers)?)),
-        None => Ok(None),
+        Some(headers) => Some(read_desc(reader, headers)),
+        None => None,
     }
 }
 
-fn content_at(alloc: Global, noted: &Json) -> Result<ContentShape, CaseError> {
+fn read_content(reader: &mut Reader, noted: &Json) -> ContentShape {
     match noted.get("content") {
-        None => Ok(ContentShape::Json(Desc::Bool, Text::from_str(alloc, "Flag")?)),
-        Some(Json::Text(word)) if word.equals_str("empty") => Ok(ContentShape::Empty),
-        Some(Json::Text(word)) if word.equals_str("freeform") => Ok(ContentShape::Freeform),
-        Some(content) => {
-            check_names(content, &["json"])?;
-            let NamedType { name, desc } = named_type(alloc, given(content, "json")?)?;
-            Ok(ContentShape::Json(desc, name))
+        None => ContentShape::Json(Desc::Bool, reader.text_from("Flag")),
+        Some(Json::Text(word)) if word.equals_str("empty") => ContentShape::Empty,
+        Some(Json::Text(word)) if word.equals_str("freeform") => ContentShape::Freeform,
+        Some(content) => read_typed_content(reader, content),
+    }
+}
+
+fn read_typed_content(reader: &mut Reader, noted: &Json) -> ContentShape {
+    reader.check_names(noted, &["json"]);
+    match noted.get("json") {
+        Some(named) => {
+            let NamedType { name, desc } = read_named_type(reader, named);
+            ContentShape::Json(desc, name)
+        }
+        None => {
+            reader.expected("json");
+            ContentShape::Empty
         }
     }
 }
 
-fn success_number(noted: &Json) -> Result<Option<i128>, CaseError> {
+fn read_success(reader: &mut Reader, noted: &Json) -> Option<StatusCode> {
     match noted.get("success") {
-        None => Ok(Some(200)),
-        Some(Json::Null) => Ok(None),
-        Some(number) if status_of(number_of(number)?).is_some() => Ok(Some(number_of(number)?)),
-        Some(_) => Err(CaseError::Expected("a status code or null")),
+        None => status_of(200),
+        Some(Json::Null) => None,
+        Some(Json::Int(number)) => read_status(reader, *number),
+        Some(_) => {
+            reader.expected("a status code or null");
+            None
+        }
     }
 }
 
-fn success_of(number: Option<i128>) -> Option<StatusCode> {
-    status_of(number?)
+fn read_status(reader: &mut Reader, number: i128) -> Option<StatusCode> {
+    let status = status_of(number);
+    if status.is_none() {
+        reader.expected("a status code or null");
+    }
+    status
 }
 
 fn status_of(number: i128) -> Option<StatusCode> {
-    match StatusCode::from_u16(u16::try_from(number).ok()?) {
-        Ok(status) => Some(status),
-        Err(_) => None,
-    }
+    StatusCode::from_u16(u16::try_from(number).ok()?).ok()
 }
 
-fn error_at(alloc: Global, noted: &Json) -> Result<Option<ApiEndpointErrorResponse>, CaseError> {
+fn read_error(reader: &mut Reader, noted: &Json) -> Option<ApiEndpointErrorResponse> {
     match noted.get("error") {
-        None => Ok(Some(ApiEndpointErrorResponse {
-            name: Text::from_str(alloc, "Error")?,
-            desc: Desc::Ref(Text::from_str(alloc, "Error")?),
-        })),
-        Some(Json::Null) => Ok(None),
+        None => Some(ApiEndpointErrorResponse {
+            name: reader.text_from("Error"),
+            desc: Desc::Ref(reader.text_from("Error")),
+        }),
+        Some(Json::Null) => None,
         Some(noted) => {
-            check_names(noted, &["desc", "name"])?;
-            Ok(Some(ApiEndpointErrorResponse {
-                name: text_of(given(noted, "name")?)?.copy(alloc)?,
-                desc: desc_of(alloc, given(noted, "desc")?)?,
-            }))
+            reader.check_names(noted, &["desc", "name"]);
+            Some(ApiEndpointErrorResponse {
+                name: reader.text_at(noted, "name"),
+                desc: read_desc_at(reader, noted, "desc"),
+            })
         }
     }
 }

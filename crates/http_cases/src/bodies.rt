@@ -2,8 +2,12 @@
 //! `"failing"`, the numbers of the calls that fail, where some do. A frame is a text, or
 //! `{"trailers": LINES}`.
 use crate::lines::{bytes_noted, lines_noted, lines_of};
-use case_notation::{CaseError, check_names, form, given, items_of, number_of, text_of, word};
-use http_status::{Body, DumpError, Frame, FrameError, MemoryFrames, SafeFrames, http_dump_body};
+use case_notation::{
+    CaseError, Reader, Row, check_names, given, items_of, labelled, number_of, say, text_of,
+};
+use http_status::{
+    Body, DumpError, Frame, FrameError, HeaderList, MemoryFrames, SafeFrames, http_dump_body,
+};
 use schema_values::{Json, List, Text};
 use std::alloc::Global;
 
@@ -16,11 +20,11 @@ pub fn body_told(alloc: Global, case: &Json) -> Result<Json, CaseError> {
 
 /// What each of so many calls of a body gives.
 pub fn frames_told(alloc: Global, body: &mut Body, calls: i128) -> Result<Json, CaseError> {
-    let mut answers = List::new(alloc);
+    let mut answers = Row::new(alloc);
     for _ in 0..calls {
-        answers.push(frame_told(alloc, body.next_frame(alloc))?)?;
+        answers.push(frame_told(alloc, body.next_frame(alloc)));
     }
-    Ok(Json::List(answers))
+    answers.done()
 }
 
 /// What dropping the body of a case within the budget of the case tells.
@@ -33,8 +37,8 @@ pub fn dump_told(alloc: Global, case: &Json) -> Result<Json, CaseError> {
 fn dropped_told(alloc: Global, body: &mut Body, budget: u32) -> Result<Json, CaseError> {
     match http_dump_body(alloc, body, u64::from(budget)) {
         Ok(count) => Ok(Json::Int(count.into())),
-        Err(DumpError::Failed) => Ok(word(alloc, "failed")?),
-        Err(DumpError::FrameBudget) => Ok(word(alloc, "frame budget")?),
+        Err(DumpError::Failed) => say(alloc, "failed"),
+        Err(DumpError::FrameBudget) => say(alloc, "frame budget"),
         Err(DumpError::OutOfMemory) => Err(CaseError::OutOfMemory),
     }
 }
@@ -50,8 +54,8 @@ pub fn count_of(noted: &Json) -> Result<u32, CaseError> {
 fn frame_told(alloc: Global, answer: Result<Option<Frame>, FrameError>) -> Result<Json, CaseError> {
     match answer {
         Ok(Some(frame)) => frame_noted(alloc, &frame),
-        Ok(None) => Ok(word(alloc, "end")?),
-        Err(FrameError::Failed) => Ok(word(alloc, "failed")?),
+        Ok(None) => say(alloc, "end"),
+        Err(FrameError::Failed) => say(alloc, "failed"),
         Err(FrameError::OutOfMemory) => Err(CaseError::OutOfMemory),
     }
 }
@@ -59,13 +63,13 @@ fn frame_told(alloc: Global, answer: Result<Option<Frame>, FrameError>) -> Resul
 fn frame_noted(alloc: Global, frame: &Frame) -> Result<Json, CaseError> {
     match frame {
         Frame::Bytes(bytes) => content_told(alloc, bytes.as_slice()),
-        Frame::Trailers(lines) => Ok(form(alloc, "trailers", lines_noted(alloc, lines)?)?),
+        Frame::Trailers(lines) => labelled(alloc, "trailers", lines_noted(alloc, lines)),
     }
 }
 
 /// The text of content.
 pub fn content_told(alloc: Global, content: &[u8]) -> Result<Json, CaseError> {
-    Ok(form(alloc, "bytes", bytes_noted(alloc, content)?)?)
+    labelled(alloc, "bytes", bytes_noted(alloc, content))
 }
 
 /// The body that is noted.
@@ -81,12 +85,21 @@ fn body_with(alloc: Global, noted: &Json) -> Result<Body, CaseError> {
     if let Some(content) = noted.get("content") {
         return Ok(Body::with_content(bytes_of(alloc, text_of(content)?)?));
     }
+    let failing = noted.get("failing");
     let frames = frames_of(alloc, items_of(given(noted, "frames")?)?)?;
-    match noted.get("failing") {
-        Some(calls) => Ok(Body::with_faults(MemoryFrames::new(
-            frames,
-            calls_of(alloc, items_of(calls)?)?,
-        ))),
+    body_from(alloc, frames, failing)
+}
+
+fn body_from(
+    alloc: Global,
+    frames: List<Frame>,
+    failing: Option<&Json>,
+) -> Result<Body, CaseError> {
+    match failing {
+        Some(calls) => {
+            let calls = calls_of(alloc, items_of(calls)?)?;
+            Ok(Body::with_faults(MemoryFrames::new(frames, calls)))
+        }
         None => Ok(Body::with_frames(SafeFrames::new(frames))),
     }
 }
@@ -96,27 +109,48 @@ fn bytes_of(alloc: Global, text: &Text) -> Result<List<u8>, CaseError> {
 }
 
 fn frames_of(alloc: Global, noted: &[Json]) -> Result<List<Frame>, CaseError> {
+    let mut reader = Reader::new(alloc);
     let mut frames = List::new(alloc);
     for frame in noted {
-        frames.push(frame_of(alloc, frame)?)?;
+        let frame = read_frame(&mut reader, frame);
+        reader.push(&mut frames, frame);
     }
-    Ok(frames)
+    reader.finish(frames)
 }
 
-fn frame_of(alloc: Global, noted: &Json) -> Result<Frame, CaseError> {
+fn read_frame(reader: &mut Reader, noted: &Json) -> Frame {
     match noted {
-        Json::Text(text) => Ok(Frame::Bytes(bytes_of(alloc, text)?)),
-        _ => Ok(Frame::Trailers(lines_of(alloc, given(noted, "trailers")?)?)),
+        Json::Text(text) => Frame::Bytes(read_bytes(reader, text)),
+        _ => Frame::Trailers(read_trailers(reader, noted)),
     }
+}
+
+fn read_bytes(reader: &mut Reader, text: &Text) -> List<u8> {
+    let alloc = reader.alloc();
+    reader.or(List::from_bytes(alloc, text.as_bytes()), List::new(alloc))
+}
+
+fn read_trailers(reader: &mut Reader, noted: &Json) -> HeaderList {
+    let alloc = reader.alloc();
+    reader.or(trailers_of(alloc, noted), HeaderList::new(alloc))
+}
+
+fn trailers_of(alloc: Global, noted: &Json) -> Result<HeaderList, CaseError> {
+    lines_of(alloc, given(noted, "trailers")?)
 }
 
 fn calls_of(alloc: Global, noted: &[Json]) -> Result<List<u64>, CaseError> {
+    let mut reader = Reader::new(alloc);
     let mut calls = List::new(alloc);
     for call in noted {
-        match u64::try_from(number_of(call)?) {
-            Ok(call) => calls.push(call)?,
-            Err(_) => return Err(CaseError::Expected("the number of a call")),
-        }
+        let call = reader.or(call_of(call), 0);
+        reader.push(&mut calls, call);
     }
-    Ok(calls)
+    reader.finish(calls)
+}
+
+fn call_of(noted: &Json) -> Result<u64, CaseError> {
+    u64::try_from(number_of(noted)?)
+        .ok()
+        .ok_or(CaseError::Expected("the number of a call"))
 }

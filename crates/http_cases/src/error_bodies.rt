@@ -1,9 +1,9 @@
 //! Calls on the bodies of errors' responses.
 use api_types::{ApiType, table_of};
-use case_notation::{CaseError, given, maybe_text, put, text_of, tree_noted};
+use case_notation::{CaseError, Reader, Record, text_told, tree_noted};
 use http_status::HttpErrorResponseBody;
-use schema_values::{Json, List};
-use std::alloc::{AllocError, Global};
+use schema_values::Json;
+use std::alloc::Global;
 use type_wire::value_json;
 
 /// The name of the type of the body of a case, its tree and its JSON.
@@ -12,25 +12,24 @@ pub fn error_body_told(alloc: Global, case: &Json) -> Result<Json, CaseError> {
 }
 
 fn body_of(alloc: Global, case: &Json) -> Result<HttpErrorResponseBody, CaseError> {
-    let id = text_of(given(case, "id")?)?;
-    let message = text_of(given(case, "message")?)?;
-    Ok(HttpErrorResponseBody {
-        request_id: id.copy(alloc)?,
-        error_code: maybe_text(alloc, case.get("code"))?,
-        message: message.copy(alloc)?,
-    })
+    let mut reader = Reader::new(alloc);
+    let body = HttpErrorResponseBody {
+        request_id: reader.text_at(case, "id"),
+        error_code: reader.maybe_text(case.get("code")),
+        message: reader.text_at(case, "message"),
+    };
+    reader.finish(body)
 }
 
 fn body_told(alloc: Global, body: &HttpErrorResponseBody) -> Result<Json, CaseError> {
-    let mut told = List::new(alloc);
-    let name = HttpErrorResponseBody::type_name(alloc)?;
-    put(alloc, &mut told, "name", Json::Text(name))?;
-    put(alloc, &mut told, "tree", body_tree(alloc, body)?)?;
-    put(alloc, &mut told, "json", body_json(alloc, body)?)?;
-    Ok(Json::Object(told))
+    Record::new(alloc)
+        .put("name", text_told(HttpErrorResponseBody::type_name(alloc)))
+        .put("tree", body_tree(alloc, body))
+        .put("json", body_json(alloc, body))
+        .done()
 }
 
-fn body_tree(alloc: Global, body: &HttpErrorResponseBody) -> Result<Json, AllocError> {
+fn body_tree(alloc: Global, body: &HttpErrorResponseBody) -> Result<Json, CaseError> {
     tree_noted(alloc, &body.to_tree(alloc)?)
 }
 

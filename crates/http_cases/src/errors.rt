@@ -1,13 +1,16 @@
 //! Calls on errors, their responses, and the ids of requests.
 use crate::lines::{bytes_noted, lines_noted};
-use case_notation::{CaseError, form, given, items_of, maybe_text, put, text_of, word};
+use case_notation::{
+    CaseError, Record, Row, given, items_of, labelled, maybe_text, say, string_told, text_of,
+    text_or_null,
+};
 use http_status::{
     Body, CONTENT_TYPE_JSON, CONTENT_TYPE_MULTIPART_FORM_DATA, CONTENT_TYPE_NDJSON,
     CONTENT_TYPE_OCTET_STREAM, CONTENT_TYPE_URL_ENCODED, ClientErrorStatusCode, Frame, FrameError,
     HEADER_REQUEST_ID, HeaderError, HeaderList, HttpError, RequestId, RequestIdError, Response,
 };
 use schema_values::{Json, List, Text};
-use std::alloc::{AllocError, Global};
+use std::alloc::Global;
 
 /// An error that is made as the case says, its text and its response to the request of an id.
 pub fn error_told(alloc: Global, case: &Json) -> Result<Json, CaseError> {
@@ -30,27 +33,18 @@ fn changed_told(
 ) -> Result<Json, CaseError> {
     for step in steps {
         if let Some(refusal) = refusal_of(alloc, error, items_of(step)?)? {
-            return Ok(word(alloc, refusal)?);
+            return say(alloc, refusal);
         }
     }
     whole_told(alloc, error, id)
 }
 
 fn whole_told(alloc: Global, error: &HttpError, id: &RequestId) -> Result<Json, CaseError> {
-    let mut told = List::new(alloc);
-    put(alloc, &mut told, "error", error_noted(alloc, error)?)?;
-    put(alloc, &mut told, "text", text_noted(alloc, error)?)?;
-    put(
-        alloc,
-        &mut told,
-        "response",
-        response_told(alloc, error, id)?,
-    )?;
-    Ok(Json::Object(told))
-}
-
-fn text_noted(alloc: Global, error: &HttpError) -> Result<Json, AllocError> {
-    Ok(Json::Text(Text::from_string(error.to_string(alloc)?)))
+    Record::new(alloc)
+        .put("error", error_noted(alloc, error))
+        .put("text", string_told(error.to_string(alloc)))
+        .put("response", response_told(alloc, error, id))
+        .done()
 }
 
 fn made(alloc: Global, noted: &[Json]) -> Result<HttpError, CaseError> {
@@ -103,13 +97,14 @@ fn made_with(
     code: Option<Text>,
     message: Text,
 ) -> Result<HttpError, CaseError> {
-    match kind {
-        "not_found" => Ok(HttpError::for_not_found(alloc, code, message)?),
-        "bad_request" => Ok(HttpError::for_bad_request(alloc, code, message)?),
-        "internal" => Ok(HttpError::for_internal_error(alloc, message)?),
-        "unavail" => Ok(HttpError::for_unavail(alloc, code, message)?),
-        _ => Err(CaseError::Expected("a kind of error")),
-    }
+    let made = match kind {
+        "not_found" => HttpError::for_not_found(alloc, code, message),
+        "bad_request" => HttpError::for_bad_request(alloc, code, message),
+        "internal" => HttpError::for_internal_error(alloc, message),
+        "unavail" => HttpError::for_unavail(alloc, code, message),
+        _ => return Err(CaseError::Expected("a kind of error")),
+    };
+    Ok(made?)
 }
 
 fn client_status(number: i128) -> Option<ClientErrorStatusCode> {
@@ -179,33 +174,13 @@ fn refused(refusal: HeaderError) -> Result<Option<&'static str>, CaseError> {
 
 /// How an error is noted: its parts.
 pub fn error_noted(alloc: Global, error: &HttpError) -> Result<Json, CaseError> {
-    let mut noted = List::new(alloc);
-    let status = Json::Int(error.status_code.as_u16().into());
-    put(alloc, &mut noted, "status", status)?;
-    put(
-        alloc,
-        &mut noted,
-        "code",
-        code_noted(alloc, &error.error_code)?,
-    )?;
-    let external = Json::Text(error.external_message.copy(alloc)?);
-    put(alloc, &mut noted, "external", external)?;
-    let internal = Json::Text(error.internal_message.copy(alloc)?);
-    put(alloc, &mut noted, "internal", internal)?;
-    put(
-        alloc,
-        &mut noted,
-        "headers",
-        own_lines(alloc, &error.headers)?,
-    )?;
-    Ok(Json::Object(noted))
-}
-
-fn code_noted(alloc: Global, code: &Option<Text>) -> Result<Json, CaseError> {
-    match code {
-        Some(code) => Ok(Json::Text(code.copy(alloc)?)),
-        None => Ok(Json::Null),
-    }
+    Record::new(alloc)
+        .number("status", error.status_code.as_u16().into())
+        .put("code", text_or_null(alloc, &error.error_code))
+        .text("external", error.external_message.as_str())
+        .text("internal", error.internal_message.as_str())
+        .put("headers", own_lines(alloc, &error.headers))
+        .done()
 }
 
 fn own_lines(alloc: Global, lines: &Option<HeaderList>) -> Result<Json, CaseError> {
@@ -222,22 +197,11 @@ fn response_told(alloc: Global, error: &HttpError, id: &RequestId) -> Result<Jso
 }
 
 fn response_noted(alloc: Global, response: &mut Response) -> Result<Json, CaseError> {
-    let mut noted = List::new(alloc);
-    let status = Json::Int(response.status.as_u16().into());
-    put(alloc, &mut noted, "status", status)?;
-    put(
-        alloc,
-        &mut noted,
-        "headers",
-        lines_noted(alloc, &response.headers)?,
-    )?;
-    put(
-        alloc,
-        &mut noted,
-        "body",
-        only_frame(alloc, &mut response.body)?,
-    )?;
-    Ok(Json::Object(noted))
+    Record::new(alloc)
+        .number("status", response.status.as_u16().into())
+        .put("headers", lines_noted(alloc, &response.headers))
+        .put("body", only_frame(alloc, &mut response.body))
+        .done()
 }
 
 // The text of a body of one frame.
@@ -276,14 +240,10 @@ fn request_id_of(alloc: Global, text: &Text) -> Result<RequestId, CaseError> {
 pub fn request_id_told(alloc: Global, case: &Json) -> Result<Json, CaseError> {
     let text = text_of(given(case, "id")?)?;
     match RequestId::new(alloc, text.as_str()) {
-        Ok(id) => id_told(alloc, id.text()),
-        Err(RequestIdError::BadRequestId) => Ok(word(alloc, "bad request id")?),
+        Ok(id) => labelled(alloc, "id", say(alloc, id.text())),
+        Err(RequestIdError::BadRequestId) => say(alloc, "bad request id"),
         Err(RequestIdError::OutOfMemory) => Err(CaseError::OutOfMemory),
     }
-}
-
-fn id_told(alloc: Global, text: &str) -> Result<Json, CaseError> {
-    Ok(form(alloc, "id", word(alloc, text)?)?)
 }
 
 const CONSTANTS: [&str; 6] = [
@@ -297,9 +257,9 @@ const CONSTANTS: [&str; 6] = [
 
 /// The name of the header that holds the id of a request, and the media types of bodies.
 pub fn constants_told(alloc: Global) -> Result<Json, CaseError> {
-    let mut told = List::new(alloc);
+    let mut told = Row::new(alloc);
     for &text in &CONSTANTS {
-        told.push(word(alloc, text)?)?;
+        told.push(say(alloc, text));
     }
-    Ok(Json::List(told))
+    told.done()
 }

@@ -1,9 +1,9 @@
 //! Calls on lists of header lines. A step is a list: its name, and what it takes.
 use crate::lines::{lines_in, lines_noted, lines_of, name_of, value_noted, value_of};
-use case_notation::{CaseError, given, items_of, word};
+use case_notation::{CaseError, Row, given, items_of, say};
 use http_header::HeaderValue;
 use http_status::HeaderList;
-use schema_values::{Json, List, Text};
+use schema_values::{Json, Text};
 use std::alloc::Global;
 
 /// What each of the steps of a case answers, from the lines of the case on.
@@ -14,15 +14,15 @@ pub fn headers_told(alloc: Global, case: &Json) -> Result<Json, CaseError> {
 }
 
 fn steps_told(alloc: Global, lines: &mut HeaderList, steps: &[Json]) -> Result<Json, CaseError> {
-    let mut answers = List::new(alloc);
+    let mut answers = Row::new(alloc);
     for step in steps {
-        answers.push(step_told(alloc, lines, items_of(step)?)?)?;
+        answers.push(step_told(alloc, lines, step));
     }
-    Ok(Json::List(answers))
+    answers.done()
 }
 
-fn step_told(alloc: Global, lines: &mut HeaderList, step: &[Json]) -> Result<Json, CaseError> {
-    match step {
+fn step_told(alloc: Global, lines: &mut HeaderList, step: &Json) -> Result<Json, CaseError> {
+    match items_of(step)? {
         [Json::Text(step)] if step.equals_str("copy") => {
             *lines = lines.copy(alloc)?;
             lines_noted(alloc, lines)
@@ -57,7 +57,7 @@ fn looked_up<'a>(
 fn value_told(alloc: Global, value: Option<&HeaderValue>) -> Result<Json, CaseError> {
     match value {
         Some(value) => value_noted(alloc, value),
-        None => Ok(word(alloc, "absent")?),
+        None => say(alloc, "absent"),
     }
 }
 
@@ -69,10 +69,10 @@ fn change(
     value: &Text,
 ) -> Result<(), CaseError> {
     let (name, value) = (name_of(alloc, name)?, value_of(alloc, value)?);
-    match step {
-        "append" => lines.append(name, value)?,
-        "insert" => lines.insert(name, value)?,
+    let changed = match step {
+        "append" => lines.append(name, value),
+        "insert" => lines.insert(name, value),
         _ => return Err(CaseError::Expected("a step with a line")),
-    }
-    Ok(())
+    };
+    Ok(changed?)
 }

@@ -1,8 +1,8 @@
 //! Header lines as cases note them: a list of pairs of a name and the text of a value.
-use case_notation::{CaseError, items_of, pair, word};
+use case_notation::{CaseError, Row, both, items_of, say};
 use http_header::{HeaderName, HeaderValue};
 use http_status::HeaderList;
-use schema_values::{Json, List, Text};
+use schema_values::{Json, Text};
 use std::alloc::Global;
 use std::str;
 
@@ -15,12 +15,18 @@ pub fn lines_of(alloc: Global, noted: &Json) -> Result<HeaderList, CaseError> {
 pub fn lines_in(alloc: Global, noted: &[Json]) -> Result<HeaderList, CaseError> {
     let mut lines = HeaderList::new(alloc);
     for line in noted {
-        let [Json::Text(name), Json::Text(value)] = items_of(line)? else {
-            return Err(CaseError::Expected("a name and a value"));
-        };
-        lines.append(name_of(alloc, name)?, value_of(alloc, value)?)?;
+        append(alloc, &mut lines, items_of(line)?)?;
     }
     Ok(lines)
+}
+
+fn append(alloc: Global, lines: &mut HeaderList, line: &[Json]) -> Result<(), CaseError> {
+    let [Json::Text(name), Json::Text(value)] = line else {
+        return Err(CaseError::Expected("a name and a value"));
+    };
+    let name = name_of(alloc, name)?;
+    lines.append(name, value_of(alloc, value)?)?;
+    Ok(())
 }
 
 /// The name of a line.
@@ -39,15 +45,11 @@ pub fn value_of(alloc: Global, text: &Text) -> Result<HeaderValue, CaseError> {
 
 /// How lines are noted.
 pub fn lines_noted(alloc: Global, lines: &HeaderList) -> Result<Json, CaseError> {
-    let mut noted = List::new(alloc);
+    let mut noted = Row::new(alloc);
     for (name, value) in lines.lines() {
-        noted.push(pair(
-            alloc,
-            word(alloc, name.as_str())?,
-            value_noted(alloc, value)?,
-        )?)?;
+        noted.push(both(alloc, say(alloc, name.as_str()), value_noted(alloc, value)));
     }
-    Ok(Json::List(noted))
+    noted.done()
 }
 
 /// How the value of a line is noted.
@@ -58,7 +60,7 @@ pub fn value_noted(alloc: Global, value: &HeaderValue) -> Result<Json, CaseError
 /// The text of bytes.
 pub fn bytes_noted(alloc: Global, bytes: &[u8]) -> Result<Json, CaseError> {
     match str::from_utf8(bytes) {
-        Ok(text) => Ok(word(alloc, text)?),
+        Ok(text) => say(alloc, text),
         Err(_) => Err(CaseError::Expected("bytes of a text")),
     }
 }

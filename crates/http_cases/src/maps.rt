@@ -6,7 +6,8 @@ use crate::named_types::{Holder, Marked, Names, Texts};
 use crate::sample::Sample;
 use api_types::{ApiType, table_of};
 use case_notation::{
-    CaseError, Scope, form, given, map_of, pair, scope_of, text_of, tree_noted, tree_of,
+    CaseError, Row, Scope, both, given, labelled, map_of, say, scope_of, text_of, text_told,
+    tree_noted, tree_of,
 };
 use flat_maps::{MapError, from_map, from_map_insensitive, to_map, to_map_tree};
 use own_types::{Folder, Pin, Point};
@@ -78,12 +79,12 @@ fn value_told<T: ApiType>(alloc: Global, value: &T) -> Result<Json, CaseError> {
 
 /// A tree that is told.
 pub fn tree_told(alloc: Global, tree: &Tree) -> Result<Json, CaseError> {
-    Ok(form(alloc, "tree", tree_noted(alloc, tree)?)?)
+    labelled(alloc, "tree", tree_noted(alloc, tree))
 }
 
 fn refused(alloc: Global, error: MapError) -> Result<Json, CaseError> {
     match error {
-        MapError::Refused(text) => Ok(form(alloc, "refused", Json::Text(text))?),
+        MapError::Refused(text) => labelled(alloc, "refused", text_told(Ok(text))),
         MapError::OutOfMemory => Err(CaseError::OutOfMemory),
     }
 }
@@ -137,16 +138,15 @@ fn map_told(
     answer: Result<BTreeMap<Text, Text>, MapError>,
 ) -> Result<Json, CaseError> {
     match answer {
-        Ok(map) => Ok(form(alloc, "map", entries_noted(alloc, &map)?)?),
+        Ok(map) => labelled(alloc, "map", entries_noted(alloc, &map)),
         Err(error) => refused(alloc, error),
     }
 }
 
 fn entries_noted(alloc: Global, map: &BTreeMap<Text, Text>) -> Result<Json, CaseError> {
-    let mut noted = List::new(alloc);
+    let mut noted = Row::new(alloc);
     for (name, text) in map.iter() {
-        let name = Json::Text(name.copy(alloc)?);
-        noted.push(pair(alloc, name, Json::Text(text.copy(alloc)?))?)?;
+        noted.push(both(alloc, say(alloc, name.as_str()), say(alloc, text.as_str())));
     }
-    Ok(Json::List(noted))
+    noted.done()
 }

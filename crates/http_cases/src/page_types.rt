@@ -1,8 +1,8 @@
 //! Calls on the types of pages.
 use api_types::ApiType;
-use case_notation::{CaseError, given, noted_desc, put, table_of, text_of};
+use case_notation::{CaseError, Record, given, noted_desc, table_of, text_of, text_told};
 use page_tokens::{EmptyScanParams, PaginationOrder, ResultsPage};
-use schema_values::{Json, List};
+use schema_values::Json;
 use std::alloc::Global;
 use typed_values::{AddError, Definition, Desc, DescTable};
 
@@ -19,10 +19,10 @@ pub fn page_type_told(alloc: Global, case: &Json) -> Result<Json, CaseError> {
 
 fn type_told<T: ApiType>(alloc: Global, case: &Json) -> Result<Json, CaseError> {
     let is_same = has_descriptor::<T>(alloc, case)? && has_definitions::<T>(alloc, case)?;
-    let mut told = List::new(alloc);
-    put(alloc, &mut told, "name", Json::Text(T::type_name(alloc)?))?;
-    put(alloc, &mut told, "same", Json::Bool(is_same))?;
-    Ok(Json::Object(told))
+    Record::new(alloc)
+        .put("name", text_told(T::type_name(alloc)))
+        .truth("same", is_same)
+        .done()
 }
 
 fn has_descriptor<T: ApiType>(alloc: Global, case: &Json) -> Result<bool, CaseError> {

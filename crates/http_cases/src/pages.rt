@@ -4,12 +4,14 @@ ghost use Rattle.typed_values.specs.Checks.{TablePasses, DescPasses};
 use crate::errors::error_noted;
 use crate::selectors::{Previous, Start};
 use api_types::{ApiType, table_of};
-use case_notation::{CaseError, form, given, items_of, number_of, put, text_of, tree_noted};
+use case_notation::{
+    CaseError, Record, Row, given, items_of, labelled, number_of, text_or_null, tree_noted,
+};
 use http_status::HttpRefusal;
 use page_tokens::{ResultsPage, read_token};
 use schema_values::{Json, List, Text};
 use std::alloc::{AllocError, Global};
-use typed_values::{Desc, DescTable, Tree};
+use typed_values::{Desc, DescTable};
 
 /// A page of the numbers of a case, whose selector is the sum of the last and that of the scan.
 pub fn page_told(alloc: Global, case: &Json) -> Result<Json, CaseError> {
@@ -50,30 +52,21 @@ fn naturals(alloc: Global, noted: &[Json]) -> Result<List<u64>, CaseError> {
 
 // The token of a page and its items, and the selector that the token is read as.
 fn page_noted(alloc: Global, page: &ResultsPage<u64>) -> Result<Json, CaseError> {
-    let mut noted = List::new(alloc);
-    let token = token_noted(alloc, page.next_page.as_ref())?;
-    put(alloc, &mut noted, "next_page", token)?;
-    let items = numbers_noted(alloc, page.items.as_slice())?;
-    put(alloc, &mut noted, "items", items)?;
-    if let Some(token) = &page.next_page {
-        put(alloc, &mut noted, "selector", selector_noted(alloc, token)?)?;
-    }
-    Ok(Json::Object(noted))
-}
-
-fn token_noted(alloc: Global, token: Option<&Text>) -> Result<Json, AllocError> {
-    match token {
-        Some(token) => Ok(Json::Text(token.copy(alloc)?)),
-        None => Ok(Json::Null),
+    let noted = Record::new(alloc)
+        .put("next_page", text_or_null(alloc, &page.next_page))
+        .put("items", numbers_noted(alloc, page.items.as_slice()));
+    match &page.next_page {
+        Some(token) => noted.put("selector", selector_noted(alloc, token)).done(),
+        None => noted.done(),
     }
 }
 
-fn numbers_noted(alloc: Global, numbers: &[u64]) -> Result<Json, AllocError> {
-    let mut noted = List::new(alloc);
+fn numbers_noted(alloc: Global, numbers: &[u64]) -> Result<Json, CaseError> {
+    let mut noted = Row::new(alloc);
     for number in numbers {
-        noted.push(Json::Int((*number).into()))?;
+        noted.push::<CaseError>(Ok(Json::Int((*number).into())));
     }
-    Ok(Json::List(noted))
+    noted.done()
 }
 
 fn selector_noted(alloc: Global, token: &Text) -> Result<Json, CaseError> {
@@ -95,13 +88,9 @@ fn selector_of(
     requires desc { DescPasses table.now desc.now }
 {
     match read_token(alloc, table, desc, token.as_str()) {
-        Ok(tree) => selector_told(alloc, &tree),
+        Ok(tree) => tree_noted(alloc, &tree),
         Err(_) => Err(CaseError::Expected("a token that is read")),
     }
-}
-
-fn selector_told(alloc: Global, tree: &Tree) -> Result<Json, CaseError> {
-    Ok(tree_noted(alloc, tree)?)
 }
 
 fn refused(alloc: Global, refusal: &HttpRefusal) -> Result<Json, CaseError> {
@@ -113,26 +102,28 @@ fn refused(alloc: Global, refusal: &HttpRefusal) -> Result<Json, CaseError> {
 
 /// The token of a page of one item whose selector is a text of so many letters `e`.
 pub fn long_page_told(alloc: Global, case: &Json) -> Result<Json, CaseError> {
+    let letters = letters_of(alloc, number_of(given(case, "length")?)?)?;
+    long_page_from(alloc, &letters)
+}
+
+fn long_page_from(alloc: Global, letters: &Text) -> Result<Json, CaseError> {
     let Ok(_) = table_of::<Start>(alloc) else {
         return Err(CaseError::Expected("a type that passes its checks"));
     };
-    let letters = letters_of(alloc, number_of(given(case, "length")?)?)?;
-    let mut items = List::new(alloc);
-    items.push(true)?;
-    let page = ResultsPage::new(
-        alloc,
-        items,
-        &letters,
-        |alloc: Global, _: &bool, s: &Text| { start(alloc, s) },
-    );
+    let items = one_item(alloc)?;
+    let page = ResultsPage::new(alloc, items, letters, |alloc: Global, _: &bool, s: &Text| {
+        start(alloc, s)
+    });
     match page {
-        Ok(page) => token_told(alloc, page.next_page.as_ref()),
+        Ok(page) => labelled(alloc, "next_page", text_or_null(alloc, &page.next_page)),
         Err(refusal) => refused(alloc, &refusal),
     }
 }
 
-fn token_told(alloc: Global, token: Option<&Text>) -> Result<Json, CaseError> {
-    Ok(form(alloc, "next_page", token_noted(alloc, token)?)?)
+fn one_item(alloc: Global) -> Result<List<bool>, AllocError> {
+    let mut items = List::new(alloc);
+    items.push(true)?;
+    Ok(items)
 }
 
 fn letters_of(alloc: Global, count: i128) -> Result<Text, CaseError> {

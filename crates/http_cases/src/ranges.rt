@@ -4,9 +4,11 @@ use crate::lines::{lines_of, name_of};
 use api_versions::{
     ApiEndpointVersions, ClientSpecifiesVersionInHeader, DynamicVersionPolicy, VersionPolicy,
 };
-use case_notation::{CaseError, form, given, items_of, pair, put, text_of, word};
+use case_notation::{
+    CaseError, Record, both, given, items_of, labelled, say, string_told, text_of,
+};
 use http_status::{HeaderList, HttpError, HttpRefusal};
-use schema_values::{Json, List, Text};
+use schema_values::{Json, Text};
 use semver::Version;
 use std::alloc::Global;
 
@@ -15,7 +17,7 @@ pub fn matches_told(alloc: Global, case: &Json) -> Result<Json, CaseError> {
     let version = given(case, "version")?;
     match range_of(alloc, given(case, "range")?)? {
         Ok(range) => matched(alloc, &range, version),
-        Err(refusal) => Ok(form(alloc, "refused", word(alloc, refusal)?)?),
+        Err(refusal) => labelled(alloc, "refused", say(alloc, refusal)),
     }
 }
 
@@ -37,7 +39,7 @@ fn overlap_told(
     noted: &Json,
 ) -> Result<Json, CaseError> {
     let (overlaps, back) = both_ways(range, &ordered_range(alloc, noted)?);
-    Ok(pair(alloc, Json::Bool(overlaps), Json::Bool(back))?)
+    both(alloc, Ok(Json::Bool(overlaps)), Ok(Json::Bool(back)))
 }
 
 fn both_ways(range: &ApiEndpointVersions, other: &ApiEndpointVersions) -> (bool, bool) {
@@ -101,7 +103,7 @@ pub fn request_version_told(alloc: Global, case: &Json) -> Result<Json, CaseErro
 fn version_of_any(alloc: Global, lines: &HeaderList) -> Result<Json, CaseError> {
     match VersionPolicy::Unversioned.request_version(alloc, lines) {
         Ok(Some(version)) => version_told(alloc, &version),
-        Ok(None) => Ok(word(alloc, "unversioned")?),
+        Ok(None) => say(alloc, "unversioned"),
         Err(refusal) => refusal_told(alloc, &refusal),
     }
 }
@@ -151,8 +153,7 @@ fn version_at(alloc: Global, case: &Json, name: &str) -> Result<Option<Version>,
 }
 
 fn version_told(alloc: Global, version: &Version) -> Result<Json, CaseError> {
-    let text = Text::from_string(version.to_string(alloc)?);
-    Ok(form(alloc, "version", Json::Text(text))?)
+    labelled(alloc, "version", string_told(version.to_string(alloc)))
 }
 
 fn refusal_told(alloc: Global, refusal: &HttpRefusal) -> Result<Json, CaseError> {
@@ -163,10 +164,8 @@ fn refusal_told(alloc: Global, refusal: &HttpRefusal) -> Result<Json, CaseError>
 }
 
 fn error_told(alloc: Global, error: &HttpError) -> Result<Json, CaseError> {
-    let status = Json::Int(error.status_code.as_u16().into());
-    let mut told = List::new(alloc);
-    put(alloc, &mut told, "refused", status)?;
-    let message = word(alloc, error.external_message.as_str())?;
-    put(alloc, &mut told, "message", message)?;
-    Ok(Json::Object(told))
+    Record::new(alloc)
+        .number("refused", error.status_code.as_u16().into())
+        .text("message", error.external_message.as_str())
+        .done()
 }

@@ -2,7 +2,7 @@
 use crate::bodies::{body_of, content_told, count_of, frames_told};
 use crate::lines::bytes_noted;
 use body_reading::{BodyError, StreamRefusal, StreamingBody, gather_frames, read_whole};
-use case_notation::{CaseError, form, given, number_of, text_of, word};
+use case_notation::{CaseError, Record, Row, given, labelled, number_of, say, text_of};
 use http_status::{Body, HttpError};
 use schema_values::{Json, List};
 use std::alloc::Global;
@@ -24,11 +24,15 @@ fn read_told(alloc: Global, body: &mut Body, limit: u32, budget: u32) -> Result<
 
 fn error_told(alloc: Global, error: BodyError) -> Result<Json, CaseError> {
     match error {
-        BodyError::BodyFault => Ok(word(alloc, "fault")?),
-        BodyError::BodyTooLarge(sum) => Ok(form(alloc, "too large", Json::Int(sum.into()))?),
-        BodyError::FrameBudget(count) => Ok(form(alloc, "frames", Json::Int(count.into()))?),
+        BodyError::BodyFault => say(alloc, "fault"),
+        BodyError::BodyTooLarge(sum) => labelled_number(alloc, "too large", sum.into()),
+        BodyError::FrameBudget(count) => labelled_number(alloc, "frames", count.into()),
         BodyError::OutOfMemory => Err(CaseError::OutOfMemory),
     }
+}
+
+fn labelled_number(alloc: Global, name: &str, number: i128) -> Result<Json, CaseError> {
+    Record::new(alloc).number(name, number).done()
 }
 
 /// What each of so many calls of a body that is gathered of the body of a case gives.
@@ -62,11 +66,11 @@ fn contents_told(
     stream: &mut StreamingBody,
     calls: i128,
 ) -> Result<Json, CaseError> {
-    let mut answers = List::new(alloc);
+    let mut answers = Row::new(alloc);
     for _ in 0..calls {
-        answers.push(data_told(alloc, stream.next_data(alloc))?)?;
+        answers.push(data_told(alloc, stream.next_data(alloc)));
     }
-    Ok(Json::List(answers))
+    answers.done()
 }
 
 fn stream_of(alloc: Global, case: &Json) -> Result<StreamingBody, CaseError> {
@@ -86,7 +90,7 @@ fn data_told(
 ) -> Result<Json, CaseError> {
     match answer {
         Ok(Some(bytes)) => bytes_noted(alloc, bytes.as_slice()),
-        Ok(None) => Ok(word(alloc, "end")?),
+        Ok(None) => say(alloc, "end"),
         Err(refusal) => refusal_told(alloc, &refusal),
     }
 }
@@ -96,12 +100,11 @@ fn refusal_told(alloc: Global, refusal: &StreamRefusal) -> Result<Json, CaseErro
         StreamRefusal::Fault(error) => message_told(alloc, "fault", error),
         StreamRefusal::TooLarge(error) => message_told(alloc, "too large", error),
         StreamRefusal::FrameBudget(error) => message_told(alloc, "frames", error),
-        StreamRefusal::Closed => Ok(word(alloc, "closed")?),
+        StreamRefusal::Closed => say(alloc, "closed"),
         StreamRefusal::OutOfMemory => Err(CaseError::OutOfMemory),
     }
 }
 
 fn message_told(alloc: Global, kind: &str, error: &HttpError) -> Result<Json, CaseError> {
-    let message = word(alloc, error.external_message.as_str())?;
-    Ok(form(alloc, kind, message)?)
+    labelled(alloc, kind, say(alloc, error.external_message.as_str()))
 }

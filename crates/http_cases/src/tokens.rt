@@ -2,7 +2,9 @@
 ghost use Rattle.typed_values.specs.Checks.{TablePasses, DescPasses};
 
 use crate::maps::tree_told;
-use case_notation::{CaseError, Scope, form, given, pair, scope_of, text_of, tree_of, word};
+use case_notation::{
+    CaseError, Scope, both, given, labelled, say, scope_of, text_of, text_told, tree_of,
+};
 use page_tokens::{TokenError, read_token, write_token};
 use schema_values::{Json, Text};
 use std::alloc::Global;
@@ -27,7 +29,7 @@ fn written(alloc: Global, scope: &Scope, noted: &Json) -> Result<Json, CaseError
 
 fn token_told(alloc: Global, answer: Result<Text, TokenError>) -> Result<Json, CaseError> {
     match answer {
-        Ok(token) => Ok(form(alloc, "token", Json::Text(token))?),
+        Ok(token) => labelled(alloc, "token", text_told(Ok(token))),
         Err(error) => refused(alloc, error),
     }
 }
@@ -50,12 +52,14 @@ fn read(alloc: Global, scope: &Scope, token: &Text) -> Result<Json, CaseError>
 
 fn refused(alloc: Global, error: TokenError) -> Result<Json, CaseError> {
     let why = match error {
-        TokenError::TooLarge(length) => {
-            pair(alloc, word(alloc, "too large")?, Json::Int(length.into()))?
-        }
-        TokenError::NotBase64 => word(alloc, "not base64")?,
-        TokenError::Corrupted => word(alloc, "corrupted")?,
-        TokenError::OutOfMemory => return Err(CaseError::OutOfMemory),
+        TokenError::TooLarge(length) => too_large(alloc, length),
+        TokenError::NotBase64 => say(alloc, "not base64"),
+        TokenError::Corrupted => say(alloc, "corrupted"),
+        TokenError::OutOfMemory => Err(CaseError::OutOfMemory),
     };
-    Ok(form(alloc, "refused", why)?)
+    labelled(alloc, "refused", why)
+}
+
+fn too_large(alloc: Global, length: u64) -> Result<Json, CaseError> {
+    both(alloc, say(alloc, "too large"), Ok(Json::Int(length.into())))
 }

@@ -1,7 +1,7 @@
 //! What every call reads and answers.
-use case_notation::{CaseError, form, given, text_of};
+use case_notation::{CaseError, given, labelled, string_told, text_of};
 use schema_values::{Json, Text};
-use std::alloc::Global;
+use std::alloc::{AllocError, Global};
 
 /// The text under a name.
 pub fn text_given<'a>(case: &'a Json, name: &'static str) -> Result<&'a Text, CaseError> {
@@ -9,6 +9,6 @@ pub fn text_given<'a>(case: &'a Json, name: &'static str) -> Result<&'a Text, Ca
 }
 
 /// The text of an error: `{"error": TEXT}`.
-pub fn error_told(alloc: Global, text: String) -> Result<Json, CaseError> {
-    Ok(form(alloc, "error", Json::Text(Text::from_string(text)))?)
+pub fn error_told(alloc: Global, text: Result<String, AllocError>) -> Result<Json, CaseError> {
+    labelled(alloc, "error", string_told(text))
 }

@@ -1,6 +1,6 @@
 //! Reads what a document says of its API.
 use crate::part_notation::{Noted, maybe_at, part_at, text_at, written};
-use case_notation::{CaseError, check_names};
+use case_notation::{CaseError, Reader};
 use openapi_values::{Contact, ExternalDocs, Info, License, TagObject};
 use schema_values::Json;
 use std::alloc::Global;
@@ -18,8 +18,8 @@ pub fn info_written(alloc: Global, kind: &str, noted: &Json) -> Result<Json, Cas
 }
 
 impl Noted for Info {
-    fn read(alloc: Global, noted: &Json) -> Result<Info, CaseError> {
-        check_names(
+    fn read(reader: &mut Reader, noted: &Json) -> Info {
+        reader.check_names(
             noted,
             &[
                 "title",
@@ -29,56 +29,56 @@ impl Noted for Info {
                 "license",
                 "version",
             ],
-        )?;
-        Ok(Info {
-            title: part_at(alloc, noted, "title")?,
-            description: text_at(alloc, noted, "description")?,
-            terms_of_service: text_at(alloc, noted, "termsOfService")?,
-            version: part_at(alloc, noted, "version")?,
-            license: maybe_at(alloc, noted, "license")?,
-            contact: maybe_at(alloc, noted, "contact")?,
-        })
+        );
+        Info {
+            title: part_at(reader, noted, "title"),
+            description: text_at(reader, noted, "description"),
+            terms_of_service: text_at(reader, noted, "termsOfService"),
+            version: part_at(reader, noted, "version"),
+            license: maybe_at(reader, noted, "license"),
+            contact: maybe_at(reader, noted, "contact"),
+        }
     }
 }
 
 impl Noted for Contact {
-    fn read(alloc: Global, noted: &Json) -> Result<Contact, CaseError> {
-        check_names(noted, &["name", "url", "email"])?;
-        Ok(Contact {
-            name: text_at(alloc, noted, "name")?,
-            url: text_at(alloc, noted, "url")?,
-            email: text_at(alloc, noted, "email")?,
-        })
+    fn read(reader: &mut Reader, noted: &Json) -> Contact {
+        reader.check_names(noted, &["name", "url", "email"]);
+        Contact {
+            name: text_at(reader, noted, "name"),
+            url: text_at(reader, noted, "url"),
+            email: text_at(reader, noted, "email"),
+        }
     }
 }
 
 impl Noted for License {
-    fn read(alloc: Global, noted: &Json) -> Result<License, CaseError> {
-        check_names(noted, &["name", "url"])?;
-        Ok(License {
-            name: part_at(alloc, noted, "name")?,
-            url: text_at(alloc, noted, "url")?,
-        })
+    fn read(reader: &mut Reader, noted: &Json) -> License {
+        reader.check_names(noted, &["name", "url"]);
+        License {
+            name: part_at(reader, noted, "name"),
+            url: text_at(reader, noted, "url"),
+        }
     }
 }
 
 impl Noted for TagObject {
-    fn read(alloc: Global, noted: &Json) -> Result<TagObject, CaseError> {
-        check_names(noted, &["name", "description", "externalDocs"])?;
-        Ok(TagObject {
-            name: part_at(alloc, noted, "name")?,
-            description: text_at(alloc, noted, "description")?,
-            external_docs: maybe_at(alloc, noted, "externalDocs")?,
-        })
+    fn read(reader: &mut Reader, noted: &Json) -> TagObject {
+        reader.check_names(noted, &["name", "description", "externalDocs"]);
+        TagObject {
+            name: part_at(reader, noted, "name"),
+            description: text_at(reader, noted, "description"),
+            external_docs: maybe_at(reader, noted, "externalDocs"),
+        }
     }
 }
 
 impl Noted for ExternalDocs {
-    fn read(alloc: Global, noted: &Json) -> Result<ExternalDocs, CaseError> {
-        check_names(noted, &["description", "url"])?;
-        Ok(ExternalDocs {
-            url: part_at(alloc, noted, "url")?,
-            description: text_at(alloc, noted, "description")?,
-        })
+    fn read(reader: &mut Reader, noted: &Json) -> ExternalDocs {
+        reader.check_names(noted, &["description", "url"]);
+        ExternalDocs {
+            url: part_at(reader, noted, "url"),
+            description: text_at(reader, noted, "description"),
+        }
     }
 }

@@ -1,102 +1,106 @@
 //! Parts of documents as cases note them: as they are written, with the names of OpenAPI 3.0.3 and
 //! with the members in any order. A member may be left out where the written part may lack it.
-use case_notation::{CaseError, given, maybe_text, text_of, truth_of};
+use case_notation::{CaseError, Reader, truth_of};
 use openapi_values::Part;
 use schema_values::{Json, List, Member, Text};
 use std::alloc::Global;
 
 /// What cases note.
 pub trait Noted {
-    /// The part that is noted.
-    fn read(alloc: Global, noted: &Json) -> Result<Self, CaseError>;
+    /// Reads the part that is noted.
+    fn read(reader: &mut Reader, noted: &Json) -> Self;
 }
 
 impl Noted for Json {
-    fn read(alloc: Global, noted: &Json) -> Result<Json, CaseError> {
-        Ok(noted.copy(alloc)?)
+    fn read(reader: &mut Reader, noted: &Json) -> Json {
+        reader.copy_json(noted)
     }
 }
 
 impl Noted for Text {
-    fn read(alloc: Global, noted: &Json) -> Result<Text, CaseError> {
-        Ok(text_of(noted)?.copy(alloc)?)
+    fn read(reader: &mut Reader, noted: &Json) -> Text {
+        reader.text(noted)
     }
 }
 
 /// What a copy of a part is written as.
 pub fn written<T: Noted + Part + Drop>(alloc: Global, noted: &Json) -> Result<Json, CaseError> {
-    let copy = T::read(alloc, noted)?.copy(alloc)?;
+    copy_written(alloc, &read_whole::<T>(alloc, noted)?)
+}
+
+fn copy_written<T: Part + Drop>(alloc: Global, part: &T) -> Result<Json, CaseError> {
+    let copy = part.copy(alloc)?;
     Ok(copy.to_json(alloc)?)
 }
 
+fn read_whole<T: Noted + Drop>(alloc: Global, noted: &Json) -> Result<T, CaseError> {
+    let mut reader = Reader::new(alloc);
+    let part = T::read(&mut reader, noted);
+    reader.finish(part)
+}
+
 /// The part of a name.
-pub fn part_at<T: Noted>(alloc: Global, noted: &Json, name: &'static str) -> Result<T, CaseError> {
-    T::read(alloc, given(noted, name)?)
+pub fn part_at<T: Noted>(reader: &mut Reader, noted: &Json, name: &'static str) -> T {
+    match noted.get(name) {
+        Some(part) => T::read(reader, part),
+        None => {
+            reader.expected(name);
+            T::read(reader, &Json::Null)
+        }
+    }
 }
 
 /// The text of a name, where it stands.
-pub fn text_at(alloc: Global, noted: &Json, name: &str) -> Result<Option<Text>, CaseError> {
-    maybe_text(alloc, noted.get(name))
+pub fn text_at(reader: &mut Reader, noted: &Json, name: &str) -> Option<Text> {
+    reader.maybe_text(noted.get(name))
 }
 
 /// Whether true stands under a name, where a truth value may stand.
-pub fn is_true_at(noted: &Json, name: &str) -> Result<bool, CaseError> {
+pub fn is_true_at(reader: &mut Reader, noted: &Json, name: &str) -> bool {
     match noted.get(name) {
-        Some(truth) => truth_of(truth),
-        None => Ok(false),
+        Some(truth) => reader.or(truth_of(truth), false),
+        None => false,
     }
 }
 
 /// The part of a name, where it stands.
-pub fn maybe_at<T: Noted>(alloc: Global, noted: &Json, name: &str) -> Result<Option<T>, CaseError> {
+pub fn maybe_at<T: Noted>(reader: &mut Reader, noted: &Json, name: &str) -> Option<T> {
     match noted.get(name) {
-        Some(part) => Ok(Some(T::read(alloc, part)?)),
-        None => Ok(None),
+        Some(part) => Some(T::read(reader, part)),
+        None => None,
     }
 }
 
 /// The parts in the list of a name. There need be none.
-pub fn list_at<T: Noted + Drop>(
-    alloc: Global,
-    noted: &Json,
-    name: &str,
-) -> Result<List<T>, CaseError> {
+pub fn list_at<T: Noted + Drop>(reader: &mut Reader, noted: &Json, name: &str) -> List<T> {
     match noted.get(name) {
-        Some(Json::List(parts)) => list_of(alloc, parts.as_slice()),
-        Some(_) => Err(CaseError::Expected("a list of parts")),
-        None => Ok(List::new(alloc)),
+        Some(parts) => read_list(reader, parts),
+        None => List::new(reader.alloc()),
     }
 }
 
-fn list_of<T: Noted + Drop>(alloc: Global, parts: &[Json]) -> Result<List<T>, CaseError> {
-    let mut list = List::new(alloc);
-    for part in parts {
-        list.push(T::read(alloc, part)?)?;
+fn read_list<T: Noted + Drop>(reader: &mut Reader, noted: &Json) -> List<T> {
+    let mut list = List::new(reader.alloc());
+    for part in reader.items(noted) {
+        let part = T::read(reader, part);
+        reader.push(&mut list, part);
     }
-    Ok(list)
+    list
 }
 
 /// The parts by names in the object of a name. There need be none.
-pub fn map_at<T: Noted + Drop>(
-    alloc: Global,
-    noted: &Json,
-    name: &str,
-) -> Result<List<(Text, T)>, CaseError> {
+pub fn map_at<T: Noted + Drop>(reader: &mut Reader, noted: &Json, name: &str) -> List<(Text, T)> {
     match noted.get(name) {
-        Some(Json::Object(members)) => map_of(alloc, members.as_slice()),
-        Some(_) => Err(CaseError::Expected("parts by names")),
-        None => Ok(List::new(alloc)),
+        Some(parts) => read_map(reader, parts),
+        None => List::new(reader.alloc()),
     }
 }
 
-fn map_of<T: Noted + Drop>(
-    alloc: Global,
-    members: &[Member],
-) -> Result<List<(Text, T)>, CaseError> {
-    let mut map = List::new(alloc);
-    for Member { name, value } in members {
-        let name = name.copy(alloc)?;
-        map.push((name, T::read(alloc, value)?))?;
+fn read_map<T: Noted + Drop>(reader: &mut Reader, noted: &Json) -> List<(Text, T)> {
+    let mut map = List::new(reader.alloc());
+    for Member { name, value } in reader.members(noted) {
+        let entry = (reader.copy(name), T::read(reader, value));
+        reader.push(&mut map, entry);
     }
-    Ok(map)
+    map
 }

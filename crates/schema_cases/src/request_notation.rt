@@ -3,86 +3,100 @@
 //!
 //! BYTES is a text, which stands for its UTF-8, or the list of the bytes. VALUE is a text, or the
 //! list of the components that are left of the path.
-use case_notation::{CaseError, entry_of, items_of, number_of, text_of, variable_of};
+use case_notation::{CaseError, Reader, number_of, read_variable};
 use openapi_values::{HeaderLine, WireRequest};
-use schema_values::{Json, List, Member, Text, VariableSet};
+use schema_values::{Json, List, Text, VariableSet};
 use std::alloc::Global;
 use std::collections::BTreeMap;
 
 /// The request that is noted.
 pub fn request_of(alloc: Global, noted: &Json) -> Result<WireRequest, CaseError> {
-    Ok(WireRequest {
-        query: query_of(alloc, noted)?,
-        body: body_of(alloc, noted)?,
-        headers: headers_of(alloc, noted)?,
-        variables: variables_of(alloc, noted)?,
-    })
+    let mut reader = Reader::new(alloc);
+    let request = WireRequest {
+        query: read_query(&mut reader, noted),
+        body: read_body(&mut reader, noted),
+        headers: read_headers(&mut reader, noted),
+        variables: read_variables(&mut reader, noted),
+    };
+    reader.finish(request)
 }
 
-fn query_of(alloc: Global, noted: &Json) -> Result<Text, CaseError> {
+fn read_query(reader: &mut Reader, noted: &Json) -> Text {
     match noted.get("query") {
-        Some(query) => Ok(text_of(query)?.copy(alloc)?),
-        None => Ok(Text::new(alloc)),
+        Some(query) => reader.text(query),
+        None => Text::new(reader.alloc()),
     }
 }
 
-fn body_of(alloc: Global, noted: &Json) -> Result<List<u8>, CaseError> {
+fn read_body(reader: &mut Reader, noted: &Json) -> List<u8> {
     match noted.get("body") {
-        Some(body) => bytes_of(alloc, body),
-        None => Ok(List::new(alloc)),
+        Some(body) => read_bytes(reader, body),
+        None => List::new(reader.alloc()),
     }
 }
 
 /// The bytes that are noted.
 pub fn bytes_of(alloc: Global, noted: &Json) -> Result<List<u8>, CaseError> {
+    let mut reader = Reader::new(alloc);
+    let bytes = read_bytes(&mut reader, noted);
+    reader.finish(bytes)
+}
+
+fn read_bytes(reader: &mut Reader, noted: &Json) -> List<u8> {
+    let alloc = reader.alloc();
     match noted {
-        Json::Text(text) => Ok(List::from_bytes(alloc, text.as_bytes())?),
-        noted => listed_bytes(alloc, items_of(noted)?),
-    }
-}
-
-fn listed_bytes(alloc: Global, items: &[Json]) -> Result<List<u8>, CaseError> {
-    let mut bytes = List::new(alloc);
-    for item in items {
-        match u8::try_from(number_of(item)?) {
-            Ok(byte) => bytes.push(byte)?,
-            Err(_) => return Err(CaseError::Expected("a byte")),
+        Json::Text(text) => {
+            reader.or(List::from_bytes(alloc, text.as_bytes()), List::new(alloc))
         }
+        noted => read_listed_bytes(reader, noted),
     }
-    Ok(bytes)
 }
 
-fn headers_of(alloc: Global, noted: &Json) -> Result<List<HeaderLine>, CaseError> {
-    let mut lines = List::new(alloc);
+fn read_listed_bytes(reader: &mut Reader, noted: &Json) -> List<u8> {
+    let mut bytes = List::new(reader.alloc());
+    for item in reader.items(noted) {
+        let byte = reader.or(byte_of(item), 0);
+        reader.push(&mut bytes, byte);
+    }
+    bytes
+}
+
+fn byte_of(noted: &Json) -> Result<u8, CaseError> {
+    match u8::try_from(number_of(noted)?) {
+        Ok(byte) => Ok(byte),
+        Err(_) => Err(CaseError::Expected("a byte")),
+    }
+}
+
+fn read_headers(reader: &mut Reader, noted: &Json) -> List<HeaderLine> {
+    let mut lines = List::new(reader.alloc());
     if let Some(headers) = noted.get("headers") {
-        for line in items_of(headers)? {
-            lines.push(line_of(alloc, line)?)?;
+        for line in reader.items(headers) {
+            read_line(reader, line, &mut lines);
         }
     }
-    Ok(lines)
+    lines
 }
 
-fn line_of(alloc: Global, noted: &Json) -> Result<HeaderLine, CaseError> {
-    let (name, value) = entry_of(noted)?;
-    Ok(HeaderLine {
-        name: name.copy(alloc)?,
-        value: bytes_of(alloc, value)?,
-    })
-}
-
-fn variables_of(alloc: Global, noted: &Json) -> Result<VariableSet, CaseError> {
-    match noted.get("variables") {
-        Some(Json::Object(members)) => variables_in(alloc, members.as_slice()),
-        Some(_) => Err(CaseError::Expected("variables")),
-        None => Ok(BTreeMap::new(alloc)),
+fn read_line(reader: &mut Reader, noted: &Json, lines: &mut List<HeaderLine>) {
+    match reader.items(noted) {
+        [Json::Text(name), value] => {
+            let line = HeaderLine {
+                name: reader.copy(name),
+                value: read_bytes(reader, value),
+            };
+            reader.push(lines, line);
+        }
+        _ => reader.expected("a name and its bytes"),
     }
 }
 
-fn variables_in(alloc: Global, members: &[Member]) -> Result<VariableSet, CaseError> {
-    let mut variables = BTreeMap::new(alloc);
-    for Member { name, value } in members {
-        let name = name.copy(alloc)?;
-        variables.insert(name, variable_of(alloc, value)?)?;
+fn read_variables(reader: &mut Reader, noted: &Json) -> VariableSet {
+    let mut variables = BTreeMap::new(reader.alloc());
+    if let Some(noted) = noted.get("variables") {
+        for member in reader.members(noted) {
+            read_variable(reader, &member.name, &member.value, &mut variables);
+        }
     }
-    Ok(variables)
+    variables
 }

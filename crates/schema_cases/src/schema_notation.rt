@@ -4,16 +4,19 @@
 //! stands twice, a list of objects stands for one object of all their members:
 //! `[{"b": true}, {"a": true}]`. Subschemas of no kind are noted as `{"subschemas": {}}`. A member
 //! of another name than a schema's parts is an extension.
-use case_notation::{CaseError, given, items_of, number_of, text_of, texts_of, truth_of, word};
+use case_notation::{CaseError, Reader, Row, given, number_of, say, text_of, truth_of};
 use schema_values::{
-    ArrayParts, Boxed, Definitions, InstanceType, InstanceTypes, Items, Json, LengthBounds, List,
-    Member, NumberBounds, ObjectParts, Property, Schema, SchemaObject, Subschemas, Text,
+    ArrayParts, Definitions, InstanceType, InstanceTypes, Items, Json, LengthBounds, List, Member,
+    NumberBounds, ObjectParts, Property, Schema, SchemaObject, Subschemas, Text,
 };
-use std::alloc::{AllocError, Global};
+use std::alloc::Global;
 
 /// The schema of a case.
 pub fn noted_schema(alloc: Global, case: &Json) -> Result<Schema, CaseError> {
-    schema_of(alloc, given(case, "schema")?)
+    let noted = given(case, "schema")?;
+    let mut reader = Reader::new(alloc);
+    let schema = read_schema(&mut reader, noted);
+    reader.finish(schema)
 }
 
 /// The definitions of a case: schemas by names. There need be none.
@@ -26,147 +29,155 @@ pub fn definitions_of(alloc: Global, case: &Json) -> Result<Definitions, CaseErr
 }
 
 fn defined(alloc: Global, members: &[Member]) -> Result<Definitions, CaseError> {
+    let mut reader = Reader::new(alloc);
     let mut definitions = Definitions::new(alloc);
     for Member { name, value } in members {
-        let name = String::from_str(alloc, name.as_str())?;
-        definitions.insert(name, schema_of(alloc, value)?)?;
+        let schema = read_schema(&mut reader, value);
+        reader.or(define(alloc, &mut definitions, name, schema), ());
     }
-    Ok(definitions)
+    reader.finish(definitions)
 }
 
-#[cycle(schema)]
-fn schema_of(alloc: Global, noted: &Json) -> Result<Schema, CaseError> {
-    match noted {
-        Json::Bool(truth) => Ok(Schema::Bool(*truth)),
-        noted => Ok(Schema::Object(object_of(alloc, noted)?)),
-    }
-}
-
-#[cycle(schema)]
-fn object_of(alloc: Global, noted: &Json) -> Result<Boxed<SchemaObject>, CaseError> {
-    let mut object = SchemaObject::new(alloc);
-    let outcome = add_parts(alloc, noted, &mut object);
-    let object = Boxed::new(alloc, object)?;
-    outcome?;
-    Ok(object)
-}
-
-#[cycle(schema)]
-fn add_parts(alloc: Global, noted: &Json, object: &mut SchemaObject) -> Result<(), CaseError> {
-    match noted {
-        Json::Object(members) => add_members(alloc, members.as_slice(), object),
-        Json::List(objects) => add_objects(alloc, objects.as_slice(), object),
-        _ => Err(CaseError::Expected("a schema")),
-    }
-}
-
-#[cycle(schema)]
-fn add_objects(
+fn define(
     alloc: Global,
-    objects: &[Json],
-    object: &mut SchemaObject,
+    definitions: &mut Definitions,
+    name: &Text,
+    schema: Schema,
 ) -> Result<(), CaseError> {
+    let name = String::from_str(alloc, name.as_str())?;
+    definitions.insert(name, schema)?;
+    Ok(())
+}
+
+#[cycle(schema)]
+fn read_schema(reader: &mut Reader, noted: &Json) -> Schema {
+    match noted {
+        Json::Bool(truth) => Schema::Bool(*truth),
+        noted => read_object(reader, noted),
+    }
+}
+
+#[cycle(schema)]
+fn read_object(reader: &mut Reader, noted: &Json) -> Schema {
+    let mut object = SchemaObject::new(reader.alloc());
+    add_parts(reader, noted, &mut object);
+    boxed(reader, object)
+}
+
+fn boxed(reader: &mut Reader, object: SchemaObject) -> Schema {
+    match reader.boxed(object) {
+        Some(object) => Schema::Object(object),
+        None => Schema::Bool(true),
+    }
+}
+
+#[cycle(schema)]
+fn add_parts(reader: &mut Reader, noted: &Json, object: &mut SchemaObject) {
+    match noted {
+        Json::Object(members) => add_members(reader, members.as_slice(), object),
+        Json::List(objects) => add_objects(reader, objects.as_slice(), object),
+        _ => reader.expected("a schema"),
+    }
+}
+
+#[cycle(schema)]
+fn add_objects(reader: &mut Reader, objects: &[Json], object: &mut SchemaObject) {
     for parts in objects {
-        add_parts(alloc, parts, object)?;
+        add_parts(reader, parts, object);
     }
-    Ok(())
 }
 
 #[cycle(schema)]
-fn add_members(
-    alloc: Global,
-    members: &[Member],
-    object: &mut SchemaObject,
-) -> Result<(), CaseError> {
+fn add_members(reader: &mut Reader, members: &[Member], object: &mut SchemaObject) {
     for Member { name, value } in members {
-        add_part(alloc, name.as_str(), value, object)?;
+        add_part(reader, name.as_str(), value, object);
     }
-    Ok(())
 }
 
 #[cycle(schema)]
-fn add_part(
-    alloc: Global,
-    name: &str,
-    value: &Json,
-    object: &mut SchemaObject,
-) -> Result<(), CaseError> {
+fn add_part(reader: &mut Reader, name: &str, value: &Json, object: &mut SchemaObject) {
     match name {
-        "subschemas" => {
-            kinds(object);
+        "subschemas" | "allOf" | "anyOf" | "oneOf" | "not" => {
+            add_subschemas(reader, name, value, kinds(object));
         }
-        "allOf" => kinds(object).all_of = Some(schemas_of(alloc, value)?),
-        "anyOf" => kinds(object).any_of = Some(schemas_of(alloc, value)?),
-        "oneOf" => kinds(object).one_of = Some(schemas_of(alloc, value)?),
-        "not" => kinds(object).not = Some(schema_of(alloc, value)?),
-        "items" => array(object).items = Some(each_of(alloc, value)?),
-        "properties" => add_properties(alloc, value, &mut members(alloc, object).properties)?,
+        "items" => array(object).items = Some(read_items(reader, value)),
+        "properties" => {
+            let alloc = reader.alloc();
+            add_properties(reader, value, &mut members(alloc, object).properties);
+        }
         "additionalProperties" => {
-            members(alloc, object).additional = Some(schema_of(alloc, value)?);
+            let alloc = reader.alloc();
+            members(alloc, object).additional = Some(read_schema(reader, value));
         }
-        _ => add_limit(alloc, name, value, object)?,
+        _ => add_limit(reader, name, value, object),
     }
-    Ok(())
 }
 
 #[cycle(schema)]
-fn schemas_of(alloc: Global, noted: &Json) -> Result<List<Schema>, CaseError> {
-    let Json::List(items) = noted else {
-        return Err(CaseError::Expected("schemas"));
-    };
-    let mut schemas = List::new(alloc);
-    for schema in items.as_slice() {
-        schemas.push(schema_of(alloc, schema)?)?;
+fn add_subschemas(reader: &mut Reader, name: &str, value: &Json, kinds: &mut Subschemas) {
+    match name {
+        "allOf" => kinds.all_of = Some(read_schemas(reader, value)),
+        "anyOf" => kinds.any_of = Some(read_schemas(reader, value)),
+        "oneOf" => kinds.one_of = Some(read_schemas(reader, value)),
+        "not" => kinds.not = Some(read_schema(reader, value)),
+        _ => {}
     }
-    Ok(schemas)
 }
 
 #[cycle(schema)]
-fn each_of(alloc: Global, noted: &Json) -> Result<Items, CaseError> {
+fn read_schemas(reader: &mut Reader, noted: &Json) -> List<Schema> {
     match noted {
-        Json::List(_) => Ok(Items::Tuple(schemas_of(alloc, noted)?)),
-        _ => Ok(Items::One(schema_of(alloc, noted)?)),
+        Json::List(schemas) => read_all_schemas(reader, schemas.as_slice()),
+        _ => {
+            reader.expected("schemas");
+            List::new(reader.alloc())
+        }
     }
 }
 
 #[cycle(schema)]
-fn add_properties(
-    alloc: Global,
-    noted: &Json,
-    properties: &mut List<Property>,
-) -> Result<(), CaseError> {
+fn read_all_schemas(reader: &mut Reader, noted: &[Json]) -> List<Schema> {
+    let mut schemas = List::new(reader.alloc());
+    for schema in noted {
+        let schema = read_schema(reader, schema);
+        reader.push(&mut schemas, schema);
+    }
+    schemas
+}
+
+#[cycle(schema)]
+fn read_items(reader: &mut Reader, noted: &Json) -> Items {
     match noted {
-        Json::Object(members) => add_named(alloc, members.as_slice(), properties),
-        Json::List(objects) => add_named_in_order(alloc, objects.as_slice(), properties),
-        _ => Err(CaseError::Expected("properties")),
+        Json::List(schemas) => Items::Tuple(read_all_schemas(reader, schemas.as_slice())),
+        _ => Items::One(read_schema(reader, noted)),
     }
 }
 
 #[cycle(schema)]
-fn add_named_in_order(
-    alloc: Global,
-    objects: &[Json],
-    properties: &mut List<Property>,
-) -> Result<(), CaseError> {
+fn add_properties(reader: &mut Reader, noted: &Json, properties: &mut List<Property>) {
+    match noted {
+        Json::Object(members) => add_named(reader, members.as_slice(), properties),
+        Json::List(objects) => add_named_in_order(reader, objects.as_slice(), properties),
+        _ => reader.expected("properties"),
+    }
+}
+
+#[cycle(schema)]
+fn add_named_in_order(reader: &mut Reader, objects: &[Json], properties: &mut List<Property>) {
     for object in objects {
-        add_properties(alloc, object, properties)?;
+        add_properties(reader, object, properties);
     }
-    Ok(())
 }
 
 #[cycle(schema)]
-fn add_named(
-    alloc: Global,
-    members: &[Member],
-    properties: &mut List<Property>,
-) -> Result<(), CaseError> {
+fn add_named(reader: &mut Reader, members: &[Member], properties: &mut List<Property>) {
     for Member { name, value } in members {
-        properties.push(Property {
-            name: name.copy(alloc)?,
-            schema: schema_of(alloc, value)?,
-        })?;
+        let property = Property {
+            name: reader.copy(name),
+            schema: read_schema(reader, value),
+        };
+        reader.push(properties, property);
     }
-    Ok(())
 }
 
 fn kinds(object: &mut SchemaObject) -> &mut Subschemas {
@@ -212,70 +223,70 @@ fn members(alloc: Global, object: &mut SchemaObject) -> &mut ObjectParts {
     })
 }
 
-fn add_limit(
-    alloc: Global,
-    name: &str,
-    value: &Json,
-    object: &mut SchemaObject,
-) -> Result<(), CaseError> {
+fn add_limit(reader: &mut Reader, name: &str, value: &Json, object: &mut SchemaObject) {
     match name {
-        "minimum" => bounds(object).minimum = Some(number_of(value)?),
-        "exclusiveMinimum" => bounds(object).exclusive_minimum = Some(number_of(value)?),
-        "maximum" => bounds(object).maximum = Some(number_of(value)?),
-        "exclusiveMaximum" => bounds(object).exclusive_maximum = Some(number_of(value)?),
-        "minLength" => lengths(object).min = Some(count_of(value)?),
-        "maxLength" => lengths(object).max = Some(count_of(value)?),
-        "minItems" => array(object).min = Some(count_of(value)?),
-        "maxItems" => array(object).max = Some(count_of(value)?),
-        "minProperties" => members(alloc, object).min = Some(count_of(value)?),
-        "maxProperties" => members(alloc, object).max = Some(count_of(value)?),
-        _ => add_scalar_part(alloc, name, value, object)?,
+        "minimum" => bounds(object).minimum = Some(read_number(reader, value)),
+        "exclusiveMinimum" => bounds(object).exclusive_minimum = Some(read_number(reader, value)),
+        "maximum" => bounds(object).maximum = Some(read_number(reader, value)),
+        "exclusiveMaximum" => bounds(object).exclusive_maximum = Some(read_number(reader, value)),
+        "minLength" => lengths(object).min = Some(read_count(reader, value)),
+        "maxLength" => lengths(object).max = Some(read_count(reader, value)),
+        "minItems" => array(object).min = Some(read_count(reader, value)),
+        "maxItems" => array(object).max = Some(read_count(reader, value)),
+        _ => add_limit_of_members(reader, name, value, object),
     }
-    Ok(())
 }
 
-fn add_scalar_part(
-    alloc: Global,
-    name: &str,
-    value: &Json,
-    object: &mut SchemaObject,
-) -> Result<(), CaseError> {
+fn add_limit_of_members(reader: &mut Reader, name: &str, value: &Json, object: &mut SchemaObject) {
+    let alloc = reader.alloc();
     match name {
-        "required" => members(alloc, object).required = texts_of(alloc, value)?,
-        "type" => object.instance_type = Some(types_of(alloc, value)?),
-        "format" => object.format = Some(text_of(value)?.copy(alloc)?),
-        "enum" => object.enum_values = Some(values_of(alloc, value)?),
-        "const" => object.const_value = Some(value.copy(alloc)?),
-        "$ref" => object.reference = Some(text_of(value)?.copy(alloc)?),
-        _ => annotate(alloc, name, value, object)?,
+        "minProperties" => members(alloc, object).min = Some(read_count(reader, value)),
+        "maxProperties" => members(alloc, object).max = Some(read_count(reader, value)),
+        "required" => members(alloc, object).required = reader.texts(value),
+        _ => add_scalar_part(reader, name, value, object),
     }
-    Ok(())
 }
 
-fn annotate(
-    alloc: Global,
-    name: &str,
-    value: &Json,
-    object: &mut SchemaObject,
-) -> Result<(), CaseError> {
+fn add_scalar_part(reader: &mut Reader, name: &str, value: &Json, object: &mut SchemaObject) {
     match name {
-        "title" => object.title = Some(text_of(value)?.copy(alloc)?),
-        "description" => object.description = Some(text_of(value)?.copy(alloc)?),
-        "default" => object.default = Some(value.copy(alloc)?),
-        "deprecated" => object.deprecated = truth_of(value)?,
-        "readOnly" => object.read_only = truth_of(value)?,
-        "writeOnly" => object.write_only = truth_of(value)?,
-        "nullable" => object.nullable = truth_of(value)?,
-        _ => object.extensions.push(extension_of(alloc, name, value)?)?,
+        "type" => object.instance_type = Some(read_types(reader, value)),
+        "format" => object.format = Some(reader.text(value)),
+        "enum" => object.enum_values = Some(read_values(reader, value)),
+        "const" => object.const_value = Some(reader.copy_json(value)),
+        "$ref" => object.reference = Some(reader.text(value)),
+        _ => annotate(reader, name, value, object),
     }
-    Ok(())
 }
 
-fn extension_of(alloc: Global, name: &str, value: &Json) -> Result<Member, CaseError> {
-    Ok(Member {
-        name: Text::from_str(alloc, name)?,
-        value: value.copy(alloc)?,
-    })
+fn annotate(reader: &mut Reader, name: &str, value: &Json, object: &mut SchemaObject) {
+    match name {
+        "title" => object.title = Some(reader.text(value)),
+        "description" => object.description = Some(reader.text(value)),
+        "default" => object.default = Some(reader.copy_json(value)),
+        "deprecated" => object.deprecated = read_truth(reader, value),
+        "readOnly" => object.read_only = read_truth(reader, value),
+        "writeOnly" => object.write_only = read_truth(reader, value),
+        "nullable" => object.nullable = read_truth(reader, value),
+        _ => {
+            let extension = Member {
+                name: reader.text_from(name),
+                value: reader.copy_json(value),
+            };
+            reader.push(&mut object.extensions, extension);
+        }
+    }
+}
+
+fn read_number(reader: &mut Reader, noted: &Json) -> i128 {
+    reader.or(number_of(noted), 0)
+}
+
+fn read_truth(reader: &mut Reader, noted: &Json) -> bool {
+    reader.or(truth_of(noted), false)
+}
+
+fn read_count(reader: &mut Reader, noted: &Json) -> u32 {
+    reader.or(count_of(noted), 0)
 }
 
 fn count_of(noted: &Json) -> Result<u32, CaseError> {
@@ -285,23 +296,33 @@ fn count_of(noted: &Json) -> Result<u32, CaseError> {
     }
 }
 
-fn values_of(alloc: Global, noted: &Json) -> Result<List<Json>, CaseError> {
-    let mut values = List::new(alloc);
-    for value in items_of(noted)? {
-        values.push(value.copy(alloc)?)?;
+fn read_values(reader: &mut Reader, noted: &Json) -> List<Json> {
+    let mut values = List::new(reader.alloc());
+    for value in reader.items(noted) {
+        let value = reader.copy_json(value);
+        reader.push(&mut values, value);
     }
-    Ok(values)
+    values
 }
 
-fn types_of(alloc: Global, noted: &Json) -> Result<InstanceTypes, CaseError> {
-    let Json::List(names) = noted else {
-        return Ok(InstanceTypes::Single(type_of(noted)?));
-    };
-    let mut types = List::new(alloc);
-    for name in names.as_slice() {
-        types.push(type_of(name)?)?;
+fn read_types(reader: &mut Reader, noted: &Json) -> InstanceTypes {
+    match noted {
+        Json::List(names) => InstanceTypes::Several(read_all_types(reader, names.as_slice())),
+        name => InstanceTypes::Single(read_type(reader, name)),
     }
-    Ok(InstanceTypes::Several(types))
+}
+
+fn read_all_types(reader: &mut Reader, names: &[Json]) -> List<InstanceType> {
+    let mut types = List::new(reader.alloc());
+    for name in names {
+        let kind = read_type(reader, name);
+        reader.push(&mut types, kind);
+    }
+    types
+}
+
+fn read_type(reader: &mut Reader, name: &Json) -> InstanceType {
+    reader.or(type_of(name), InstanceType::Null)
 }
 
 const TYPES: [(&str, InstanceType); 7] = [
@@ -323,7 +344,7 @@ fn type_of(noted: &Json) -> Result<InstanceType, CaseError> {
 }
 
 /// Types as they are noted, or null where there is none.
-pub fn types_told(alloc: Global, types: &Option<InstanceTypes>) -> Result<Json, AllocError> {
+pub fn types_told(alloc: Global, types: &Option<InstanceTypes>) -> Result<Json, CaseError> {
     match types {
         None => Ok(Json::Null),
         Some(InstanceTypes::Single(kind)) => type_told(alloc, *kind),
@@ -331,17 +352,17 @@ pub fn types_told(alloc: Global, types: &Option<InstanceTypes>) -> Result<Json, 
     }
 }
 
-fn all_told(alloc: Global, kinds: &[InstanceType]) -> Result<Json, AllocError> {
-    let mut words = List::new(alloc);
+fn all_told(alloc: Global, kinds: &[InstanceType]) -> Result<Json, CaseError> {
+    let mut words = Row::new(alloc);
     for kind in kinds {
-        words.push(type_told(alloc, *kind)?)?;
+        words.push(type_told(alloc, *kind));
     }
-    Ok(Json::List(words))
+    words.done()
 }
 
-fn type_told(alloc: Global, kind: InstanceType) -> Result<Json, AllocError> {
+fn type_told(alloc: Global, kind: InstanceType) -> Result<Json, CaseError> {
     match TYPES.iter().find(|(_, other)| *other == kind) {
-        Some((name, _)) => word(alloc, name),
+        Some((name, _)) => say(alloc, name),
         None => Ok(Json::Null),
     }
 }

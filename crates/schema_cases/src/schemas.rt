@@ -1,11 +1,11 @@
 //! Calls on schemas. A schema is told as it is written.
 use crate::answers::error_told;
 use crate::schema_notation::{definitions_of, noted_schema, types_told};
-use case_notation::{CaseError, given, put, text_of, truth_of, word};
+use case_notation::{CaseError, Record, Row, given, say, text_of, text_or_null, truth_of};
 use openapi_values::J2oasError;
 use schema_util::{ResolveError, ScalarError, Schema2StructError, StructMember};
 use schema_values::{Definitions, InstanceTypes, Json, List, Member, Schema, Text};
-use std::alloc::{AllocError, Global};
+use std::alloc::Global;
 
 /// What a copy of the schema is written as, with the title under `title` where one stands, or why
 /// it is not written.
@@ -26,7 +26,7 @@ fn written(alloc: Global, title: Option<&str>, schema: &Schema) -> Result<Json, 
     match openapi_values::j2oas_schema(alloc, title, schema) {
         Ok(json) => Ok(json),
         Err(J2oasError::OutOfMemory) => Err(CaseError::OutOfMemory),
-        Err(error) => error_told(alloc, format!(in alloc; "{error}")?),
+        Err(error) => error_told(alloc, format!(in alloc; "{error}")),
     }
 }
 
@@ -60,29 +60,29 @@ fn found_told(
 ) -> Result<Json, CaseError> {
     match outcome {
         Ok(found) => found_written(alloc, found),
-        Err(error) => error_told(alloc, format!(in alloc; "{error}")?),
+        Err(error) => error_told(alloc, format!(in alloc; "{error}")),
     }
 }
 
 fn found_written(alloc: Global, found: &Schema) -> Result<Json, CaseError> {
-    let json = written(alloc, None, found)?;
+    let json = written(alloc, None, found);
     match found {
         Schema::Object(object) if object.get().reference.is_some() => {
-            Ok(with_types(alloc, json, &object.get().instance_type)?)
+            with_types(alloc, json, &object.get().instance_type)
         }
-        _ => Ok(json),
+        _ => json,
     }
 }
 
 fn with_types(
     alloc: Global,
-    written: Json,
+    written: Result<Json, CaseError>,
     types: &Option<InstanceTypes>,
-) -> Result<Json, AllocError> {
-    let mut parts = List::new(alloc);
-    put(alloc, &mut parts, "written", written)?;
-    put(alloc, &mut parts, "type", types_told(alloc, types)?)?;
-    Ok(Json::Object(parts))
+) -> Result<Json, CaseError> {
+    Record::new(alloc)
+        .put("written", written)
+        .put("type", types_told(alloc, types))
+        .done()
 }
 
 /// Whether the schema is empty.
@@ -100,11 +100,11 @@ pub fn extensions(alloc: Global, case: &Json) -> Result<Json, CaseError> {
 }
 
 fn object_of(alloc: Global, members: &[Member]) -> Result<Json, CaseError> {
-    let mut copies = List::new(alloc);
+    let mut copies = Record::new(alloc);
     for Member { name, value } in members {
-        put(alloc, &mut copies, name.as_str(), value.copy(alloc)?)?;
+        copies.add(name.as_str(), value.copy(alloc));
     }
-    Ok(Json::Object(copies))
+    copies.done()
 }
 
 /// The schema's description or null, and the rest: `{"description": TEXT, "schema": SCHEMA}`.
@@ -119,22 +119,10 @@ fn description_told(
     description: &Option<Text>,
     rest: &Schema,
 ) -> Result<Json, CaseError> {
-    let mut parts = List::new(alloc);
-    put(
-        alloc,
-        &mut parts,
-        "description",
-        text_or_null(alloc, description)?,
-    )?;
-    put(alloc, &mut parts, "schema", written(alloc, None, rest)?)?;
-    Ok(Json::Object(parts))
-}
-
-fn text_or_null(alloc: Global, text: &Option<Text>) -> Result<Json, CaseError> {
-    match text {
-        Some(text) => Ok(Json::Text(text.copy(alloc)?)),
-        None => Ok(Json::Null),
-    }
+    Record::new(alloc)
+        .put("description", text_or_null(alloc, description))
+        .put("schema", written(alloc, None, rest))
+        .done()
 }
 
 /// Whether the schema is that of scalar values, as `"fits"`, or why not.
@@ -166,8 +154,8 @@ pub fn string_enum(alloc: Global, case: &Json) -> Result<Json, CaseError> {
 
 fn told(alloc: Global, outcome: Result<(), ScalarError<'_>>) -> Result<Json, CaseError> {
     match outcome {
-        Ok(()) => Ok(word(alloc, "fits")?),
-        Err(error) => error_told(alloc, format!(in alloc; "{error}")?),
+        Ok(()) => say(alloc, "fits"),
+        Err(error) => error_told(alloc, format!(in alloc; "{error}")),
     }
 }
 
@@ -195,15 +183,15 @@ fn struct_told(
 
 fn copy_told(alloc: Global, error: &Schema2StructError) -> Result<Json, CaseError> {
     let copy = error.copy(alloc)?;
-    error_told(alloc, format!(in alloc; "{copy}")?)
+    error_told(alloc, format!(in alloc; "{copy}"))
 }
 
 fn members_told(alloc: Global, members: &[StructMember]) -> Result<Json, CaseError> {
-    let mut told = List::new(alloc);
+    let mut told = Row::new(alloc);
     for member in members {
-        told.push(copied_member_told(alloc, member)?)?;
+        told.push(copied_member_told(alloc, member));
     }
-    Ok(Json::List(told))
+    told.done()
 }
 
 fn copied_member_told(alloc: Global, member: &StructMember) -> Result<Json, CaseError> {
@@ -212,25 +200,10 @@ fn copied_member_told(alloc: Global, member: &StructMember) -> Result<Json, Case
 }
 
 fn member_told(alloc: Global, member: &StructMember) -> Result<Json, CaseError> {
-    let mut parts = List::new(alloc);
-    put(
-        alloc,
-        &mut parts,
-        "name",
-        Json::Text(member.name.copy(alloc)?),
-    )?;
-    put(
-        alloc,
-        &mut parts,
-        "description",
-        text_or_null(alloc, &member.description)?,
-    )?;
-    put(
-        alloc,
-        &mut parts,
-        "schema",
-        written(alloc, None, &member.schema)?,
-    )?;
-    put(alloc, &mut parts, "required", Json::Bool(member.required))?;
-    Ok(Json::Object(parts))
+    Record::new(alloc)
+        .text("name", member.name.as_str())
+        .put("description", text_or_null(alloc, &member.description))
+        .put("schema", written(alloc, None, &member.schema))
+        .truth("required", member.required)
+        .done()
 }

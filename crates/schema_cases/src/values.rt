@@ -1,7 +1,9 @@
 //! Calls on values.
 use crate::answers::{error_told, text_given};
 use crate::request_notation::bytes_of;
-use case_notation::{CaseError, form, given, items_of, made_of, pair, text_of};
+use case_notation::{
+    CaseError, Row, both, given, items_of, labelled, made_of, string_told, text_of,
+};
 use schema_values::{
     Json, List, ReadError, Scratch, Text, ValueError, write_member, write_number_member,
     write_text_member,
@@ -25,13 +27,22 @@ pub fn read(alloc: Global, case: &Json) -> Result<Json, CaseError> {
 
 /// What each text of a list is read as, in one room that is kept.
 pub fn read_in_turn(alloc: Global, case: &Json) -> Result<Json, CaseError> {
+    let texts = items_of(given(case, "json")?)?;
     let mut scratch = Scratch::new(alloc);
-    let mut told = List::new(alloc);
-    for text in items_of(given(case, "json")?)? {
-        let bytes = text_of(text)?.as_bytes();
-        told.push(reading_told(alloc, Json::read_with(alloc, &mut scratch, bytes))?)?;
+    let mut told = Row::new(alloc);
+    for text in texts {
+        told.push(read_in(alloc, &mut scratch, text));
     }
-    Ok(Json::List(told))
+    told.done()
+}
+
+fn read_in(alloc: Global, scratch: &mut Scratch, text: &Json) -> Result<Json, CaseError> {
+    let bytes = text_of(text)?.as_bytes();
+    reading_told(alloc, Json::read_with(alloc, scratch, bytes))
+}
+
+fn json_told(alloc: Global, json: Json) -> Result<Json, CaseError> {
+    labelled::<CaseError>(alloc, "json", Ok(json))
 }
 
 fn read_told(alloc: Global, bytes: &[u8]) -> Result<Json, CaseError> {
@@ -40,9 +51,9 @@ fn read_told(alloc: Global, bytes: &[u8]) -> Result<Json, CaseError> {
 
 fn reading_told(alloc: Global, reading: Result<Json, ReadError>) -> Result<Json, CaseError> {
     match reading {
-        Ok(json) => Ok(form(alloc, "json", json)?),
+        Ok(json) => json_told(alloc, json),
         Err(ReadError::OutOfMemory) => Err(CaseError::OutOfMemory),
-        Err(error) => error_told(alloc, format!(in alloc; "{error}")?),
+        Err(error) => error_told(alloc, format!(in alloc; "{error}")),
     }
 }
 
@@ -54,14 +65,19 @@ pub fn compact(alloc: Global, case: &Json) -> Result<Json, CaseError> {
 /// The compact text of an object with the text and the value of the case, and with how many characters
 /// the text has, written member by member.
 pub fn written(alloc: Global, case: &Json) -> Result<Json, CaseError> {
-    let text = text_given(case, "text")?;
+    let (text, json) = (text_given(case, "text")?, given(case, "json")?);
     let mut out = Text::with_capacity(alloc, 64)?;
-    out.push('{')?;
-    write_text_member(0, "text", text.as_str(), &mut out)?;
-    write_number_member(alloc, 1, "count", count_of(text)?, &mut out)?;
-    write_member(alloc, 2, "json", given(case, "json")?, &mut out)?;
-    out.push('}')?;
+    write_members(alloc, text, json, &mut out)?;
     Ok(Json::Text(out))
+}
+
+fn write_members(alloc: Global, text: &Text, json: &Json, out: &mut Text) -> Result<(), CaseError> {
+    out.push('{')?;
+    write_text_member(0, "text", text.as_str(), out)?;
+    write_number_member(alloc, 1, "count", count_of(text)?, out)?;
+    write_member(alloc, 2, "json", json, out)?;
+    out.push('}')?;
+    Ok(())
 }
 
 /// The value's text in lines.
@@ -97,7 +113,7 @@ fn count_of(text: &Text) -> Result<i128, CaseError> {
 pub fn get(alloc: Global, case: &Json) -> Result<Json, CaseError> {
     let name = text_given(case, "name")?;
     match given(case, "json")?.get(name.as_str()) {
-        Some(member) => Ok(form(alloc, "json", member.copy(alloc)?)?),
+        Some(member) => labelled(alloc, "json", member.copy(alloc)),
         None => Ok(Json::Null),
     }
 }
@@ -117,8 +133,11 @@ pub fn equals(alloc: Global, case: &Json) -> Result<Json, CaseError> {
 /// The text of the value as `serde_json` has it, and what comes back: `[TEXT, {"json": VALUE}]`.
 pub fn to_value(alloc: Global, case: &Json) -> Result<Json, CaseError> {
     let value = handed_over(alloc, case)?;
-    let text = Json::Text(Text::from_string(value.to_string(alloc)?));
-    Ok(pair(alloc, text, taken_over(alloc, &value)?)?)
+    both(
+        alloc,
+        string_told(value.to_string(alloc)),
+        taken_over(alloc, &value),
+    )
 }
 
 fn handed_over(alloc: Global, case: &Json) -> Result<Value, CaseError> {
@@ -141,8 +160,8 @@ pub fn of_value(alloc: Global, case: &Json) -> Result<Json, CaseError> {
 
 fn taken_over(alloc: Global, value: &Value) -> Result<Json, CaseError> {
     match Json::of_value(alloc, value) {
-        Ok(json) => Ok(form(alloc, "json", json)?),
+        Ok(json) => json_told(alloc, json),
         Err(ValueError::OutOfMemory) => Err(CaseError::OutOfMemory),
-        Err(error) => error_told(alloc, format!(in alloc; "{error}")?),
+        Err(error) => error_told(alloc, format!(in alloc; "{error}")),
     }
 }

@@ -8,8 +8,8 @@ use crate::tables::{add, add_together, copied_table, table_told};
 use crate::texts::{map_decoded, pairs_decoded, text_decoded};
 use crate::types::type_told;
 use crate::values::{decode, decode_and_encode, desc_told, encode};
-use case_notation::{AnswersCases, CaseError, given, text_of};
-use schema_values::{Json, List};
+use case_notation::{AnswersCases, CaseError, Row, given, text_of};
+use schema_values::Json;
 use std::alloc::Global;
 
 /// The names that members of a case have.
@@ -47,23 +47,27 @@ impl AnswersCases for ValueCases {
     }
 
     fn answer(&self, alloc: Global, case: &Json) -> Result<Json, CaseError> {
-        let answer = match given(case, "call")? {
-            Json::List(calls) => answers(alloc, calls.as_slice(), case)?,
-            call => answer(alloc, call, case)?,
-        };
+        let answer = answers(alloc, given(case, "call")?, case);
         match case.get("pretty") {
-            Some(places) => lines_printed(alloc, &answer, places),
-            None => Ok(answer),
+            Some(places) => lines_printed(alloc, &answer?, places),
+            None => answer,
         }
     }
 }
 
-fn answers(alloc: Global, calls: &[Json], case: &Json) -> Result<Json, CaseError> {
-    let mut answers = List::new(alloc);
-    for call in calls {
-        answers.push(answer(alloc, call, case)?)?;
+fn answers(alloc: Global, call: &Json, case: &Json) -> Result<Json, CaseError> {
+    match call {
+        Json::List(calls) => answers_in_turn(alloc, calls.as_slice(), case),
+        call => answer(alloc, call, case),
     }
-    Ok(Json::List(answers))
+}
+
+fn answers_in_turn(alloc: Global, calls: &[Json], case: &Json) -> Result<Json, CaseError> {
+    let mut answers = Row::new(alloc);
+    for call in calls {
+        answers.push(answer(alloc, call, case));
+    }
+    answers.done()
 }
 
 fn answer(alloc: Global, call: &Json, case: &Json) -> Result<Json, CaseError> {

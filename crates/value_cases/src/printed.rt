@@ -1,8 +1,8 @@
 //! Calls on values, and how answers are printed over lines.
 use crate::case::{read, value_of};
-use case_notation::{CaseError, items_of, number_of};
+use case_notation::{CaseError, Reader, Row, items_of, number_of, say};
 use schema_values::{Json, List, Text};
-use std::alloc::{AllocError, Global};
+use std::alloc::Global;
 
 /// The value of a case.
 pub fn value(alloc: Global, case: &Json) -> Result<Json, CaseError> {
@@ -22,36 +22,33 @@ pub fn lines_printed(alloc: Global, answer: &Json, places: &Json) -> Result<Json
         return Err(CaseError::Expected("two places of lines"));
     };
     let (first, end) = (number_of(first)?, number_of(end)?);
-    let lines = lines_of(alloc, answer.pretty(alloc)?.as_str())?;
-    Ok(Json::List(between(alloc, lines.as_slice(), first, end)?))
+    let text = answer.pretty(alloc)?;
+    let lines = lines_of(alloc, text.as_str())?;
+    between(alloc, lines.as_slice(), first, end)
 }
 
-fn lines_of(alloc: Global, text: &str) -> Result<List<Text>, AllocError> {
+fn lines_of(alloc: Global, text: &str) -> Result<List<Text>, CaseError> {
+    let mut reader = Reader::new(alloc);
     let mut lines = List::new(alloc);
     let mut line = Text::new(alloc);
     for character in text.chars() {
         if character == '\n' {
-            lines.push(line)?;
+            reader.push(&mut lines, line);
             line = Text::new(alloc);
         } else {
-            line.push(character)?;
+            reader.or(line.push(character), ());
         }
     }
-    lines.push(line)?;
-    Ok(lines)
+    reader.push(&mut lines, line);
+    reader.finish(lines)
 }
 
-fn between(
-    alloc: Global,
-    lines: &[Text],
-    first: i128,
-    end: i128,
-) -> Result<List<Json>, AllocError> {
-    let mut told = List::new(alloc);
+fn between(alloc: Global, lines: &[Text], first: i128, end: i128) -> Result<Json, CaseError> {
+    let mut told = Row::new(alloc);
     for (place, line) in lines.iter().enumerate() {
         if first <= place as i128 && (place as i128) < end {
-            told.push(Json::Text(line.copy(alloc)?))?;
+            told.push(say(alloc, line.as_str()));
         }
     }
-    Ok(told)
+    told.done()
 }

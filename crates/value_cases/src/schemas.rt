@@ -2,11 +2,11 @@
 ghost use Rattle.typed_values.specs.Checks.{TablePasses};
 
 use crate::case::value_of;
-use case_notation::{CaseError, checked_table, form, given, noted_desc, text_of};
+use case_notation::{CaseError, Record, Row, checked_table, given, labelled, noted_desc, text_of};
 use openapi_values::{J2oasError, j2oas_schema, json_admits};
-use schema_values::{Json, List, Member, Schema, Text};
-use std::alloc::{AllocError, Global};
-use typed_values::{DescTable, SchemaPlace, schema_of, schema_of_definition};
+use schema_values::{Json, Schema, Text};
+use std::alloc::Global;
+use typed_values::{Definition, DescTable, SchemaPlace, schema_of, schema_of_definition};
 use written_schemas::{definition_schema, titled_schema};
 
 /// The schema of the descriptor of a case at its place, `plain`, `header` or `query`.
@@ -83,17 +83,31 @@ pub fn copied_schemas(alloc: Global, case: &Json) -> Result<Json, CaseError> {
 fn schemas_told(alloc: Global, table: &DescTable) -> Result<Json, CaseError>
     requires { TablePasses table.now }
 {
-    let mut answers = List::new(alloc);
+    let mut answers = Row::new(alloc);
     for definition in table.definitions() {
-        let alike = alike(alloc, &schema_of_definition(alloc, table, definition)?)?;
-        answers.push(form(alloc, definition.name.as_str(), alike)?)?;
+        answers.push(definition_told(alloc, table, definition));
     }
-    Ok(Json::List(answers))
+    answers.done()
+}
+
+fn definition_told(
+    alloc: Global,
+    table: &DescTable,
+    definition: &Definition,
+) -> Result<Json, CaseError>
+    requires { TablePasses table.now }
+{
+    let schema = schema_of_definition(alloc, table, definition)?;
+    labelled(alloc, definition.name.as_str(), alike(alloc, &schema))
 }
 
 /// Whether a schema and its copy are written alike.
 fn alike(alloc: Global, schema: &Schema) -> Result<Json, CaseError> {
     let json = written(alloc, schema)?;
+    is_copy_written_as(alloc, schema, &json)
+}
+
+fn is_copy_written_as(alloc: Global, schema: &Schema, json: &Json) -> Result<Json, CaseError> {
     let again = copy_written(alloc, schema)?;
     Ok(Json::Bool(json.equals(&again)))
 }
@@ -119,23 +133,18 @@ fn admitted(alloc: Global, case: &Json, json: &Json) -> Result<Json, CaseError> 
 
 /// A document of the schemas of the definitions of a case.
 fn document_of(alloc: Global, case: &Json) -> Result<Json, CaseError> {
-    let schemas = schemas_of(alloc, &checked_table(alloc, case)?)?;
-    Ok(form(
-        alloc,
-        "components",
-        form(alloc, "schemas", Json::Object(schemas))?,
-    )?)
+    let table = checked_table(alloc, case)?;
+    let schemas = labelled(alloc, "schemas", schemas_of(alloc, &table));
+    labelled(alloc, "components", schemas)
 }
 
-fn schemas_of(alloc: Global, table: &DescTable) -> Result<List<Member>, AllocError>
+fn schemas_of(alloc: Global, table: &DescTable) -> Result<Json, CaseError>
     requires { TablePasses table.now }
 {
-    let mut schemas = List::new(alloc);
+    let mut schemas = Record::new(alloc);
     for definition in table.definitions() {
-        schemas.push(Member {
-            name: definition.name.copy(alloc)?,
-            value: definition_schema(alloc, table, definition)?,
-        })?;
+        let schema = definition_schema(alloc, table, definition);
+        schemas.add(definition.name.as_str(), schema);
     }
-    Ok(schemas)
+    schemas.done()
 }

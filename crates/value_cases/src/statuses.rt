@@ -1,6 +1,6 @@
 //! What numbers and texts are as status codes of errors.
-use case_notation::{CaseError, form, given};
-use schema_values::{Json, List, Text};
+use case_notation::{CaseError, both, given, labelled, string_told};
+use schema_values::Json;
 use status_codes::{ClientErrorStatusCode, ErrorStatusCode};
 use std::alloc::Global;
 use std::fmt::Display;
@@ -31,10 +31,7 @@ fn both_told<E: Display, F: Display>(
     error: &Result<ErrorStatusCode, E>,
     client: &Result<ClientErrorStatusCode, F>,
 ) -> Result<Json, CaseError> {
-    let mut told = List::new(alloc);
-    told.push(code_told(alloc, error)?)?;
-    told.push(code_told(alloc, client)?)?;
-    Ok(Json::List(told))
+    both(alloc, code_told(alloc, error), code_told(alloc, client))
 }
 
 fn code_told<C: Display, E: Display>(
@@ -42,11 +39,7 @@ fn code_told<C: Display, E: Display>(
     answer: &Result<C, E>,
 ) -> Result<Json, CaseError> {
     match answer {
-        Ok(code) => Ok(form(alloc, "code", shown(alloc, code)?)?),
-        Err(refusal) => Ok(form(alloc, "refused", shown(alloc, refusal)?)?),
+        Ok(code) => labelled(alloc, "code", string_told(code.to_string(alloc))),
+        Err(refusal) => labelled(alloc, "refused", string_told(refusal.to_string(alloc))),
     }
-}
-
-fn shown<T: Display>(alloc: Global, value: &T) -> Result<Json, CaseError> {
-    Ok(Json::Text(Text::from_string(value.to_string(alloc)?)))
 }

@@ -1,5 +1,5 @@
 //! Calls on a store of trees. A step is a list: its name, the name of a table, and what it takes.
-use case_notation::{CaseError, form, given, items_of, tree_noted, tree_of, word};
+use case_notation::{CaseError, Row, given, items_of, labelled, say, tree_noted, tree_of};
 use schema_values::{Json, List, Text};
 use std::alloc::Global;
 use tree_store::Store;
@@ -7,16 +7,20 @@ use typed_values::{Pair, Tree};
 
 /// What each of the steps of a case answers, at a store that is empty before the first.
 pub fn store_told(alloc: Global, case: &Json) -> Result<Json, CaseError> {
-    let mut store = Store::new(alloc);
-    let mut answers = List::new(alloc);
-    for step in items_of(given(case, "steps")?)? {
-        answers.push(step_told(alloc, &mut store, items_of(step)?)?)?;
-    }
-    Ok(Json::List(answers))
+    let steps = items_of(given(case, "steps")?)?;
+    steps_told(alloc, &mut Store::new(alloc), steps)
 }
 
-fn step_told(alloc: Global, store: &mut Store, step: &[Json]) -> Result<Json, CaseError> {
-    match step {
+fn steps_told(alloc: Global, store: &mut Store, steps: &[Json]) -> Result<Json, CaseError> {
+    let mut answers = Row::new(alloc);
+    for step in steps {
+        answers.push(step_told(alloc, store, step));
+    }
+    answers.done()
+}
+
+fn step_told(alloc: Global, store: &mut Store, step: &Json) -> Result<Json, CaseError> {
+    match items_of(step)? {
         [Json::Text(name)] if name.equals_str("copy") => copied(alloc, store),
         [Json::Text(name), Json::Text(table)] if name.equals_str("count") => {
             Ok(Json::Int(store.count(table.as_str()) as i128))
@@ -38,7 +42,7 @@ fn step_told(alloc: Global, store: &mut Store, step: &[Json]) -> Result<Json, Ca
 // The store is its copy from now on.
 fn copied(alloc: Global, store: &mut Store) -> Result<Json, CaseError> {
     *store = store.copy(alloc)?;
-    Ok(word(alloc, "copied")?)
+    say(alloc, "copied")
 }
 
 fn key_told(
@@ -86,11 +90,11 @@ fn count_of(count: i128) -> Result<u32, CaseError> {
 
 fn tree_told(alloc: Global, tree: Option<&Tree>) -> Result<Json, CaseError> {
     match tree {
-        Some(tree) => Ok(form(alloc, "tree", tree_noted(alloc, tree)?)?),
-        None => Ok(word(alloc, "absent")?),
+        Some(tree) => labelled(alloc, "tree", tree_noted(alloc, tree)),
+        None => say(alloc, "absent"),
     }
 }
 
 fn page_told(alloc: Global, pairs: List<Pair>) -> Result<Json, CaseError> {
-    Ok(tree_noted(alloc, &Tree::Map(pairs))?)
+    tree_noted(alloc, &Tree::Map(pairs))
 }

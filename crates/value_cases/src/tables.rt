@@ -1,7 +1,9 @@
 //! Calls on tables of definitions.
 use crate::refusals::told;
 use api_types::add_all;
-use case_notation::{CaseError, definition_of, form, given, items_of, table_of, word};
+use case_notation::{
+    CaseError, Row, definition_of, given, items_of, labelled, say, table_of, text_told,
+};
 use schema_values::{Json, List};
 use std::alloc::Global;
 use typed_values::{AddError, Added, Definition, DescTable, check_table};
@@ -9,7 +11,7 @@ use typed_values::{AddError, Added, Definition, DescTable, check_table};
 /// What is told of the table of a case.
 pub fn table_told(alloc: Global, case: &Json) -> Result<Json, CaseError> {
     let table = table_of(alloc, case)?;
-    Ok(told(alloc, check_table(&table))?)
+    told(alloc, check_table(&table))
 }
 
 /// What is told of each of the definitions of a case, added one after another.
@@ -30,11 +32,19 @@ fn all_added(
     table: &mut DescTable,
     definitions: &[Definition],
 ) -> Result<Json, CaseError> {
-    let mut words = List::new(alloc);
+    let mut words = Row::new(alloc);
     for definition in definitions {
-        words.push(added(alloc, table, definition.copy(alloc)?)?)?;
+        words.push(copy_added(alloc, table, definition));
     }
-    Ok(Json::List(words))
+    words.done()
+}
+
+fn copy_added(
+    alloc: Global,
+    table: &mut DescTable,
+    definition: &Definition,
+) -> Result<Json, CaseError> {
+    added(alloc, table, definition.copy(alloc)?)
 }
 
 fn added(alloc: Global, table: &mut DescTable, definition: Definition) -> Result<Json, CaseError> {
@@ -44,15 +54,15 @@ fn added(alloc: Global, table: &mut DescTable, definition: Definition) -> Result
         desc,
     } = definition;
     match table.add_described(name.as_str(), description, desc) {
-        Ok(Added::New) => Ok(word(alloc, "new")?),
-        Ok(Added::Same) => Ok(word(alloc, "same")?),
+        Ok(Added::New) => say(alloc, "new"),
+        Ok(Added::Same) => say(alloc, "same"),
         Err(error) => not_added(alloc, error),
     }
 }
 
 fn not_added(alloc: Global, error: AddError) -> Result<Json, CaseError> {
     match error {
-        AddError::Clash(name) => Ok(form(alloc, "clash", Json::Text(name))?),
+        AddError::Clash(name) => labelled(alloc, "clash", text_told(Ok(name))),
         AddError::OutOfMemory => Err(CaseError::OutOfMemory),
     }
 }
@@ -65,18 +75,18 @@ pub fn add_together(alloc: Global, case: &Json) -> Result<Json, CaseError> {
 }
 
 fn batches_told(alloc: Global, table: &mut DescTable, batches: &[Json]) -> Result<Json, CaseError> {
-    let mut answers = List::new(alloc);
+    let mut answers = Row::new(alloc);
     for batch in batches {
-        answers.push(batch_told(alloc, table, batch)?)?;
-        answers.push(Json::Int(table.len() as i128))?;
+        answers.push(batch_told(alloc, table, batch));
+        answers.push::<CaseError>(Ok(Json::Int(table.len() as i128)));
     }
-    Ok(Json::List(answers))
+    answers.done()
 }
 
 fn batch_told(alloc: Global, table: &mut DescTable, batch: &Json) -> Result<Json, CaseError> {
     let definitions = definitions_of(alloc, batch)?;
     match add_all(alloc, table, definitions.as_slice()) {
-        Ok(()) => Ok(word(alloc, "added")?),
+        Ok(()) => say(alloc, "added"),
         Err(error) => not_added(alloc, error),
     }
 }
@@ -84,7 +94,16 @@ fn batch_told(alloc: Global, table: &mut DescTable, batch: &Json) -> Result<Json
 fn definitions_of(alloc: Global, noted: &Json) -> Result<List<Definition>, CaseError> {
     let mut definitions = List::new(alloc);
     for noted in items_of(noted)? {
-        definitions.push(definition_of(alloc, noted)?)?;
+        add_definition(alloc, noted, &mut definitions)?;
     }
     Ok(definitions)
+}
+
+fn add_definition(
+    alloc: Global,
+    noted: &Json,
+    definitions: &mut List<Definition>,
+) -> Result<(), CaseError> {
+    definitions.push(definition_of(alloc, noted)?)?;
+    Ok(())
 }

@@ -2,10 +2,12 @@
 ghost use Rattle.api_types.specs.Types.{IsTableOf};
 
 use api_types::{AnyValue, ApiType, Flaw, TypeError, table_of};
-use case_notation::{CaseError, form, given, put, text_of, tree_noted};
+use case_notation::{
+    CaseError, Record, given, labelled, string_told, text_of, text_told, tree_noted,
+};
 use own_types::{Color, Folder, Label, Pin, Point, Span};
-use schema_values::{Json, List, Member, Text};
-use std::alloc::{AllocError, Global};
+use schema_values::{Json, List, Text};
+use std::alloc::Global;
 use std::collections::BTreeMap;
 use type_wire::{json_value, value_json};
 use typed_values::{DecodeError, DescTable, Fault};
@@ -65,39 +67,36 @@ fn value_told<T: ApiType>(alloc: Global, table: &DescTable, json: &Json) -> Resu
 fn tree_and_json<T: ApiType>(alloc: Global, table: &DescTable, value: &T) -> Result<Json, CaseError>
     requires { IsTableOf T.definitions_of T.desc_of table.now }
 {
-    let mut told = name_told::<T>(alloc)?;
-    put(alloc, &mut told, "tree", tree_told(alloc, value)?)?;
-    put(alloc, &mut told, "json", value_json(alloc, table, value)?)?;
-    Ok(Json::Object(told))
+    name_told::<T>(alloc)
+        .put("tree", tree_told(alloc, value))
+        .put("json", value_json(alloc, table, value))
+        .done()
 }
 
-fn name_told<T: ApiType>(alloc: Global) -> Result<List<Member>, CaseError> {
-    let name = T::type_name(alloc)?;
-    let mut told = List::new(alloc);
-    put(alloc, &mut told, "name", Json::Text(name))?;
-    Ok(told)
+fn name_told<T: ApiType>(alloc: Global) -> Record {
+    Record::new(alloc).put("name", text_told(T::type_name(alloc)))
 }
 
-fn tree_told<T: ApiType>(alloc: Global, value: &T) -> Result<Json, AllocError> {
+fn tree_told<T: ApiType>(alloc: Global, value: &T) -> Result<Json, CaseError> {
     tree_noted(alloc, &value.to_tree(alloc)?)
 }
 
 fn fault_told<T: ApiType>(alloc: Global, fault: &Fault) -> Result<Json, CaseError> {
-    let mut told = name_told::<T>(alloc)?;
-    put(alloc, &mut told, "fault", Json::Text(fault.text(alloc)?))?;
-    Ok(Json::Object(told))
+    name_told::<T>(alloc)
+        .put("fault", text_told(fault.text(alloc)))
+        .done()
 }
 
 /// Why a type has no table.
 fn no_table(alloc: Global, error: TypeError) -> Result<Json, CaseError> {
     match error {
-        TypeError::Clash(name) => Ok(form(alloc, "clash", Json::Text(name))?),
-        TypeError::Table(flaw) => Ok(form(alloc, "table", flaw_told(alloc, &flaw)?)?),
-        TypeError::Descriptor(flaw) => Ok(form(alloc, "desc", flaw_told(alloc, &flaw)?)?),
+        TypeError::Clash(name) => labelled(alloc, "clash", text_told(Ok(name))),
+        TypeError::Table(flaw) => labelled(alloc, "table", flaw_told(alloc, &flaw)),
+        TypeError::Descriptor(flaw) => labelled(alloc, "desc", flaw_told(alloc, &flaw)),
         TypeError::OutOfMemory => Err(CaseError::OutOfMemory),
     }
 }
 
-fn flaw_told(alloc: Global, flaw: &Flaw) -> Result<Json, AllocError> {
-    Ok(Json::Text(Text::from_string(format!(in alloc; "{flaw:?}")?)))
+fn flaw_told(alloc: Global, flaw: &Flaw) -> Result<Json, CaseError> {
+    string_told(format!(in alloc; "{flaw:?}"))
 }

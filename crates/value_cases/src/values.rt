@@ -4,7 +4,8 @@ ghost use Rattle.typed_values.specs.Checks.{TablePasses, DescPasses};
 use crate::case::value_of;
 use crate::refusals::told;
 use case_notation::{
-    CaseError, Scope, checked_table, form, given, noted_desc, scope_of, tree_noted, tree_of, word,
+    CaseError, Scope, checked_table, given, labelled, noted_desc, say, scope_of, text_told,
+    tree_noted, tree_of,
 };
 use schema_values::Json;
 use std::alloc::Global;
@@ -21,7 +22,7 @@ fn desc_told_in(alloc: Global, table: &DescTable, case: &Json) -> Result<Json, C
     requires { TablePasses table.now }
 {
     let desc = noted_desc(alloc, case)?;
-    Ok(told(alloc, check_desc(table, &desc))?)
+    told(alloc, check_desc(table, &desc))
 }
 
 /// The tree that the value of a case denotes, as its copy is noted, or the fault that is told.
@@ -33,8 +34,7 @@ pub fn decode(alloc: Global, case: &Json) -> Result<Json, CaseError> {
 }
 
 fn no_json(alloc: Global) -> Result<Json, CaseError> {
-    let text = FaultKind::NotJson.text(alloc)?;
-    Ok(form(alloc, "fault", Json::Text(text))?)
+    labelled(alloc, "fault", text_told(FaultKind::NotJson.text(alloc)))
 }
 
 fn tree_told(alloc: Global, scope: &Scope, json: &Json) -> Result<Json, CaseError>
@@ -53,7 +53,7 @@ pub fn decoded_told(alloc: Global, answer: Result<Tree, DecodeError>) -> Result<
 }
 
 fn noted(alloc: Global, tree: &Tree) -> Result<Json, CaseError> {
-    Ok(form(alloc, "tree", tree_noted(alloc, tree)?)?)
+    labelled(alloc, "tree", tree_noted(alloc, tree))
 }
 
 fn refused(alloc: Global, error: DecodeError) -> Result<Json, CaseError> {
@@ -64,7 +64,7 @@ fn refused(alloc: Global, error: DecodeError) -> Result<Json, CaseError> {
 }
 
 fn fault_told(alloc: Global, fault: &Fault) -> Result<Json, CaseError> {
-    Ok(form(alloc, "fault", Json::Text(fault.text(alloc)?))?)
+    labelled(alloc, "fault", text_told(fault.text(alloc)))
 }
 
 /// What a copy of the tree of the value of a case is written as, or the fault that is told.
@@ -102,9 +102,12 @@ fn written(alloc: Global, scope: &Scope, tree: &Tree) -> Result<Json, CaseError>
     requires desc { DescPasses scope.now.table scope.now.desc }
 {
     if fits(&scope.table, &scope.desc, tree) {
-        let json = encode_json(alloc, &scope.table, &scope.desc, tree)?;
-        Ok(form(alloc, "json", json)?)
+        labelled(
+            alloc,
+            "json",
+            encode_json(alloc, &scope.table, &scope.desc, tree),
+        )
     } else {
-        Ok(word(alloc, "no fit")?)
+        say(alloc, "no fit")
     }
 }
