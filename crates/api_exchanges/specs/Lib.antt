@@ -1,0 +1,5 @@
+pub mod Exchanges
+pub mod BodyReads
+pub mod Answering
+pub mod Denoting
+pub mod SourceExchanges
