@@ -1,0 +1,3 @@
+mod Registered
+mod Fronts
+mod Followed

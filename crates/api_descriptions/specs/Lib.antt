@@ -1,0 +1,5 @@
+pub mod Refusals
+pub mod Ready
+pub mod Information
+pub mod Written
+pub mod Agreement

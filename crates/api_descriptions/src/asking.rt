@@ -1,0 +1,121 @@
+//! What comes of a request to an API.
+ghost use Rattle.std.specs.Prelude.{◌≡◌, ◌⊎◌, ◌+◌, ◌-◌, ◌^◌, ◌<◌, [], IsErrAnd, Some};
+ghost use Rattle.http_bodies.specs.Bodies.{frames_of, never_failing, state_of};
+ghost use Rattle.http_bodies.specs.Sources.{GoesOn, HasFailed};
+ghost use Rattle.body_reading.specs.Whole.{TakesAtMost};
+ghost use Rattle.api_endpoints.specs.Endpoints.{boxed};
+ghost use Rattle.api_exchanges.specs.BodyReads.{ReadsBodyFor};
+ghost use Rattle.api_exchanges.specs.Denoting.{IsFault, IsHandledAsDenoted, IsHandledOrRefused};
+ghost use Rattle.api_exchanges.specs.Denoting.{IsOutcomeCutShort, WasHandled};
+ghost use Rattle.api_exchanges.specs.Exchanges.{Answers, TakesBody, asked, called};
+ghost use Rattle.api_exchanges.specs.SourceExchanges.{AnswersFrom, StreamsBody};
+ghost use Rattle.api_descriptions.specs.Ready.{IsReady};
+
+use crate::description::ApiDescription;
+use api_exchanges::{Exchange, ExchangeError, exchange, exchange_from};
+use api_respond::RouteHandler;
+use http_bodies::{Body, FrameSource};
+use request_parts::{RequestParts, ServerConfig};
+use std::alloc::Global;
+use tree_store::Store;
+
+impl ApiDescription {
+    /// Answers a request with this body, from the store and into it.
+    ///
+    /// A typed or raw body is read whole: at most as many bytes as the endpoint's limit, or the server's, in at most
+    /// `budget` frames. A handler that takes a stream gets the very body, unread, and an empty one is left.
+    pub fn exchange(
+        &self,
+        alloc: Global,
+        store: &mut Store,
+        request: &RequestParts,
+        body: &mut Body,
+        budget: u64,
+        config: &ServerConfig,
+    ) -> Result<Exchange, ExchangeError>
+        requires ready { IsReady (boxed ⟦<dyn RouteHandler as RouteHandler>⟧) self.now }
+        requires budget { budget < 2 ^ 64 - 1 }
+
+        // What the outcome says of the request, of what it denotes, of the reply and of the store.
+        ensures answers { Answers (boxed ⟦<dyn RouteHandler as RouteHandler>⟧) self.now.endpoints.items
+            (asked (called config.now request.now store.old) body.old budget) result store.new }
+
+        // Whatever endpoint it names, a valid request is handled exactly where it denotes arguments, unless memory
+        // ran out or a call on the body failed.
+        ensures handled { IsHandledAsDenoted (boxed ⟦<dyn RouteHandler as RouteHandler>⟧)
+            self.now.endpoints.items (asked (called config.now request.now store.old) body.old budget) result }
+
+        // It is handled or refused, but for the same.
+        ensures told { IsHandledOrRefused (boxed ⟦<dyn RouteHandler as RouteHandler>⟧)
+            self.now.endpoints.items (asked (called config.now request.now store.old) body.old budget) result }
+
+        // A fault comes only where the count of faults rose. A count that rose is told as that fault, but where
+        // memory ran out, or where the body went into a stream.
+        ensures fault { IsErrAnd result IsFault → HasFailed (state_of body.old) (state_of body.new) }
+        ensures counts { ¬ IsOutcomeCutShort result
+            → StreamsBody (boxed ⟦<dyn RouteHandler as RouteHandler>⟧) self.now.endpoints.items request.now
+            ⊎ ((state_of body.new).faults ≡ (state_of body.old).faults) }
+
+        // The body is touched only where a slot asks for it, behind slots that are given their arguments. At most
+        // one frame more than the budget is taken, but where a stream takes it whole.
+        ensures untouched { ¬ TakesBody (boxed ⟦<dyn RouteHandler as RouteHandler>⟧)
+            self.now.endpoints.items request.now → body.new ≡ body.old }
+        ensures most { StreamsBody (boxed ⟦<dyn RouteHandler as RouteHandler>⟧) self.now.endpoints.items request.now
+            × (body.new ≡ never_failing []) ⊎ TakesAtMost (budget + 1)
+            (Some (frames_of body.old)) (Some (frames_of body.new)) }
+        ensures moved { WasHandled result
+            → StreamsBody (boxed ⟦<dyn RouteHandler as RouteHandler>⟧) self.now.endpoints.items request.now
+            → body.new ≡ never_failing [] }
+
+        // A body that a slot reads was read to its end where the request was handled or refused; behind a size and
+        // a number of frames the rest was thrown away within the budget.
+        ensures read { ReadsBodyFor (boxed ⟦<dyn RouteHandler as RouteHandler>⟧) self.now.endpoints.items
+            (called config.now request.now store.old) budget
+            (Some (frames_of body.old)) (Some (frames_of body.new)) result }
+    {
+        let (endpoints, index) = (self.endpoints.as_slice(), self.index.templates());
+        exchange(
+            alloc, endpoints, index, store, request, body, budget, config,
+        )
+    }
+
+    /// Answers a request whose body comes of a source of one's own, as `exchange` does. A handler that takes a
+    /// stream gets the frames of the source, gathered in memory: at most one more than the budget, with a call that
+    /// failed at its place. The clauses speak of the frames of a source that tells what is left of it; of one that
+    /// does not, the body is any that fits the answer.
+    pub fn exchange_from<S: FrameSource>(
+        &self,
+        alloc: Global,
+        store: &mut Store,
+        request: &RequestParts,
+        source: &mut S,
+        budget: u64,
+        config: &ServerConfig,
+    ) -> Result<Exchange, ExchangeError>
+        requires ready { IsReady (boxed ⟦<dyn RouteHandler as RouteHandler>⟧) self.now }
+        requires budget { budget < 2 ^ 64 - 1 }
+
+        // What the outcome says, with the frames that came as the body.
+        ensures answers { AnswersFrom (boxed ⟦<dyn RouteHandler as RouteHandler>⟧) self.now.endpoints.items
+            (called config.now request.now store.old) budget
+            (S.state source.old) (S.state source.new) result store.new }
+        ensures fault { IsErrAnd result IsFault → HasFailed (S.state source.old) (S.state source.new) }
+        ensures counts { ¬ IsOutcomeCutShort result
+            → StreamsBody (boxed ⟦<dyn RouteHandler as RouteHandler>⟧) self.now.endpoints.items request.now
+            ⊎ ((S.state source.new).faults ≡ (S.state source.old).faults) }
+        ensures untouched { ¬ TakesBody (boxed ⟦<dyn RouteHandler as RouteHandler>⟧)
+            self.now.endpoints.items request.now → source.new ≡ source.old }
+
+        // A source that a slot reads was read to its end where the request was handled or refused, as it tells its
+        // frames.
+        ensures read { ReadsBodyFor (boxed ⟦<dyn RouteHandler as RouteHandler>⟧) self.now.endpoints.items
+            (called config.now request.now store.old) budget
+            (S.state source.old).left (S.state source.new).left result }
+        ensures goes_on { GoesOn (S.state source.old) (S.state source.new) }
+    {
+        let (endpoints, index) = (self.endpoints.as_slice(), self.index.templates());
+        exchange_from(
+            alloc, endpoints, index, store, request, source, budget, config,
+        )
+    }
+}
