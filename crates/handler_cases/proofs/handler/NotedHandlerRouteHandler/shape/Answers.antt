@@ -1,0 +1,5 @@
+use Rattle.handler_cases.proofs.CodelessShapes.{codeless}
+use Rattle.handler_cases.proofs.handler.NotedHandlerRouteHandler.shape.Goals as goal
+
+pub returns-clause-codeless : goal.returns-clause-codeless
+returns-clause-codeless c = codeless c.args.self.now.shape.now c.args.self.now.codeless

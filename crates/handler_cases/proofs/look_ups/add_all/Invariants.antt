@@ -1,0 +1,8 @@
+use Rattle.std.proofs.Common.{map}
+use Rattle.api_registration.specs.EndpointIndexes.{IsIndexed}
+use Rattle.endpoint_notation.specs.contracts.endpoint.PlainEndpointDeclared.TheImpl.{declared-value}
+use Rattle.handler_cases.proofs.look_ups.add_all.Given as goal
+
+-- the index is that of the endpoints so far
+abbrev pub invariant-loop-one : goal.invariant-loop-one
+invariant-loop-one l = IsIndexed (map declared-value.it l.endpoints) l.index

@@ -1,0 +1,85 @@
+//! How handlers of cases tell errors.
+ghost use Rattle.std.specs.Prelude.{IfOk, IsTrue};
+ghost use Rattle.typed_values.specs.Checks.{TablePasses};
+ghost use Rattle.handler_shapes.specs.ShapeChecks.{ErrorPasses, ShapePasses};
+ghost use Rattle.api_respond.specs.Replies.{ErrorFits, OwnFits};
+
+use crate::problem::Problem;
+use api_respond::ErrorReply;
+use api_types::ApiType;
+use handler_shapes::{ApiEndpointErrorResponse, HandlerShape, shape_passes};
+use http_status::HttpError;
+use schema_values::Text;
+use std::alloc::{AllocError, Global};
+use typed_values::{DescTable, Tree, fits};
+
+/// The reply that tells an error: one of the library where the shape names no error, else a problem.
+/// A problem that is not of the shape is want of memory.
+pub fn told_as(
+    alloc: Global,
+    shape: &HandlerShape,
+    error: HttpError,
+) -> Result<ErrorReply, AllocError>
+    ensures { IfOk result (λ reply. ErrorFits shape.now reply) }
+{
+    match &shape.error {
+        None => Ok(ErrorReply::Http(error)),
+        Some(_) => checked_problem(alloc, shape, error),
+    }
+}
+
+fn checked_problem(
+    alloc: Global,
+    shape: &HandlerShape,
+    error: HttpError,
+) -> Result<ErrorReply, AllocError>
+    ensures { IfOk result (λ reply. ErrorFits shape.now reply) }
+{
+    if !shape_passes(shape) {
+        return Err(AllocError);
+    }
+    problem_reply(alloc, shape, error)
+}
+
+fn problem_reply(
+    alloc: Global,
+    shape: &HandlerShape,
+    error: HttpError,
+) -> Result<ErrorReply, AllocError>
+    requires { ShapePasses shape.now }
+    ensures { IfOk result (λ reply. ErrorFits shape.now reply) }
+{
+    let HttpError {
+        status_code: status,
+        error_code,
+        external_message,
+        internal_message: message,
+        headers,
+    } = error;
+    drop(error_code);
+    drop(headers);
+    let body = problem_tree(alloc, status.as_u16(), external_message)?;
+    if !own_fits(&shape.table, &shape.error, &body) {
+        return Err(AllocError);
+    }
+    Ok(ErrorReply::Own {
+        status,
+        body,
+        message,
+    })
+}
+
+fn problem_tree(alloc: Global, status: u16, problem: Text) -> Result<Tree, AllocError> {
+    Problem { status, problem }.to_tree(alloc)
+}
+
+fn own_fits(table: &DescTable, error: &Option<ApiEndpointErrorResponse>, body: &Tree) -> bool
+    requires table { TablePasses table.now }
+    requires error { ErrorPasses table.now error.now }
+    ensures { IsTrue result → OwnFits table.now error.now body.now }
+{
+    match error {
+        Some(error) => fits(table, &error.desc, body),
+        None => false,
+    }
+}
