@@ -92,9 +92,10 @@ impl OpenApiDefinition<'_> {
             ≡ record self.old { info = with_license_name (chars name.now) self.old.info }) }
         ensures err { OnErr result (self.new ≡ self.old) }
     {
-        let name = Text::from_str(self.alloc, name)?;
-        let license = taken_license(&mut self.info, name);
-        self.info.license = Some(license);
+        if self.info.license.is_none() {
+            let name = Text::from_str(self.alloc, name)?;
+            self.info.license = Some(License { name, url: None });
+        }
         Ok(())
     }
 }

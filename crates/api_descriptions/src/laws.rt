@@ -11,6 +11,7 @@ ghost use Rattle.api_documents.specs.Listed.{listed};
 ghost use Rattle.api_documents.specs.Lists.{IsListed, Lists, ListsWritten};
 ghost use Rattle.api_descriptions.specs.Agreement.{FollowsDocument};
 ghost use Rattle.api_endpoints.specs.Endpoints.{boxed, declarations_of};
+ghost use Rattle.api_exchanges.specs.Denoting.{IsHandledAsDenoted, IsHandledOrRefused};
 ghost use Rattle.api_exchanges.specs.Exchanges.{Answers, Asked};
 ghost use Rattle.api_descriptions.specs.Ready.{IsReady};
 ghost use Rattle.api_descriptions.specs.Written.{document_at};
@@ -55,10 +56,20 @@ impl ApiDescription {
             (outcome : Result ExchangeValue ErrorValue) (after : Tables)
             → Answers (boxed ⟦<dyn RouteHandler as RouteHandler>⟧)
             self.now.endpoints.items asked outcome after
-            → FollowsDocument (document_at (boxed ⟦<dyn RouteHandler as RouteHandler>⟧)
-            self.now.tags self.now.endpoints.items info version) version
-            (declarations_of (boxed ⟦<dyn RouteHandler as RouteHandler>⟧) self.now.endpoints.items)
-            asked outcome }
+            → FollowsDocument (boxed ⟦<dyn RouteHandler as RouteHandler>⟧) self.now.endpoints.items
+            (document_at (boxed ⟦<dyn RouteHandler as RouteHandler>⟧)
+            self.now.tags self.now.endpoints.items info version) version asked outcome after }
+        // And of whatever endpoint a valid request names, a hidden one or with a page token too.
+        ensures denoted { (asked : Asked) (outcome : Result ExchangeValue ErrorValue) (after : Tables)
+            → Answers (boxed ⟦<dyn RouteHandler as RouteHandler>⟧)
+            self.now.endpoints.items asked outcome after
+            → IsHandledAsDenoted (boxed ⟦<dyn RouteHandler as RouteHandler>⟧)
+            self.now.endpoints.items asked outcome }
+        ensures told { (asked : Asked) (outcome : Result ExchangeValue ErrorValue) (after : Tables)
+            → Answers (boxed ⟦<dyn RouteHandler as RouteHandler>⟧)
+            self.now.endpoints.items asked outcome after
+            → IsHandledOrRefused (boxed ⟦<dyn RouteHandler as RouteHandler>⟧)
+            self.now.endpoints.items asked outcome }
     {
         accepted_are_listed();
         accepted_may_be_listed();

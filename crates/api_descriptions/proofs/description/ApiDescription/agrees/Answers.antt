@@ -1,4 +1,5 @@
 use Rattle.api_endpoints.specs.Endpoints.{declarations_of}
+use Rattle.api_exchanges.proofs.CallerLemmas.{handled_as_denoted, handled_or_refused}
 use Rattle.api_descriptions.specs.Written.{document_at}
 use Rattle.api_descriptions.proofs.Followed.{follows}
 use Rattle.api_descriptions.proofs.Registered.{registered_serve}
@@ -43,3 +44,16 @@ returns-clause-followed g c = λ info version asked outcome after answers.
     (registered_serve (λ e. goal.RouteHandler-dyn g (e.handler.vtable, e.handler.value)) c.args.self.now.endpoints.items
     c.requires.ready.registered)
     outcome after answers
+
+pub returns-clause-denoted : goal.returns-clause-denoted
+returns-clause-denoted g c = λ asked outcome after answers e named valid whole.
+    handled_as_denoted (λ e. goal.RouteHandler-dyn g (e.handler.vtable, e.handler.value)) c.args.self.now.endpoints.items
+    asked c.answers_have_causes.ensures
+    (registered_serve (λ e. goal.RouteHandler-dyn g (e.handler.vtable, e.handler.value)) c.args.self.now.endpoints.items
+    c.requires.ready.registered)
+    outcome after answers e named valid whole
+
+pub returns-clause-told : goal.returns-clause-told
+returns-clause-told g c = λ asked outcome after answers e named valid whole.
+    handled_or_refused (λ e. goal.RouteHandler-dyn g (e.handler.vtable, e.handler.value)) c.args.self.now.endpoints.items
+    asked outcome after answers e named valid whole
