@@ -1,7 +1,6 @@
 //! How the case programs note descriptors, trees and values, and how they answer lines.
 #![tactic(auto)]
 
-mod answers;
 mod descs;
 mod error;
 mod flaws;
@@ -16,14 +15,16 @@ mod told;
 mod trees;
 mod written_trees;
 
-pub use answers::{form, pair, put, word};
 pub use descs::{desc_of, read_desc};
 pub use error::CaseError;
 pub use flaws::flaw;
 pub use lines::{AnswersCases, run};
 pub use made::made_of;
 pub use maps::{map_of, read_variable, texts_of};
-pub use parts::{check_names, given, items_of, maybe_text, number_of, text_of, truth_of};
+pub use parts::{
+    check_names, given, given_items, given_number, given_text, items_of, maybe_text, number_of,
+    text_of, truth_of,
+};
 pub use reader::Reader;
 pub use scope::{Scope, checked_table, noted_desc, scope_of};
 pub use tables::{define, definition_of, table_of};

@@ -5,7 +5,7 @@
 //! that is `like` an earlier one has that one's members too, but for those that it has itself. It is
 //! answered by its name, a colon and the answer as compact JSON.
 use crate::error::CaseError;
-use crate::parts::{check_names, given, members_of, text_of};
+use crate::parts::{check_names, given_text, members_of, text_of};
 use crate::told::Record;
 use schema_values::{Json, List, Member, Text};
 use std::alloc::{AllocError, Global};
@@ -86,7 +86,7 @@ impl Cases {
     }
 
     fn check_new(&self, case: &Json) -> Result<(), CaseError> {
-        match self.named(text_of(given(case, "case")?)?) {
+        match self.named(given_text(case, "case")?) {
             None => Ok(()),
             Some(_) => Err(CaseError::Expected("a new name")),
         }
@@ -142,7 +142,7 @@ fn add_missing(alloc: Global, joined: &mut Record, others: &[Member], case: &Jso
 }
 
 fn answered<P: AnswersCases>(alloc: Global, program: &P, case: &Json) -> Result<Text, CaseError> {
-    let name = text_of(given(case, "case")?)?;
+    let name = given_text(case, "case")?;
     let answer = program.answer(alloc, case)?;
     reply_of(alloc, name, &answer)
 }

@@ -9,7 +9,7 @@ use crate::path_params::path_params_told;
 use crate::streams::next_data_told;
 use crate::tag_settings::settings_told;
 use crate::templates::{same_shape, template_told, variables_match};
-use case_notation::{AnswersCases, CaseError, given, text_of};
+use case_notation::{AnswersCases, CaseError, given_text};
 use schema_values::Json;
 use std::alloc::Global;
 
@@ -55,7 +55,7 @@ impl AnswersCases for DeclarationCases {
     }
 
     fn answer(&self, alloc: Global, case: &Json) -> Result<Json, CaseError> {
-        match text_of(given(case, "call")?)?.as_str() {
+        match given_text(case, "call")?.as_str() {
             "media_kind" => media_kind(alloc, case),
             "extract" => extracted(alloc, case),
             "next_data" => next_data_told(alloc, case),

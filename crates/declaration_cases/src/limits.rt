@@ -2,7 +2,7 @@
 //! endpoint, where null is none, `"limit"` what the client asks for; `"greatest"` and `"default"`
 //! are the server's.
 use api_respond::{RequestContext, RequestEndpointMetadata};
-use case_notation::{CaseError, given, number_of};
+use case_notation::{CaseError, given, given_number};
 use endpoint_notation::{info_of, number_or, request_id_of, u64_of};
 use request_parts::{ApiEndpointBodyContentType, ServerConfig};
 use schema_values::{Json, Text};
@@ -14,12 +14,12 @@ use std::num::NonZeroU32;
 pub fn page_limit(alloc: Global, case: &Json) -> Result<Json, CaseError> {
     let limit = match given(case, "limit")? {
         Json::Null => None,
-        limit => Some(items_of(limit)?),
+        _ => Some(items_at(case, "limit")?),
     };
     let config = ServerConfig {
         default_request_body_max_bytes: 0,
-        page_max_nitems: items_of(given(case, "greatest")?)?,
-        page_default_nitems: items_of(given(case, "default")?)?,
+        page_max_nitems: items_at(case, "greatest")?,
+        page_default_nitems: items_at(case, "default")?,
     };
     let limit = context_of(alloc, config, None)?.page_limit(limit);
     Ok(Json::Int(limit.get().into()))
@@ -40,8 +40,8 @@ pub fn body_limit(alloc: Global, case: &Json) -> Result<Json, CaseError> {
     Ok(Json::Int(limit.into()))
 }
 
-fn items_of(noted: &Json) -> Result<NonZeroU32, CaseError> {
-    match u32::try_from(number_of(noted)?) {
+fn items_at(case: &Json, name: &'static str) -> Result<NonZeroU32, CaseError> {
+    match u32::try_from(given_number(case, name)?) {
         Ok(number) => NonZeroU32::new(number).ok_or(CaseError::Expected("a number of items")),
         Err(_) => Err(CaseError::Expected("a number of items")),
     }

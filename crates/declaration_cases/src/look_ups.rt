@@ -1,6 +1,6 @@
 //! Which endpoint serves a template and a method at a version.
 use api_declarations::endpoint_for;
-use case_notation::{CaseError, given, say, text_of};
+use case_notation::{CaseError, given_text, say};
 use endpoint_notation::{PlainEndpoint, endpoints_at, method_at, version_at};
 use schema_values::Json;
 use std::alloc::Global;
@@ -12,7 +12,7 @@ pub fn found(alloc: Global, case: &Json) -> Result<Json, CaseError> {
 }
 
 fn found_among(alloc: Global, case: &Json, endpoints: &[PlainEndpoint]) -> Result<Json, CaseError> {
-    let template = text_of(given(case, "template")?)?;
+    let template = given_text(case, "template")?;
     let version = version_at(alloc, case)?;
     let method = method_at(alloc, case, "GET")?;
     name_told(alloc, endpoint_for(endpoints, &version, &method, template))

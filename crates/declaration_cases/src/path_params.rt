@@ -5,7 +5,7 @@ ghost use Rattle.api_types.specs.Heads.{required, struct_of};
 
 use api_extract::http_extract_path_params;
 use api_types::{ApiStruct, ApiType, StructHead, table_of};
-use case_notation::{CaseError, Record, given, labelled, text_of, tree_noted};
+use case_notation::{CaseError, Record, given_text, labelled, tree_noted};
 use endpoint_notation::variables_at;
 use http_status::{HttpError, HttpRefusal};
 use schema_values::{Json, List, Text};
@@ -14,7 +14,7 @@ use typed_values::Tree;
 
 /// The tree of the value that the variables of a case have under its type, or the refusal.
 pub fn path_params_told(alloc: Global, case: &Json) -> Result<Json, CaseError> {
-    match text_of(given(case, "type")?)?.as_str() {
+    match given_text(case, "type")?.as_str() {
         "Labelled" => told::<Labelled>(alloc, case),
         "Rest" => told::<Rest>(alloc, case),
         _ => Err(CaseError::Expected("the name of a type")),

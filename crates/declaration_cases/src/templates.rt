@@ -1,5 +1,5 @@
 //! Calls on the templates of paths.
-use case_notation::{CaseError, Row, given, labelled, say, text_of};
+use case_notation::{CaseError, Row, given_text, labelled, say};
 use endpoint_notation::variables_at;
 use path_templates::{PathSegment, Template};
 use schema_values::{Json, Text};
@@ -7,7 +7,7 @@ use std::alloc::Global;
 
 /// The segments of the template of the path of a case, or that it is none.
 pub fn template_told(alloc: Global, case: &Json) -> Result<Json, CaseError> {
-    match Template::parse(alloc, text_of(given(case, "path")?)?)? {
+    match Template::parse(alloc, given_text(case, "path")?)? {
         Some(template) => segments_told(alloc, &template),
         None => say(alloc, "no template"),
     }
@@ -44,7 +44,7 @@ fn shape_at(alloc: Global, case: &Json, name: &'static str) -> Result<Text, Case
 }
 
 fn template_at(alloc: Global, case: &Json, name: &'static str) -> Result<Template, CaseError> {
-    Template::parse(alloc, text_of(given(case, name)?)?)?.ok_or(CaseError::Expected("a template"))
+    Template::parse(alloc, given_text(case, name)?)?.ok_or(CaseError::Expected("a template"))
 }
 
 /// Whether the variables of a case are those of the template of its path.

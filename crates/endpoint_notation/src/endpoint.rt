@@ -178,18 +178,26 @@ fn versions_between(
     first: Option<Version>,
     end: Option<Version>,
 ) -> Result<ApiEndpointVersions, CaseError> {
-    match (first, end) {
-        (None, None) => Ok(ApiEndpointVersions::all()),
-        (Some(first), None) => Ok(ApiEndpointVersions::from(first)),
-        (None, Some(end)) => Ok(ApiEndpointVersions::until(end)),
-        (Some(first), Some(end)) => versions_from_until(first, end),
+    match first {
+        Some(first) => versions_from(first, end),
+        None => Ok(versions_until(end)),
     }
 }
 
-fn versions_from_until(first: Version, end: Version) -> Result<ApiEndpointVersions, CaseError> {
-    ApiEndpointVersions::from_until(first, end)
-        .ok()
-        .ok_or(CaseError::Expected("versions in order"))
+fn versions_from(first: Version, end: Option<Version>) -> Result<ApiEndpointVersions, CaseError> {
+    match end {
+        Some(end) => ApiEndpointVersions::from_until(first, end)
+            .ok()
+            .ok_or(CaseError::Expected("versions in order")),
+        None => Ok(ApiEndpointVersions::from(first)),
+    }
+}
+
+fn versions_until(end: Option<Version>) -> ApiEndpointVersions {
+    match end {
+        Some(end) => ApiEndpointVersions::until(end),
+        None => ApiEndpointVersions::all(),
+    }
 }
 
 fn version_or_none(alloc: Global, noted: &Json) -> Result<Option<Version>, CaseError> {

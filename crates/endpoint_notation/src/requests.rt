@@ -3,7 +3,7 @@
 //! may be left out. A frame is a text, `{"hex":DIGITS}` or `{"trailers":LINES}`; `"failing"` are
 //! the numbers of the calls on the body that fail.
 use crate::members::{items_at, read_text_or, text_or, u64_of};
-use case_notation::{CaseError, Reader, check_names, given, items_of, read_variable, text_of};
+use case_notation::{CaseError, Reader, check_names, given, given_text, items_of, read_variable};
 use header_lists::HeaderList;
 use hex::FromHexError;
 use http::Method;
@@ -133,13 +133,13 @@ fn read_variables(reader: &mut Reader, noted: &Json) -> VariableSet {
 pub fn lines_of(alloc: Global, noted: &[Json]) -> Result<HeaderList, CaseError> {
     let mut lines = HeaderList::new(alloc);
     for line in noted {
-        append(alloc, &mut lines, items_of(line)?)?;
+        append(alloc, &mut lines, line)?;
     }
     Ok(lines)
 }
 
-fn append(alloc: Global, lines: &mut HeaderList, line: &[Json]) -> Result<(), CaseError> {
-    let [Json::Text(name), Json::Text(value)] = line else {
+fn append(alloc: Global, lines: &mut HeaderList, line: &Json) -> Result<(), CaseError> {
+    let [Json::Text(name), Json::Text(value)] = items_of(line)? else {
         return Err(CaseError::Expected("a name and a value"));
     };
     let name = name_of(alloc, name)?;
@@ -211,7 +211,7 @@ pub fn content_of(alloc: Global, noted: &Json) -> Result<List<u8>, CaseError> {
         return Ok(List::from_bytes(alloc, text.as_bytes())?);
     }
     check_names(noted, &["hex"])?;
-    bytes_of(alloc, text_of(given(noted, "hex")?)?)
+    bytes_of(alloc, given_text(noted, "hex")?)
 }
 
 fn bytes_of(alloc: Global, digits: &Text) -> Result<List<u8>, CaseError> {

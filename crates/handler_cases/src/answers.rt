@@ -3,7 +3,7 @@ use crate::arguments::arguments_told;
 use crate::look_ups::found;
 use crate::metadata::metadata_told;
 use crate::replies::reply_told;
-use case_notation::{AnswersCases, CaseError, given, text_of};
+use case_notation::{AnswersCases, CaseError, given_text};
 use schema_values::Json;
 use std::alloc::Global;
 
@@ -40,7 +40,7 @@ impl AnswersCases for HandlerCases {
     }
 
     fn answer(&self, alloc: Global, case: &Json) -> Result<Json, CaseError> {
-        match text_of(given(case, "call")?)?.as_str() {
+        match given_text(case, "call")?.as_str() {
             "metadata" => metadata_told(alloc, case),
             "at" => found(alloc, case),
             "arguments" => arguments_told(alloc, case),

@@ -12,7 +12,7 @@ use crate::told::Told;
 use crate::types::LinePoint;
 use api_extract::{ExtractError, extract_from};
 use body_reading::StreamingBody;
-use case_notation::{CaseError, Record, check_names, given, text_of};
+use case_notation::{CaseError, Record, check_names, given_text};
 use endpoint_notation::{are_served, error_told, parts_of, reading_of};
 use handler_shapes::{ArgList, Slot};
 use own_types::{Color, Pin, Point, Span};
@@ -37,7 +37,7 @@ fn told_of(alloc: Global, case: &Json, content: &[u8]) -> Result<Json, CaseError
 }
 
 fn outcome_of(alloc: Global, case: &Json, source: &mut Pieces<'_>) -> Result<Record, CaseError> {
-    let types = text_of(given(case, "types")?)?;
+    let types = given_text(case, "types")?;
     let request = request_of(alloc, case)?;
     outcome_for(alloc, case, types.as_str(), &request, source)
 }

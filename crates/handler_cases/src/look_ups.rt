@@ -4,7 +4,7 @@ ghost use Rattle.api_registration.specs.EndpointIndexes.{IsIndexed};
 
 use api_declarations::{Declared, endpoint_at};
 use api_registration::EndpointIndex;
-use case_notation::{CaseError, given, say, text_of};
+use case_notation::{CaseError, given_text, say};
 use endpoint_notation::{
     PlainEndpoint, add_endpoint, endpoint_of, items_at, method_at, version_at,
 };
@@ -27,7 +27,7 @@ fn found_at(
     version: &Version,
     method: &Method,
 ) -> Result<Json, CaseError> {
-    let template = text_of(given(case, "template")?)?;
+    let template = given_text(case, "template")?;
     let noted = items_at(case, "endpoints")?;
     let mut endpoints = List::new(alloc);
     let mut index = EndpointIndex::new(alloc);

@@ -7,7 +7,7 @@
 //! "message":TEXT, "headers":LINES}`, of which the message alone has to stand.
 use crate::contexts::context_told;
 use api_respond::{Content, RequestContext, SuccessReply};
-use case_notation::{CaseError, check_names, given, maybe_text, text_of, tree_of};
+use case_notation::{CaseError, check_names, given, given_text, maybe_text, tree_of};
 use endpoint_notation::{content_of, items_at, lines_of, number_or};
 use handler_shapes::Arg;
 use http::StatusCode;
@@ -19,7 +19,7 @@ use typed_values::Tree;
 /// The error that a handler fails with.
 pub fn error_of(alloc: Global, noted: &Json) -> Result<HttpError, CaseError> {
     check_names(noted, &["status", "code", "message", "headers"])?;
-    let message = text_of(given(noted, "message")?)?;
+    let message = given_text(noted, "message")?;
     match error_status(number_or(noted, "status", 500)?) {
         Some(status) => error_with(alloc, status, message, noted),
         None => Err(CaseError::Expected("the status of an error")),

@@ -9,7 +9,7 @@ use crate::pages::{long_page_told, page_told};
 use crate::ranges::{matches_told, overlaps_told, request_version_told};
 use crate::reading::{gathered_told, stream_told, whole_told};
 use crate::tokens::{token_read, token_written};
-use case_notation::{AnswersCases, CaseError, given, text_of};
+use case_notation::{AnswersCases, CaseError, given_text};
 use schema_values::Json;
 use std::alloc::Global;
 
@@ -56,7 +56,7 @@ impl AnswersCases for HttpCases {
     }
 
     fn answer(&self, alloc: Global, case: &Json) -> Result<Json, CaseError> {
-        match text_of(given(case, "call")?)?.as_str() {
+        match given_text(case, "call")?.as_str() {
             "from_map" => map_read(alloc, case),
             "from_map_insensitive" => map_read_without_case(alloc, case),
             "to_map" => map_written(alloc, case),

@@ -2,9 +2,7 @@
 //! `"failing"`, the numbers of the calls that fail, where some do. A frame is a text, or
 //! `{"trailers": LINES}`.
 use crate::lines::{bytes_noted, lines_noted, lines_of};
-use case_notation::{
-    CaseError, Reader, Row, check_names, given, items_of, labelled, number_of, say, text_of,
-};
+use case_notation::{CaseError, Reader, Row, given, given_number, labelled, number_of, say};
 use http_status::{
     Body, DumpError, Frame, FrameError, HeaderList, MemoryFrames, SafeFrames, http_dump_body,
 };
@@ -13,8 +11,8 @@ use std::alloc::Global;
 
 /// What each of so many calls of the body of a case gives.
 pub fn body_told(alloc: Global, case: &Json) -> Result<Json, CaseError> {
-    let calls = number_of(given(case, "calls")?)?;
-    let mut body = body_of(alloc, given(case, "body")?)?;
+    let calls = given_number(case, "calls")?;
+    let mut body = body_at(alloc, case)?;
     frames_told(alloc, &mut body, calls)
 }
 
@@ -29,8 +27,8 @@ pub fn frames_told(alloc: Global, body: &mut Body, calls: i128) -> Result<Json, 
 
 /// What dropping the body of a case within the budget of the case tells.
 pub fn dump_told(alloc: Global, case: &Json) -> Result<Json, CaseError> {
-    let budget = count_of(given(case, "budget")?)?;
-    let mut body = body_of(alloc, given(case, "body")?)?;
+    let budget = count_at(case, "budget")?;
+    let mut body = body_at(alloc, case)?;
     dropped_told(alloc, &mut body, budget)
 }
 
@@ -43,9 +41,9 @@ fn dropped_told(alloc: Global, body: &mut Body, budget: u32) -> Result<Json, Cas
     }
 }
 
-/// A count of 32 bits.
-pub fn count_of(noted: &Json) -> Result<u32, CaseError> {
-    u32::try_from(number_of(noted)?)
+/// The count of 32 bits under a name.
+pub fn count_at(case: &Json, name: &'static str) -> Result<u32, CaseError> {
+    u32::try_from(given_number(case, name)?)
         .ok()
         .ok_or(CaseError::Expected("a count of 32 bits"))
 }
@@ -72,50 +70,61 @@ pub fn content_told(alloc: Global, content: &[u8]) -> Result<Json, CaseError> {
     labelled(alloc, "bytes", bytes_noted(alloc, content))
 }
 
-/// The body that is noted.
-pub fn body_of(alloc: Global, noted: &Json) -> Result<Body, CaseError> {
-    match noted {
-        Json::Text(word) if word.equals_str("empty") => Ok(Body::empty()),
-        noted => body_with(alloc, noted),
-    }
-}
-
-fn body_with(alloc: Global, noted: &Json) -> Result<Body, CaseError> {
-    check_names(noted, &["content", "frames", "failing"])?;
-    if let Some(content) = noted.get("content") {
-        return Ok(Body::with_content(bytes_of(alloc, text_of(content)?)?));
-    }
-    let failing = noted.get("failing");
-    let frames = frames_of(alloc, items_of(given(noted, "frames")?)?)?;
-    body_from(alloc, frames, failing)
-}
-
-fn body_from(
-    alloc: Global,
-    frames: List<Frame>,
-    failing: Option<&Json>,
-) -> Result<Body, CaseError> {
-    match failing {
-        Some(calls) => {
-            let calls = calls_of(alloc, items_of(calls)?)?;
-            Ok(Body::with_faults(MemoryFrames::new(frames, calls)))
-        }
-        None => Ok(Body::with_frames(SafeFrames::new(frames))),
-    }
-}
-
-fn bytes_of(alloc: Global, text: &Text) -> Result<List<u8>, CaseError> {
-    Ok(List::from_bytes(alloc, text.as_bytes())?)
-}
-
-fn frames_of(alloc: Global, noted: &[Json]) -> Result<List<Frame>, CaseError> {
+/// The body of a case.
+pub fn body_at(alloc: Global, case: &Json) -> Result<Body, CaseError> {
+    let noted = given(case, "body")?;
     let mut reader = Reader::new(alloc);
-    let mut frames = List::new(alloc);
-    for frame in noted {
-        let frame = read_frame(&mut reader, frame);
-        reader.push(&mut frames, frame);
+    let body = read_body(&mut reader, noted);
+    reader.finish(body)
+}
+
+fn read_body(reader: &mut Reader, noted: &Json) -> Body {
+    match noted {
+        Json::Text(word) if word.equals_str("empty") => Body::empty(),
+        noted => read_body_with(reader, noted),
     }
-    reader.finish(frames)
+}
+
+fn read_body_with(reader: &mut Reader, noted: &Json) -> Body {
+    reader.check_names(noted, &["content", "frames", "failing"]);
+    match noted.get("content") {
+        Some(content) => read_content(reader, content),
+        None => read_frames_body(reader, noted),
+    }
+}
+
+fn read_content(reader: &mut Reader, noted: &Json) -> Body {
+    match noted {
+        Json::Text(text) => Body::with_content(read_bytes(reader, text)),
+        _ => {
+            reader.expected("a text");
+            Body::empty()
+        }
+    }
+}
+
+fn read_frames_body(reader: &mut Reader, noted: &Json) -> Body {
+    let frames = read_frames(reader, noted);
+    match noted.get("failing") {
+        Some(calls) => Body::with_faults(MemoryFrames::new(frames, read_calls(reader, calls))),
+        None => Body::with_frames(SafeFrames::new(frames)),
+    }
+}
+
+fn read_frames(reader: &mut Reader, noted: &Json) -> List<Frame> {
+    let mut frames = List::new(reader.alloc());
+    match noted.get("frames") {
+        Some(noted) => add_frames(reader, noted, &mut frames),
+        None => reader.expected("frames"),
+    }
+    frames
+}
+
+fn add_frames(reader: &mut Reader, noted: &Json, frames: &mut List<Frame>) {
+    for frame in reader.items(noted) {
+        let frame = read_frame(reader, frame);
+        reader.push(frames, frame);
+    }
 }
 
 fn read_frame(reader: &mut Reader, noted: &Json) -> Frame {
@@ -139,14 +148,13 @@ fn trailers_of(alloc: Global, noted: &Json) -> Result<HeaderList, CaseError> {
     lines_of(alloc, given(noted, "trailers")?)
 }
 
-fn calls_of(alloc: Global, noted: &[Json]) -> Result<List<u64>, CaseError> {
-    let mut reader = Reader::new(alloc);
-    let mut calls = List::new(alloc);
-    for call in noted {
+fn read_calls(reader: &mut Reader, noted: &Json) -> List<u64> {
+    let mut calls = List::new(reader.alloc());
+    for call in reader.items(noted) {
         let call = reader.or(call_of(call), 0);
         reader.push(&mut calls, call);
     }
-    reader.finish(calls)
+    calls
 }
 
 fn call_of(noted: &Json) -> Result<u64, CaseError> {

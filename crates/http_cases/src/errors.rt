@@ -1,8 +1,8 @@
 //! Calls on errors, their responses, and the ids of requests.
 use crate::lines::{bytes_noted, lines_noted};
 use case_notation::{
-    CaseError, Record, Row, given, items_of, labelled, maybe_text, say, string_told, text_of,
-    text_or_null,
+    CaseError, Record, Row, given_items, given_text, items_of, labelled, maybe_text, say,
+    string_told, text_or_null,
 };
 use http_status::{
     Body, CONTENT_TYPE_JSON, CONTENT_TYPE_MULTIPART_FORM_DATA, CONTENT_TYPE_NDJSON,
@@ -14,13 +14,14 @@ use std::alloc::Global;
 
 /// An error that is made as the case says, its text and its response to the request of an id.
 pub fn error_told(alloc: Global, case: &Json) -> Result<Json, CaseError> {
-    let id = request_id_of(alloc, text_of(given(case, "id")?)?)?;
+    let id = request_id_of(alloc, given_text(case, "id")?)?;
     answer_to(alloc, case, &id)
 }
 
 fn answer_to(alloc: Global, case: &Json, id: &RequestId) -> Result<Json, CaseError> {
-    let steps = items_of(given(case, "steps")?)?;
-    let mut error = made(alloc, items_of(given(case, "made")?)?)?;
+    let steps = given_items(case, "steps")?;
+    let noted = given_items(case, "made")?;
+    let mut error = Box::new(alloc, made(alloc, noted)?)?;
     changed_told(alloc, &mut error, steps, id)
 }
 
@@ -192,7 +193,8 @@ fn own_lines(alloc: Global, lines: &Option<HeaderList>) -> Result<Json, CaseErro
 
 // The response of a copy of an error to the request of an id.
 fn response_told(alloc: Global, error: &HttpError, id: &RequestId) -> Result<Json, CaseError> {
-    let mut response = error.copy(alloc)?.into_response(alloc, id)?;
+    let response = error.copy(alloc)?.into_response(alloc, id)?;
+    let mut response = Box::new(alloc, response)?;
     response_noted(alloc, &mut response)
 }
 
@@ -238,7 +240,7 @@ fn request_id_of(alloc: Global, text: &Text) -> Result<RequestId, CaseError> {
 
 /// The text of the id of a case, or that it is none.
 pub fn request_id_told(alloc: Global, case: &Json) -> Result<Json, CaseError> {
-    let text = text_of(given(case, "id")?)?;
+    let text = given_text(case, "id")?;
     match RequestId::new(alloc, text.as_str()) {
         Ok(id) => labelled(alloc, "id", say(alloc, id.text())),
         Err(RequestIdError::BadRequestId) => say(alloc, "bad request id"),

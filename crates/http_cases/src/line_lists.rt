@@ -1,6 +1,6 @@
 //! Calls on lists of header lines. A step is a list: its name, and what it takes.
 use crate::lines::{lines_in, lines_noted, lines_of, name_of, value_noted, value_of};
-use case_notation::{CaseError, Row, given, items_of, say};
+use case_notation::{CaseError, Row, given, given_items, items_of, say};
 use http_header::HeaderValue;
 use http_status::HeaderList;
 use schema_values::{Json, Text};
@@ -8,7 +8,7 @@ use std::alloc::Global;
 
 /// What each of the steps of a case answers, from the lines of the case on.
 pub fn headers_told(alloc: Global, case: &Json) -> Result<Json, CaseError> {
-    let steps = items_of(given(case, "steps")?)?;
+    let steps = given_items(case, "steps")?;
     let mut lines = lines_of(alloc, given(case, "lines")?)?;
     steps_told(alloc, &mut lines, steps)
 }

@@ -15,13 +15,13 @@ pub fn lines_of(alloc: Global, noted: &Json) -> Result<HeaderList, CaseError> {
 pub fn lines_in(alloc: Global, noted: &[Json]) -> Result<HeaderList, CaseError> {
     let mut lines = HeaderList::new(alloc);
     for line in noted {
-        append(alloc, &mut lines, items_of(line)?)?;
+        append(alloc, &mut lines, line)?;
     }
     Ok(lines)
 }
 
-fn append(alloc: Global, lines: &mut HeaderList, line: &[Json]) -> Result<(), CaseError> {
-    let [Json::Text(name), Json::Text(value)] = line else {
+fn append(alloc: Global, lines: &mut HeaderList, line: &Json) -> Result<(), CaseError> {
+    let [Json::Text(name), Json::Text(value)] = items_of(line)? else {
         return Err(CaseError::Expected("a name and a value"));
     };
     let name = name_of(alloc, name)?;

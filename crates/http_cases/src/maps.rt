@@ -6,7 +6,7 @@ use crate::named_types::{Holder, Marked, Names, Texts};
 use crate::sample::Sample;
 use api_types::{ApiType, table_of};
 use case_notation::{
-    CaseError, Row, Scope, both, given, labelled, map_of, say, scope_of, text_of, text_told,
+    CaseError, Row, Scope, both, given, given_text, labelled, map_of, say, scope_of, text_told,
     tree_noted, tree_of,
 };
 use flat_maps::{MapError, from_map, from_map_insensitive, to_map, to_map_tree};
@@ -20,8 +20,9 @@ use typed_values::{Tree, fits};
 /// The tree of the value that the map of a case is read as, of the type of the case, or what it is
 /// refused as.
 pub fn map_read(alloc: Global, case: &Json) -> Result<Json, CaseError> {
+    let name = given_text(case, "type")?;
     let map = map_of(alloc, given(case, "map")?)?;
-    match text_of(given(case, "type")?)?.as_str() {
+    match name.as_str() {
         "Sample" => read_as::<Sample>(alloc, &map),
         "Names" => read_as::<Names>(alloc, &map),
         "Marked" => read_as::<Marked>(alloc, &map),
@@ -37,8 +38,9 @@ pub fn map_read(alloc: Global, case: &Json) -> Result<Json, CaseError> {
 /// The same of a map whose names are in lower case, and compared with those of fields in lower
 /// case.
 pub fn map_read_without_case(alloc: Global, case: &Json) -> Result<Json, CaseError> {
+    let name = given_text(case, "type")?;
     let map = map_of(alloc, given(case, "map")?)?;
-    match text_of(given(case, "type")?)?.as_str() {
+    match name.as_str() {
         "Sample" => read_lowered::<Sample>(alloc, &map),
         "Marked" => read_lowered::<Marked>(alloc, &map),
         "Array_of_String" => { read_lowered::<List<Text>>(alloc, &map) }
@@ -93,7 +95,7 @@ fn refused(alloc: Global, error: MapError) -> Result<Json, CaseError> {
 /// refused as.
 pub fn map_written(alloc: Global, case: &Json) -> Result<Json, CaseError> {
     let json = given(case, "json")?;
-    match text_of(given(case, "type")?)?.as_str() {
+    match given_text(case, "type")?.as_str() {
         "Texts" => written::<Texts>(alloc, json),
         "Names" => written::<Names>(alloc, json),
         "Sample" => written::<Sample>(alloc, json),

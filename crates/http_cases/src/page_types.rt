@@ -1,6 +1,6 @@
 //! Calls on the types of pages.
 use api_types::ApiType;
-use case_notation::{CaseError, Record, given, noted_desc, table_of, text_of, text_told};
+use case_notation::{CaseError, Record, given_text, noted_desc, table_of, text_told};
 use page_tokens::{EmptyScanParams, PaginationOrder, ResultsPage};
 use schema_values::Json;
 use std::alloc::Global;
@@ -9,7 +9,7 @@ use typed_values::{AddError, Definition, Desc, DescTable};
 /// The name of the type of a case, and whether its descriptor and its definitions are those of the
 /// case.
 pub fn page_type_told(alloc: Global, case: &Json) -> Result<Json, CaseError> {
-    match text_of(given(case, "type")?)?.as_str() {
+    match given_text(case, "type")?.as_str() {
         "uint32ResultsPage" => type_told::<ResultsPage<u32>>(alloc, case),
         "PaginationOrder" => type_told::<PaginationOrder>(alloc, case),
         "EmptyScanParams" => type_told::<EmptyScanParams>(alloc, case),

@@ -5,7 +5,8 @@ use crate::errors::error_noted;
 use crate::selectors::{Previous, Start};
 use api_types::{ApiType, table_of};
 use case_notation::{
-    CaseError, Record, Row, given, items_of, labelled, number_of, text_or_null, tree_noted,
+    CaseError, Record, Row, given, given_items, given_number, labelled, number_of, text_or_null,
+    tree_noted,
 };
 use http_status::HttpRefusal;
 use page_tokens::{ResultsPage, read_token};
@@ -19,7 +20,7 @@ pub fn page_told(alloc: Global, case: &Json) -> Result<Json, CaseError> {
         return Err(CaseError::Expected("a type that passes its checks"));
     };
     let scan = natural(given(case, "scan")?)?;
-    let items = naturals(alloc, items_of(given(case, "items")?)?)?;
+    let items = naturals(alloc, given_items(case, "items")?)?;
     let page = ResultsPage::new(alloc, items, &scan, |_: Global, last: &u64, scan: &u64| {
         previous(*last, *scan)
     });
@@ -102,7 +103,7 @@ fn refused(alloc: Global, refusal: &HttpRefusal) -> Result<Json, CaseError> {
 
 /// The token of a page of one item whose selector is a text of so many letters `e`.
 pub fn long_page_told(alloc: Global, case: &Json) -> Result<Json, CaseError> {
-    let letters = letters_of(alloc, number_of(given(case, "length")?)?)?;
+    let letters = letters_of(alloc, given_number(case, "length")?)?;
     long_page_from(alloc, &letters)
 }
 

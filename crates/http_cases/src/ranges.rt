@@ -5,7 +5,7 @@ use api_versions::{
     ApiEndpointVersions, ClientSpecifiesVersionInHeader, DynamicVersionPolicy, VersionPolicy,
 };
 use case_notation::{
-    CaseError, Record, both, given, items_of, labelled, say, string_told, text_of,
+    CaseError, Record, both, given, given_text, items_of, labelled, say, string_told, text_of,
 };
 use http_status::{HeaderList, HttpError, HttpRefusal};
 use schema_values::{Json, Text};
@@ -69,11 +69,23 @@ fn range_between(
     first: Option<Version>,
     end: Option<Version>,
 ) -> Result<ApiEndpointVersions, &'static str> {
-    match (first, end) {
-        (None, None) => Ok(ApiEndpointVersions::all()),
-        (Some(first), None) => Ok(ApiEndpointVersions::from(first)),
-        (None, Some(end)) => Ok(ApiEndpointVersions::until(end)),
-        (Some(first), Some(end)) => ApiEndpointVersions::from_until(first, end),
+    match first {
+        Some(first) => range_from(first, end),
+        None => Ok(range_until(end)),
+    }
+}
+
+fn range_from(first: Version, end: Option<Version>) -> Result<ApiEndpointVersions, &'static str> {
+    match end {
+        Some(end) => ApiEndpointVersions::from_until(first, end),
+        None => Ok(ApiEndpointVersions::from(first)),
+    }
+}
+
+fn range_until(end: Option<Version>) -> ApiEndpointVersions {
+    match end {
+        Some(end) => ApiEndpointVersions::until(end),
+        None => ApiEndpointVersions::all(),
     }
 }
 
@@ -136,10 +148,7 @@ fn greatest_policy(
     alloc: Global,
     case: &Json,
 ) -> Result<ClientSpecifiesVersionInHeader, CaseError> {
-    let (header, greatest) = (
-        text_of(given(case, "header")?)?,
-        text_of(given(case, "greatest")?)?,
-    );
+    let (header, greatest) = (given_text(case, "header")?, given_text(case, "greatest")?);
     let name = name_of(alloc, header)?;
     let greatest = version_of(alloc, greatest)?;
     Ok(ClientSpecifiesVersionInHeader::new(name, greatest))

@@ -1,17 +1,17 @@
 //! Calls that read a body under a limit on its content and a budget of frames.
-use crate::bodies::{body_of, content_told, count_of, frames_told};
+use crate::bodies::{body_at, content_told, count_at, frames_told};
 use crate::lines::bytes_noted;
 use body_reading::{BodyError, StreamRefusal, StreamingBody, gather_frames, read_whole};
-use case_notation::{CaseError, Record, Row, given, labelled, number_of, say, text_of};
+use case_notation::{CaseError, Record, Row, given_number, labelled, say, text_of};
 use http_status::{Body, HttpError};
 use schema_values::{Json, List};
 use std::alloc::Global;
 
 /// What reading the body of a case whole gives, within the limit and the budget of the case.
 pub fn whole_told(alloc: Global, case: &Json) -> Result<Json, CaseError> {
-    let limit = count_of(given(case, "limit")?)?;
-    let budget = count_of(given(case, "budget")?)?;
-    let mut body = body_of(alloc, given(case, "body")?)?;
+    let limit = count_at(case, "limit")?;
+    let budget = count_at(case, "budget")?;
+    let mut body = body_at(alloc, case)?;
     read_told(alloc, &mut body, limit, budget)
 }
 
@@ -37,9 +37,9 @@ fn labelled_number(alloc: Global, name: &str, number: i128) -> Result<Json, Case
 
 /// What each of so many calls of a body that is gathered of the body of a case gives.
 pub fn gathered_told(alloc: Global, case: &Json) -> Result<Json, CaseError> {
-    let calls = number_of(given(case, "calls")?)?;
-    let budget = count_of(given(case, "budget")?)?;
-    let mut source = body_of(alloc, given(case, "body")?)?;
+    let calls = given_number(case, "calls")?;
+    let budget = count_at(case, "budget")?;
+    let mut source = body_at(alloc, case)?;
     gathered_from(alloc, &mut source, budget, calls)
 }
 
@@ -56,8 +56,8 @@ fn gathered_from(
 /// What each of so many calls of a reader gives: of the bytes of a case, or of its body under the
 /// limit and the budget of the case.
 pub fn stream_told(alloc: Global, case: &Json) -> Result<Json, CaseError> {
-    let calls = number_of(given(case, "calls")?)?;
-    let mut stream = stream_of(alloc, case)?;
+    let calls = given_number(case, "calls")?;
+    let mut stream = Box::new(alloc, stream_of(alloc, case)?)?;
     contents_told(alloc, &mut stream, calls)
 }
 
@@ -74,13 +74,21 @@ fn contents_told(
 }
 
 fn stream_of(alloc: Global, case: &Json) -> Result<StreamingBody, CaseError> {
-    if let Some(content) = case.get("bytes") {
-        let bytes = List::from_bytes(alloc, text_of(content)?.as_bytes())?;
-        return Ok(StreamingBody::from_bytes(bytes));
+    match case.get("bytes") {
+        Some(content) => stream_of_bytes(alloc, content),
+        None => stream_of_body(alloc, case),
     }
-    let cap = count_of(given(case, "limit")?)?;
-    let budget = count_of(given(case, "budget")?)?;
-    let body = body_of(alloc, given(case, "body")?)?;
+}
+
+fn stream_of_bytes(alloc: Global, noted: &Json) -> Result<StreamingBody, CaseError> {
+    let bytes = List::from_bytes(alloc, text_of(noted)?.as_bytes())?;
+    Ok(StreamingBody::from_bytes(bytes))
+}
+
+fn stream_of_body(alloc: Global, case: &Json) -> Result<StreamingBody, CaseError> {
+    let cap = count_at(case, "limit")?;
+    let budget = count_at(case, "budget")?;
+    let body = body_at(alloc, case)?;
     Ok(StreamingBody::new(body, u64::from(cap), u64::from(budget)))
 }
 

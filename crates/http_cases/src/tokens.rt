@@ -3,7 +3,7 @@ ghost use Rattle.typed_values.specs.Checks.{TablePasses, DescPasses};
 
 use crate::maps::tree_told;
 use case_notation::{
-    CaseError, Scope, both, given, labelled, say, scope_of, text_of, text_told, tree_of,
+    CaseError, Scope, both, given, given_text, labelled, say, scope_of, text_told, tree_of,
 };
 use page_tokens::{TokenError, read_token, write_token};
 use schema_values::{Json, Text};
@@ -36,7 +36,7 @@ fn token_told(alloc: Global, answer: Result<Text, TokenError>) -> Result<Json, C
 
 /// The tree that the token of a case is read as, or what it is refused as.
 pub fn token_read(alloc: Global, case: &Json) -> Result<Json, CaseError> {
-    let token = text_of(given(case, "token")?)?;
+    let token = given_text(case, "token")?;
     read(alloc, &scope_of(alloc, case)?, token)
 }
 

@@ -1,10 +1,9 @@
 //! Calls on documents: what their parts are written as, and what they admit.
-use crate::answers::text_given;
 use crate::info::info_written;
 use crate::part_notation::written;
 use crate::request_notation::request_of;
 use crate::values::noted_value;
-use case_notation::{CaseError, given};
+use case_notation::{CaseError, given, given_text, text_told};
 use openapi_values::{
     Components, HeaderObject, MediaType, OpenApi, Operation, Parameter, PathItem, RequestBody,
     ResponseObject, WireRequest, json_admits, text_admits,
@@ -16,7 +15,7 @@ use std::alloc::{AllocError, Global};
 /// What a copy of a part of a document is written as. The kind of the part stands under `kind`.
 pub fn part(alloc: Global, case: &Json) -> Result<Json, CaseError> {
     let noted = given(case, "part")?;
-    match text_given(case, "kind")?.as_str() {
+    match given_text(case, "kind")?.as_str() {
         "OpenApi" => written::<OpenApi>(alloc, noted),
         "Components" => written::<Components>(alloc, noted),
         "PathItem" => written::<PathItem>(alloc, noted),
@@ -32,7 +31,7 @@ pub fn part(alloc: Global, case: &Json) -> Result<Json, CaseError> {
 
 /// The same in lines, as a text.
 pub fn pretty_part(alloc: Global, case: &Json) -> Result<Json, CaseError> {
-    Ok(Json::Text(part(alloc, case)?.pretty(alloc)?))
+    text_told(part(alloc, case)?.pretty(alloc))
 }
 
 /// The document of a case. Without one it is an empty object.
@@ -45,15 +44,16 @@ fn noted_document(alloc: Global, case: &Json) -> Result<Json, AllocError> {
 
 /// Whether a schema admits a value.
 pub fn json_admitted(alloc: Global, case: &Json) -> Result<Json, CaseError> {
+    let schema = given(case, "schema")?;
     let document = noted_document(alloc, case)?;
     let value = noted_value(alloc, case)?;
-    Ok(Json::Bool(json_admits(&document, given(case, "schema")?, &value)))
+    Ok(Json::Bool(json_admits(&document, schema, &value)))
 }
 
 /// Whether a schema admits a text.
 pub fn text_admitted(alloc: Global, case: &Json) -> Result<Json, CaseError> {
     let schema = given(case, "schema")?;
-    let text = text_given(case, "text")?;
+    let text = given_text(case, "text")?;
     let document = noted_document(alloc, case)?;
     if document.sound() && schema.sound() {
         Ok(Json::Bool(text_admits(&document, schema, text.as_str())))
@@ -70,8 +70,8 @@ pub fn request_admitted(alloc: Global, case: &Json) -> Result<Json, CaseError> {
 
 fn admitted(alloc: Global, case: &Json, request: &WireRequest) -> Result<Json, CaseError> {
     let document = given(case, "document")?;
-    let path = text_given(case, "path")?;
-    let method = text_given(case, "method")?;
+    let path = given_text(case, "path")?;
+    let method = given_text(case, "method")?;
     if !document.sound() {
         return Err(CaseError::Expected("a sound document"));
     }

@@ -12,8 +12,7 @@ mod schema_notation;
 mod schemas;
 mod values;
 
-use crate::answers::text_given;
-use case_notation::{AnswersCases, CaseError, run};
+use case_notation::{AnswersCases, CaseError, given_text, run};
 use schema_values::Json;
 use std::alloc::Global;
 use std::io;
@@ -51,7 +50,7 @@ impl AnswersCases for SchemaCases {
     }
 
     fn answer(&self, alloc: Global, case: &Json) -> Result<Json, CaseError> {
-        let call = text_given(case, "call")?.as_str();
+        let call = given_text(case, "call")?.as_str();
         match call {
             "read" => values::read(alloc, case),
             "read_in_turn" => values::read_in_turn(alloc, case),

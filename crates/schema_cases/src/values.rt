@@ -1,8 +1,9 @@
 //! Calls on values.
-use crate::answers::{error_told, text_given};
+use crate::answers::error_told;
 use crate::request_notation::bytes_of;
 use case_notation::{
-    CaseError, Row, both, given, items_of, labelled, made_of, string_told, text_of,
+    CaseError, Row, both, given, given_items, given_text, labelled, made_of, string_told, text_of,
+    text_told,
 };
 use schema_values::{
     Json, List, ReadError, Scratch, Text, ValueError, write_member, write_number_member,
@@ -27,7 +28,7 @@ pub fn read(alloc: Global, case: &Json) -> Result<Json, CaseError> {
 
 /// What each text of a list is read as, in one room that is kept.
 pub fn read_in_turn(alloc: Global, case: &Json) -> Result<Json, CaseError> {
-    let texts = items_of(given(case, "json")?)?;
+    let texts = given_items(case, "json")?;
     let mut scratch = Scratch::new(alloc);
     let mut told = Row::new(alloc);
     for text in texts {
@@ -59,13 +60,13 @@ fn reading_told(alloc: Global, reading: Result<Json, ReadError>) -> Result<Json,
 
 /// The value's compact text.
 pub fn compact(alloc: Global, case: &Json) -> Result<Json, CaseError> {
-    Ok(Json::Text(noted_value(alloc, case)?.compact(alloc)?))
+    text_told(noted_value(alloc, case)?.compact(alloc))
 }
 
 /// The compact text of an object with the text and the value of the case, and with how many characters
 /// the text has, written member by member.
 pub fn written(alloc: Global, case: &Json) -> Result<Json, CaseError> {
-    let (text, json) = (text_given(case, "text")?, given(case, "json")?);
+    let (text, json) = (given_text(case, "text")?, given(case, "json")?);
     let mut out = Text::with_capacity(alloc, 64)?;
     write_members(alloc, text, json, &mut out)?;
     Ok(Json::Text(out))
@@ -82,7 +83,7 @@ fn write_members(alloc: Global, text: &Text, json: &Json, out: &mut Text) -> Res
 
 /// The value's text in lines.
 pub fn pretty(alloc: Global, case: &Json) -> Result<Json, CaseError> {
-    Ok(Json::Text(noted_value(alloc, case)?.pretty(alloc)?))
+    text_told(noted_value(alloc, case)?.pretty(alloc))
 }
 
 /// What the compact text is read as.
@@ -99,7 +100,7 @@ pub fn read_pretty(alloc: Global, case: &Json) -> Result<Json, CaseError> {
 
 /// How many characters a text has.
 pub fn chars_count(case: &Json) -> Result<Json, CaseError> {
-    Ok(Json::Int(count_of(text_given(case, "text")?)?))
+    Ok(Json::Int(count_of(given_text(case, "text")?)?))
 }
 
 fn count_of(text: &Text) -> Result<i128, CaseError> {
@@ -111,7 +112,7 @@ fn count_of(text: &Text) -> Result<i128, CaseError> {
 
 /// The value's member of a name, `{"json": MEMBER}`, or null.
 pub fn get(alloc: Global, case: &Json) -> Result<Json, CaseError> {
-    let name = text_given(case, "name")?;
+    let name = given_text(case, "name")?;
     match given(case, "json")?.get(name.as_str()) {
         Some(member) => labelled(alloc, "json", member.copy(alloc)),
         None => Ok(Json::Null),
@@ -125,8 +126,9 @@ pub fn sound(alloc: Global, case: &Json) -> Result<Json, CaseError> {
 
 /// Whether the value is equal to the one under `other`, which is noted as one that is made.
 pub fn equals(alloc: Global, case: &Json) -> Result<Json, CaseError> {
+    let noted = given(case, "other")?;
     let value = noted_value(alloc, case)?;
-    let other = made_of(alloc, given(case, "other")?)?;
+    let other = made_of(alloc, noted)?;
     Ok(Json::Bool(value.equals(&other)))
 }
 
@@ -151,7 +153,7 @@ fn handed_over(alloc: Global, case: &Json) -> Result<Value, CaseError> {
 
 /// What the value that `serde_json` reads a text as is here, or why it is none.
 pub fn of_value(alloc: Global, case: &Json) -> Result<Json, CaseError> {
-    match Value::from_str(alloc, text_given(case, "text")?.as_str()) {
+    match Value::from_str(alloc, given_text(case, "text")?.as_str()) {
         Ok(value) => taken_over(alloc, &value),
         Err(error) if error.is_memory() => Err(CaseError::OutOfMemory),
         Err(_) => Err(CaseError::Expected("a value of serde_json")),

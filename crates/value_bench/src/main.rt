@@ -44,8 +44,8 @@ fn count_of(alloc: Global, body: &[u8]) -> Result<u32, AllocError> {
 }
 
 /// How many were met, as an answer.
-fn counted(alloc: Global, met: u64) -> Result<Answer, AllocError> {
-    Ok(Answer::Written(Json::Int(met.into()).compact(alloc)?))
+fn counted(alloc: Global, met: Result<u64, AllocError>) -> Result<Answer, AllocError> {
+    Ok(Answer::Written(Json::Int(met?.into()).compact(alloc)?))
 }
 
 fn decoded(alloc: Global, table: &DescTable, desc: &Desc, json: &Json) -> Result<Answer, AllocError>
@@ -55,44 +55,61 @@ fn decoded(alloc: Global, table: &DescTable, desc: &Desc, json: &Json) -> Result
         return Ok(Answer::NoDescriptor);
     }
     match decode_json(alloc, table, desc, json) {
-        Ok(tree) => {
-            let json = encode_json(alloc, table, desc, &tree)?;
-            Ok(Answer::Written(json.compact(alloc)?))
-        }
-        Err(DecodeError::Fault(fault)) => Ok(Answer::Refused(fault.text(alloc)?)),
+        Ok(tree) => written(alloc, encode_json(alloc, table, desc, &tree)),
+        Err(DecodeError::Fault(fault)) => refused(fault.text(alloc)),
         Err(DecodeError::OutOfMemory) => Err(AllocError),
     }
 }
 
+fn written(alloc: Global, json: Result<Json, AllocError>) -> Result<Answer, AllocError> {
+    Ok(Answer::Written(json?.compact(alloc)?))
+}
+
+fn refused(text: Result<Text, AllocError>) -> Result<Answer, AllocError> {
+    Ok(Answer::Refused(text?))
+}
+
 fn answered(alloc: Global, word: &str, body: &[u8]) -> Result<Answer, AllocError> {
-    if word == "store" {
-        return counted(alloc, pairs_met(alloc, count_of(alloc, body)?)? as u64);
+    match word {
+        "store" => counted(alloc, pairs_met(alloc, count_of(alloc, body)?)),
+        "pairs" => counted(alloc, fields_met(alloc, count_of(alloc, body)?)),
+        "frames" => counted(alloc, bytes_dumped(alloc, count_of(alloc, body)?)),
+        word => match descriptor(alloc, word)? {
+            Some(desc) => answered_under(alloc, &desc, body),
+            None => Ok(Answer::NoDescriptor),
+        },
     }
-    if word == "pairs" {
-        return counted(alloc, fields_met(alloc, count_of(alloc, body)?)? as u64);
-    }
-    if word == "frames" {
-        return counted(alloc, bytes_dumped(alloc, count_of(alloc, body)?)?);
-    }
-    let table = definitions(alloc)?;
-    let Some(desc) = descriptor(alloc, word)? else {
-        return Ok(Answer::NoDescriptor);
-    };
+}
+
+fn answered_under(alloc: Global, desc: &Desc, body: &[u8]) -> Result<Answer, AllocError> {
+    answered_in(alloc, &definitions(alloc)?, desc, body)
+}
+
+fn answered_in(
+    alloc: Global,
+    table: &DescTable,
+    desc: &Desc,
+    body: &[u8],
+) -> Result<Answer, AllocError> {
     match Json::read(alloc, body) {
-        Ok(json) => decoded(alloc, &table, &desc, &json),
-        Err(ReadError::Unreadable) => Ok(Answer::Refused(FaultKind::NotJson.text(alloc)?)),
+        Ok(json) => decoded(alloc, table, desc, &json),
+        Err(ReadError::Unreadable) => refused(FaultKind::NotJson.text(alloc)),
         Err(ReadError::OutOfMemory) => Err(AllocError),
     }
 }
 
 /// The answer to the first word and to all of standard input.
 fn answer_input(rt: &HostRuntime) -> io::Result<Answer> {
-    let Some(word) = env::args(rt)?.nth(1) else {
-        return Ok(Answer::NoDescriptor);
-    };
+    match env::args(rt)?.nth(1) {
+        Some(word) => answer_word(rt, word.as_str()),
+        None => Ok(Answer::NoDescriptor),
+    }
+}
+
+fn answer_word(rt: &HostRuntime, word: &str) -> io::Result<Answer> {
     let mut body = Vec::new(rt.alloc());
     rt.stdin().read_to_end(&mut body)?;
-    Ok(answered(rt.alloc(), word.as_str(), &body)?)
+    Ok(answered(rt.alloc(), word, &body)?)
 }
 
 /// Tells an answer, and gives its status.

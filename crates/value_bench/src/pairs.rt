@@ -1,12 +1,12 @@
 //! Decodes the pairs of a query, to be measured.
 ghost use Rattle.typed_values.specs.Checks.{TablePasses, DescPasses};
 
-use crate::types::text;
+use crate::types::{field, text};
 use flat_maps::{Repeats, decode_pairs};
 use request_words::{NamedText, query_pairs};
 use schema_values::{List, Text};
 use std::alloc::{AllocError, Global};
-use typed_values::{DecodeError, Desc, DescTable, Field, Presence, Tree, check_desc, check_table};
+use typed_values::{DecodeError, Desc, DescTable, Tree, check_desc, check_table};
 
 /// The fields of the struct under which pairs are decoded.
 const FIELDS: u32 = 100;
@@ -16,14 +16,18 @@ const ROUNDS: u32 = 100;
 
 /// How many fields are decoded in all rounds from a query with this many pairs, whose names are put
 /// by a fixed stride.
-pub fn fields_met(alloc: Global, count: u32) -> Result<usize, AllocError> {
+pub fn fields_met(alloc: Global, count: u32) -> Result<u64, AllocError> {
     let pairs = query_pairs(alloc, &query(alloc, count)?)?;
+    fields_met_of(alloc, &fields_desc(alloc)?, &pairs)
+}
+
+fn fields_met_of(alloc: Global, desc: &Desc, pairs: &List<NamedText>) -> Result<u64, AllocError> {
     let table = DescTable::new(alloc);
-    let desc = fields_desc(alloc)?;
-    if check_table(&table).is_err() || check_desc(&table, &desc).is_err() {
-        return Ok(0);
+    if check_table(&table).is_err() || check_desc(&table, desc).is_err() {
+        Ok(0)
+    } else {
+        met_in_rounds(alloc, &table, desc, pairs)
     }
-    met_in_rounds(alloc, &table, &desc, &pairs)
 }
 
 /// How many fields are decoded in all rounds.
@@ -32,11 +36,11 @@ fn met_in_rounds(
     table: &DescTable,
     desc: &Desc,
     pairs: &List<NamedText>,
-) -> Result<usize, AllocError>
+) -> Result<u64, AllocError>
     requires table { TablePasses table.now }
     requires desc { DescPasses table.now desc.now }
 {
-    let mut met = 0_usize;
+    let mut met = 0_u64;
     for _ in 0..ROUNDS {
         match decode_pairs(alloc, table, desc, pairs, Repeats::Refuse) {
             Ok(tree) => met = met.saturating_add(field_count(&tree)),
@@ -47,9 +51,9 @@ fn met_in_rounds(
     Ok(met)
 }
 
-fn field_count(tree: &Tree) -> usize {
+fn field_count(tree: &Tree) -> u64 {
     match tree {
-        Tree::Fields(trees) => trees.len(),
+        Tree::Fields(trees) => trees.len() as u64,
         _ => 0,
     }
 }
@@ -75,12 +79,7 @@ fn fields_desc(alloc: Global) -> Result<Desc, AllocError> {
     let mut fields = List::new(alloc);
     for place in 0..FIELDS {
         let name = name_at(alloc, place.into())?;
-        fields.push(Field {
-            name: Text::from_string(name),
-            desc: text(),
-            presence: Presence::Required,
-            description: None,
-        })?;
+        fields.push(field(Text::from_string(name), text()))?;
     }
     Ok(Desc::Struct {
         fields,

@@ -32,14 +32,19 @@ fn list_of(alloc: Global, name: &str) -> Result<Desc, AllocError> {
     })
 }
 
-fn push(alloc: Global, fields: &mut List<Field>, name: &str, desc: Desc) -> Result<(), AllocError> {
-    let name = Text::from_str(alloc, name)?;
-    fields.push(Field {
+/// A field that is required.
+pub fn field(name: Text, desc: Desc) -> Field {
+    Field {
         name,
         desc,
         presence: Presence::Required,
         description: None,
-    })
+    }
+}
+
+fn push(alloc: Global, fields: &mut List<Field>, name: &str, desc: Desc) -> Result<(), AllocError> {
+    let name = Text::from_str(alloc, name)?;
+    fields.push(field(name, desc))
 }
 
 /// A label and two numbers. Other names are denied.
@@ -73,11 +78,15 @@ fn define(table: &mut DescTable, name: &str, desc: Desc) -> Result<(), AllocErro
     }
 }
 
+fn define_all(alloc: Global, table: &mut DescTable) -> Result<(), AllocError> {
+    define(table, "Point", point(alloc)?)?;
+    define(table, "Folder", folder(alloc)?)
+}
+
 /// The definitions `Point` and `Folder`.
 pub fn definitions(alloc: Global) -> Result<DescTable, AllocError> {
     let mut table = DescTable::new(alloc);
-    define(&mut table, "Point", point(alloc)?)?;
-    define(&mut table, "Folder", folder(alloc)?)?;
+    define_all(alloc, &mut table)?;
     Ok(table)
 }
 

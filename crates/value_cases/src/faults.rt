@@ -1,18 +1,22 @@
 //! The texts of faults. A kind is noted as a list: its name, and then its texts.
-use case_notation::{CaseError, given, items_of};
+use case_notation::{CaseError, given_items, text_told};
 use schema_values::{Json, Text};
 use std::alloc::Global;
-use typed_values::{DecodeError, FaultKind, Place, Stop};
+use typed_values::{DecodeError, Fault, FaultKind, Place, Stop};
 
 /// The text of a fault of the kind of a case, below its places: names, and places of items, the
 /// outermost first.
 pub fn fault_text(alloc: Global, case: &Json) -> Result<Json, CaseError> {
-    let kind = items_of(given(case, "kind")?)?;
-    let places = items_of(given(case, "places")?)?;
+    let kind = given_items(case, "kind")?;
+    let places = given_items(case, "places")?;
     match below_all(alloc, stop_of(alloc, kind)?, places)?.into_error(alloc) {
-        DecodeError::Fault(fault) => Ok(Json::Text(fault.copy(alloc)?.text(alloc)?)),
+        DecodeError::Fault(fault) => copy_told(alloc, &fault),
         DecodeError::OutOfMemory => Err(CaseError::OutOfMemory),
     }
+}
+
+fn copy_told(alloc: Global, fault: &Fault) -> Result<Json, CaseError> {
+    text_told(fault.copy(alloc)?.text(alloc))
 }
 
 fn below_all(alloc: Global, mut stop: Stop, places: &[Json]) -> Result<Stop, CaseError> {

@@ -2,7 +2,7 @@
 ghost use Rattle.typed_values.specs.Checks.{TablePasses};
 
 use crate::case::value_of;
-use case_notation::{CaseError, Record, Row, checked_table, given, labelled, noted_desc, text_of};
+use case_notation::{CaseError, Record, Row, checked_table, given_text, labelled, noted_desc};
 use openapi_values::{J2oasError, j2oas_schema, json_admits};
 use schema_values::{Json, Schema, Text};
 use std::alloc::Global;
@@ -31,7 +31,7 @@ fn schema_in(
 }
 
 fn place_of(case: &Json) -> Result<SchemaPlace, CaseError> {
-    match text_of(given(case, "place")?)?.as_str() {
+    match given_text(case, "place")?.as_str() {
         "plain" => Ok(SchemaPlace::Plain),
         "header" => Ok(SchemaPlace::Header),
         "query" => Ok(SchemaPlace::Query),
@@ -49,7 +49,7 @@ fn written(alloc: Global, schema: &Schema) -> Result<Json, CaseError> {
 
 /// The schema of the descriptor of a case under its title.
 pub fn titled(alloc: Global, case: &Json) -> Result<Json, CaseError> {
-    let title = text_of(given(case, "title")?)?;
+    let title = given_text(case, "title")?;
     titled_in(alloc, &checked_table(alloc, case)?, case, title)
 }
 
@@ -62,7 +62,7 @@ fn titled_in(alloc: Global, table: &DescTable, case: &Json, title: &Text) -> Res
 
 /// The schema of the definition of a name.
 pub fn definition(alloc: Global, case: &Json) -> Result<Json, CaseError> {
-    let name = text_of(given(case, "name")?)?;
+    let name = given_text(case, "name")?;
     definition_in(alloc, &checked_table(alloc, case)?, name)
 }
 

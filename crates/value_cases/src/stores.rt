@@ -1,5 +1,5 @@
 //! Calls on a store of trees. A step is a list: its name, the name of a table, and what it takes.
-use case_notation::{CaseError, Row, given, items_of, labelled, say, tree_noted, tree_of};
+use case_notation::{CaseError, Row, given_items, items_of, labelled, say, tree_noted, tree_of};
 use schema_values::{Json, List, Text};
 use std::alloc::Global;
 use tree_store::Store;
@@ -7,7 +7,7 @@ use typed_values::{Pair, Tree};
 
 /// What each of the steps of a case answers, at a store that is empty before the first.
 pub fn store_told(alloc: Global, case: &Json) -> Result<Json, CaseError> {
-    let steps = items_of(given(case, "steps")?)?;
+    let steps = given_items(case, "steps")?;
     steps_told(alloc, &mut Store::new(alloc), steps)
 }
 

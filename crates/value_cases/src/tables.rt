@@ -2,7 +2,7 @@
 use crate::refusals::told;
 use api_types::add_all;
 use case_notation::{
-    CaseError, Row, definition_of, given, items_of, labelled, say, table_of, text_told,
+    CaseError, Row, definition_of, given, given_items, items_of, labelled, say, table_of, text_told,
 };
 use schema_values::{Json, List};
 use std::alloc::Global;
@@ -70,7 +70,7 @@ fn not_added(alloc: Global, error: AddError) -> Result<Json, CaseError> {
 /// What is told of each list of definitions under `batches`, whose definitions are added together,
 /// and how many the table has then.
 pub fn add_together(alloc: Global, case: &Json) -> Result<Json, CaseError> {
-    let batches = items_of(given(case, "batches")?)?;
+    let batches = given_items(case, "batches")?;
     batches_told(alloc, &mut DescTable::new(alloc), batches)
 }
 

@@ -3,7 +3,7 @@ ghost use Rattle.api_types.specs.Types.{IsTableOf};
 
 use api_types::{AnyValue, ApiType, Flaw, TypeError, table_of};
 use case_notation::{
-    CaseError, Record, given, labelled, string_told, text_of, text_told, tree_noted,
+    CaseError, Record, given, given_text, labelled, string_told, text_told, tree_noted,
 };
 use own_types::{Color, Folder, Label, Pin, Point, Span};
 use schema_values::{Json, List, Text};
@@ -15,7 +15,7 @@ use typed_values::{DecodeError, DescTable, Fault};
 /// What is told of the JSON of a case as a value of the type of this name.
 pub fn type_told(alloc: Global, case: &Json) -> Result<Json, CaseError> {
     let json = given(case, "json")?;
-    match text_of(given(case, "type")?)?.as_str() {
+    match given_text(case, "type")?.as_str() {
         "Boolean" => told_of::<bool>(alloc, json),
         "Character" => told_of::<char>(alloc, json),
         "String" => told_of::<Text>(alloc, json),
