@@ -16,6 +16,7 @@ use api_exchanges::{Exchange, ExchangeError, exchange, exchange_from};
 use api_respond::RouteHandler;
 use http_bodies::{Body, FrameSource};
 use request_parts::{RequestParts, ServerConfig};
+use schema_values::Scratch;
 use std::alloc::Global;
 use tree_store::Store;
 
@@ -23,10 +24,12 @@ impl ApiDescription {
     /// Answers a request with this body, from the store and into it.
     ///
     /// A typed or raw body is read whole: at most as many bytes as the endpoint's limit, or the server's, in at most
-    /// `budget` frames. A handler that takes a stream gets the very body, unread, and an empty one is left.
+    /// `budget` frames. A handler that takes a stream gets the very body, unread, and an empty one is left. The room
+    /// is what reading JSON needs; a caller keeps one from request to request.
     pub fn exchange(
         &self,
         alloc: Global,
+        room: &mut Scratch,
         store: &mut Store,
         request: &RequestParts,
         body: &mut Body,
@@ -75,7 +78,7 @@ impl ApiDescription {
     {
         let (endpoints, index) = (self.endpoints.as_slice(), self.index.templates());
         exchange(
-            alloc, endpoints, index, store, request, body, budget, config,
+            alloc, room, endpoints, index, store, request, body, budget, config,
         )
     }
 
@@ -86,6 +89,7 @@ impl ApiDescription {
     pub fn exchange_from<S: FrameSource>(
         &self,
         alloc: Global,
+        room: &mut Scratch,
         store: &mut Store,
         request: &RequestParts,
         source: &mut S,
@@ -115,7 +119,7 @@ impl ApiDescription {
     {
         let (endpoints, index) = (self.endpoints.as_slice(), self.index.templates());
         exchange_from(
-            alloc, endpoints, index, store, request, source, budget, config,
+            alloc, room, endpoints, index, store, request, source, budget, config,
         )
     }
 }

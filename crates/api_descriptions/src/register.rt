@@ -1,7 +1,7 @@
 //! Registering endpoints.
 ghost use Rattle.std.specs.Prelude.{◌≡◌, ◌++◌, ◌∷◌, [], IfNone, IfOk, IsOkUnless, MatchOption, OnErr, OnOk};
 ghost use Rattle.handler_shapes.specs.ShapeLengths.{ShapeHasShortLengths};
-ghost use Rattle.api_registration.specs.EndpointIndexes.{IsIndexed};
+ghost use Rattle.api_registration.specs.EndpointIndexes.{IsAsBefore, IsIndexed};
 ghost use Rattle.api_registration.specs.Registering.{MayRegister, RefusedBy};
 ghost use Rattle.api_registration.specs.declared.error.ApiDescriptionRegisterError.{ApiDescriptionRegisterError as ErrorValue};
 ghost use Rattle.api_registration.specs.Accepted.{AreAccepted};
@@ -20,7 +20,7 @@ use tag_config::TagConfig;
 
 impl ApiDescription {
     /// Adds an endpoint, unless a cause stands against it; then it is dropped, and nothing changes. After want of
-    /// memory endpoints and tags are as they were, and the index is theirs.
+    /// memory endpoints and tags are as they were, and each key of the index has the places of before.
     pub fn register(&mut self, endpoint: ApiEndpoint) -> Result<(), RegisterError>
         requires indexed { IsIndexed (declarations_of (boxed ⟦<dyn RouteHandler as RouteHandler>⟧)
             self.old.endpoints.items) self.old.index }
@@ -39,6 +39,7 @@ impl ApiDescription {
         ensures unchanged { (error : ErrorValue) → result ≡ Err (RegisterError.Refused error)
             → self.new ≡ self.old }
         ensures err { OnErr result (self.new.endpoints.items ≡ self.old.endpoints.items) }
+        ensures index { OnErr result (IsAsBefore self.old.index self.new.index) }
         ensures tags { self.new.tags ≡ self.old.tags }
         ensures indexed { IsIndexed (declarations_of (boxed ⟦<dyn RouteHandler as RouteHandler>⟧)
             self.new.endpoints.items) self.new.index }
@@ -78,12 +79,13 @@ impl ApiDescription {
         )
     }
 
-    // Adds an endpoint and its places. After want of memory the endpoints are as they were, and the index is theirs.
+    // Adds an endpoint and its places. After want of memory the endpoints are as they were, and so is the index.
     fn push(&mut self, endpoint: ApiEndpoint) -> Result<(), AllocError>
         requires { IsIndexed (declarations_of (boxed ⟦<dyn RouteHandler as RouteHandler>⟧)
             self.old.endpoints.items) self.old.index }
         ensures ok { OnOk result (self.new.endpoints.items ≡ self.old.endpoints.items ++ endpoint ∷ []) }
         ensures err { OnErr result (self.new.endpoints.items ≡ self.old.endpoints.items) }
+        ensures index { OnErr result (IsAsBefore self.old.index self.new.index) }
         ensures tags { self.new.tags ≡ self.old.tags }
         ensures indexed { IsIndexed (declarations_of (boxed ⟦<dyn RouteHandler as RouteHandler>⟧)
             self.new.endpoints.items) self.new.index }

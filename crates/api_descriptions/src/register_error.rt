@@ -4,7 +4,7 @@ ghost use Rattle.std.specs.Prelude.{◌≡◌, IfOk};
 use api_registration::ApiDescriptionRegisterError;
 use std::alloc::{AllocError, Global};
 
-/// Why an endpoint was not registered. Endpoints and tags are as they were then, and the index is theirs.
+/// Why an endpoint was not registered. Endpoints, tags and the index are as they were then.
 #[derive(Debug, Drop)]
 pub enum RegisterError {
     /// A cause stands against it.

@@ -20,6 +20,7 @@ use api_respond::RouteHandler;
 use http_bodies::{Body, FrameSource};
 use path_templates::PlaceIndex;
 use request_parts::{RequestParts, ServerConfig};
+use schema_values::Scratch;
 use std::alloc::Global;
 use tree_store::Store;
 
@@ -27,9 +28,11 @@ use tree_store::Store;
 /// the templates of the endpoints.
 ///
 /// A typed or raw body is read whole: at most as many bytes as the endpoint's limit, or the server's, in at most
-/// `budget` frames. A handler that takes a stream gets the very body, unread, and an empty one is left.
+/// `budget` frames. A handler that takes a stream gets the very body, unread, and an empty one is left. The room is
+/// what reading JSON needs; a caller keeps one from request to request.
 pub fn exchange(
     alloc: Global,
+    room: &mut Scratch,
     endpoints: &[ApiEndpoint],
     index: &PlaceIndex,
     store: &mut Store,
@@ -84,7 +87,9 @@ pub fn exchange(
     let (endpoint, request_id) = reached(alloc, endpoints, index, request)?;
     let (shape, limit) = (endpoint.shape(), limit_at(endpoint, config));
     let (slots, table, kind) = (&shape.slots, &shape.table, *endpoint.body_content_type());
-    let given = extract(alloc, slots, table, request, kind, body, limit, budget);
+    let given = extract(
+        alloc, room, slots, table, request, kind, body, limit, budget,
+    );
     answer(alloc, endpoint, store, request, request_id, config, given)
 }
 
@@ -94,6 +99,7 @@ pub fn exchange(
 /// not, the body is any that fits the answer.
 pub fn exchange_from<S: FrameSource>(
     alloc: Global,
+    room: &mut Scratch,
     endpoints: &[ApiEndpoint],
     index: &PlaceIndex,
     store: &mut Store,
@@ -128,6 +134,8 @@ pub fn exchange_from<S: FrameSource>(
     let (endpoint, request_id) = reached(alloc, endpoints, index, request)?;
     let (shape, limit) = (endpoint.shape(), limit_at(endpoint, config));
     let (slots, table, kind) = (&shape.slots, &shape.table, *endpoint.body_content_type());
-    let given = extract_from(alloc, slots, table, request, kind, source, limit, budget);
+    let given = extract_from(
+        alloc, room, slots, table, request, kind, source, limit, budget,
+    );
     answer(alloc, endpoint, store, request, request_id, config, given)
 }

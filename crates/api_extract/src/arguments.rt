@@ -22,7 +22,7 @@ use crate::slots::{pushed, without_body};
 use handler_shapes::{ArgList, Slot};
 use http_bodies::Body;
 use request_parts::{ApiEndpointBodyContentType, RequestParts};
-use schema_values::List;
+use schema_values::{List, Scratch};
 use std::alloc::Global;
 use typed_values::DescTable;
 
@@ -31,9 +31,11 @@ use typed_values::DescTable;
 /// The slots of path, query and headers come first, and the body is not touched unless each of
 /// them is given its argument. A typed or raw body is read whole then: at most `limit` bytes, in at
 /// most `budget` frames. A slot for a stream takes the body as it stands, with this limit and this
-/// budget, and leaves an empty one.
+/// budget, and leaves an empty one. The room is what reading JSON needs; a caller keeps one from
+/// request to request.
 pub fn extract(
     alloc: Global,
+    room: &mut Scratch,
     slots: &List<Slot>,
     table: &DescTable,
     request: &RequestParts,
@@ -103,7 +105,7 @@ pub fn extract(
     match last {
         Some(slot) => pushed(
             args,
-            body_argument(alloc, table, request, reading, slot, body),
+            body_argument(alloc, room, table, request, reading, slot, body),
         ),
         None => Ok(args),
     }

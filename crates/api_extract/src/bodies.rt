@@ -19,7 +19,7 @@ use body_reading::{StreamingBody, gather_frames, read_whole};
 use handler_shapes::{Arg, Slot};
 use http_bodies::{Body, FrameSource};
 use request_parts::{ApiEndpointBodyContentType, RequestParts};
-use schema_values::List;
+use schema_values::{List, Scratch};
 use std::alloc::Global;
 use std::mem;
 use typed_values::DescTable;
@@ -35,6 +35,7 @@ pub(crate) struct Reading {
 /// The argument of the slot that takes the body.
 pub(crate) fn body_argument(
     alloc: Global,
+    room: &mut Scratch,
     table: &DescTable,
     request: &RequestParts,
     reading: Reading,
@@ -65,7 +66,7 @@ pub(crate) fn body_argument(
             let stream = StreamingBody::new(whole, reading.limit, reading.budget);
             Ok(Arg::Stream(stream))
         }
-        _ => whole_argument(alloc, table, request, reading, slot, body),
+        _ => whole_argument(alloc, room, table, request, reading, slot, body),
     }
 }
 
@@ -73,6 +74,7 @@ pub(crate) fn body_argument(
 /// gathered first.
 pub(crate) fn source_argument<S: FrameSource>(
     alloc: Global,
+    room: &mut Scratch,
     table: &DescTable,
     request: &RequestParts,
     reading: Reading,
@@ -102,13 +104,14 @@ pub(crate) fn source_argument<S: FrameSource>(
             let stream = StreamingBody::new(body, reading.limit, reading.budget);
             Ok(Arg::Stream(stream))
         }
-        _ => whole_argument(alloc, table, request, reading, slot, source),
+        _ => whole_argument(alloc, room, table, request, reading, slot, source),
     }
 }
 
 // The argument that is made of the whole content of a source.
 fn whole_argument<S: FrameSource>(
     alloc: Global,
+    room: &mut Scratch,
     table: &DescTable,
     request: &RequestParts,
     reading: Reading,
@@ -134,12 +137,21 @@ fn whole_argument<S: FrameSource>(
     ensures goes_on { GoesOn (S.state source.old) (S.state source.new) }
 {
     let content = read_whole(alloc, source, reading.limit, reading.budget)?;
-    content_argument(alloc, table, request, reading.content_type, slot, content)
+    content_argument(
+        alloc,
+        room,
+        table,
+        request,
+        reading.content_type,
+        slot,
+        content,
+    )
 }
 
 // The argument that a content gives a slot.
 fn content_argument(
     alloc: Global,
+    room: &mut Scratch,
     table: &DescTable,
     request: &RequestParts,
     content_type: ApiEndpointBodyContentType,
@@ -158,6 +170,7 @@ fn content_argument(
             let headers = request.info.headers();
             typed_argument(
                 alloc,
+                room,
                 table,
                 desc,
                 content_type,

@@ -17,7 +17,7 @@ use crate::slots::{pushed, without_body};
 use handler_shapes::{ArgList, Slot};
 use http_bodies::FrameSource;
 use request_parts::{ApiEndpointBodyContentType, RequestParts};
-use schema_values::List;
+use schema_values::{List, Scratch};
 use std::alloc::Global;
 use typed_values::DescTable;
 
@@ -26,6 +26,7 @@ use typed_values::DescTable;
 /// the budget, with a call that failed at its place.
 pub fn extract_from<S: FrameSource>(
     alloc: Global,
+    room: &mut Scratch,
     slots: &List<Slot>,
     table: &DescTable,
     request: &RequestParts,
@@ -77,7 +78,7 @@ pub fn extract_from<S: FrameSource>(
     match last {
         Some(slot) => pushed(
             args,
-            source_argument(alloc, table, request, reading, slot, source),
+            source_argument(alloc, room, table, request, reading, slot, source),
         ),
         None => Ok(args),
     }

@@ -21,7 +21,7 @@ use handler_shapes::Arg;
 use header_lists::HeaderList;
 use request_parts::ApiEndpointBodyContentType;
 use request_words::form_pairs;
-use schema_values::{Json, ReadError, Text};
+use schema_values::{Json, ReadError, Scratch, Text};
 use std::alloc::{AllocError, Global};
 use typed_values::{DecodeError, Desc, DescTable, FaultKind, Tree, decode_json};
 
@@ -29,6 +29,7 @@ use typed_values::{DecodeError, Desc, DescTable, FaultKind, Tree, decode_json};
 /// kind that the endpoint expects.
 pub(crate) fn typed_argument(
     alloc: Global,
+    room: &mut Scratch,
     table: &DescTable,
     desc: &Desc,
     expected: ApiEndpointBodyContentType,
@@ -42,7 +43,15 @@ pub(crate) fn typed_argument(
 {
     match request_media(alloc, headers)? {
         Some(media) => {
-            argument_by_media(alloc, table, desc, expected, media.as_slice(), content)
+            argument_by_media(
+                alloc,
+                room,
+                table,
+                desc,
+                expected,
+                media.as_slice(),
+                content,
+            )
         }
         None => refuse_plainly(alloc, FaultKind::ContentTypeBytes),
     }
@@ -50,6 +59,7 @@ pub(crate) fn typed_argument(
 
 fn argument_by_media(
     alloc: Global,
+    room: &mut Scratch,
     table: &DescTable,
     desc: &Desc,
     expected: ApiEndpointBodyContentType,
@@ -64,7 +74,7 @@ fn argument_by_media(
 {
     let media = media_text(media);
     match ApiEndpointBodyContentType::from_mime_type(media) {
-        Ok(given) => argument_by_kinds(alloc, table, desc, expected, given, content),
+        Ok(given) => argument_by_kinds(alloc, room, table, desc, expected, given, content),
         Err(_) => {
             let media = Text::from_str(alloc, media)?;
             refuse_plainly(alloc, FaultKind::ContentTypeUnsupported(media))
@@ -74,6 +84,7 @@ fn argument_by_media(
 
 fn argument_by_kinds(
     alloc: Global,
+    room: &mut Scratch,
     table: &DescTable,
     desc: &Desc,
     expected: ApiEndpointBodyContentType,
@@ -86,7 +97,7 @@ fn argument_by_kinds(
 {
     match (expected, given) {
         (ApiEndpointBodyContentType::Json, ApiEndpointBodyContentType::Json) => {
-            json_argument(alloc, table, desc, content)
+            json_argument(alloc, room, table, desc, content)
         }
         (ApiEndpointBodyContentType::UrlEncoded, ApiEndpointBodyContentType::UrlEncoded) => {
             form_argument(alloc, table, desc, content)
@@ -111,6 +122,7 @@ fn mismatch(
 
 fn json_argument(
     alloc: Global,
+    room: &mut Scratch,
     table: &DescTable,
     desc: &Desc,
     content: &[u8],
@@ -119,13 +131,14 @@ fn json_argument(
     requires desc { DescPasses table.now desc.now }
     ensures { IsGiven result (json_body table.now desc.now content.now) }
 {
-    let answer = decode_content(alloc, table, desc, content);
+    let answer = decode_content(alloc, room, table, desc, content);
     tree_argument(alloc, "unable to parse JSON body: ", answer)
 }
 
 // The tree that bytes denote as JSON.
 fn decode_content(
     alloc: Global,
+    room: &mut Scratch,
     table: &DescTable,
     desc: &Desc,
     content: &[u8],
@@ -134,7 +147,7 @@ fn decode_content(
     requires desc { DescPasses table.now desc.now }
     ensures { IsTold result (read_told table.now desc.now (value_read content.now)) }
 {
-    match Json::read(alloc, content) {
+    match Json::read_with(alloc, room, content) {
         Ok(json) => decode_json(alloc, table, desc, &json),
         Err(ReadError::Unreadable) => Err(whole_fault(alloc, FaultKind::NotJson)),
         Err(ReadError::OutOfMemory) => Err(DecodeError::OutOfMemory),

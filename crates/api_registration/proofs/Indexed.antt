@@ -7,20 +7,20 @@ use Rattle.path_templates.specs.Templates.{trimmed}
 use Rattle.path_templates.proofs.CallerLemmas.{index-kept, index-push}
 use Rattle.api_declarations.specs.Keys.{shape_keys, template_keys}
 use Rattle.api_declarations.specs.Values.{DeclarationValue}
-use Rattle.api_registration.specs.EndpointIndexes.{HasPlace, IsIndexed, Keeps, StandsAt}
+use Rattle.api_registration.specs.EndpointIndexes.{HasPlace, IsAsBefore, IsIndexed, StandsAt}
 use Rattle.api_registration.specs.declared.index.EndpointIndex.{EndpointIndex}
-use Rattle.api_registration.proofs.Covering.{covers_more, covers_still}
+use Rattle.api_registration.proofs.Covering.{Keeps, covers_more, covers_still, keeps_same}
 use Rattle.api_registration.proofs.StandIns.{definitions_more, definitions_still}
 
-module _ (es : List DeclarationValue) (old new : EndpointIndex) (is : IsIndexed es old) (shapes : Keeps old.shapes new.shapes) (definitions : Keeps old.definitions new.definitions) where
-  -- it stays theirs, where at each template the places stay, and at others none is lost
-  pub indexed_still : ((q : List ℕ) → places_at new.templates q ≡ places_at old.templates q) → IsIndexed es new
-  indexed_still same = record {
-    templates = index-kept (map template_keys es) old.templates new.templates same is.templates;
-    shapes = covers_still shape_keys es old.shapes new.shapes shapes is.shapes;
-    definitions = definitions_still es old.definitions new.definitions definitions is.definitions;
-  }
+-- it stays theirs, where it is as before
+pub indexed_still : (es : List DeclarationValue) (old new : EndpointIndex) → IsIndexed es old → IsAsBefore old new → IsIndexed es new
+indexed_still es old new is same = record {
+  templates = index-kept (map template_keys es) old.templates new.templates same.templates is.templates;
+  shapes = covers_still shape_keys es old.shapes new.shapes (keeps_same old.shapes new.shapes same.shapes) is.shapes;
+  definitions = definitions_still es old.definitions new.definitions (keeps_same old.definitions new.definitions same.definitions) is.definitions;
+}
 
+module _ (es : List DeclarationValue) (old new : EndpointIndex) (is : IsIndexed es old) (shapes : Keeps old.shapes new.shapes) (definitions : Keeps old.definitions new.definitions) where
   -- it is that of one more, whose place is added at its template, stands at its shape, and at the names of its definitions, unless others stand for it there
   pub indexed_more : (e : DeclarationValue) (place : ℕ) → place ≡ length es → ((q : List ℕ) → places_at new.templates q ≡ with_place (places_at old.templates) (trimmed e.path) place q)
       → StandsAt new.shapes (shape_keys e) place → (IsTrue e.visible → All (HasPlace es new.definitions place e) e.shape.table) → IsIndexed (es ++ e ∷ []) new

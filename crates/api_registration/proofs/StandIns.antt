@@ -1,6 +1,6 @@
 -- Endpoints that have a place at the names of their definitions, or another that stands for them there.
 use Rattle.std.proofs.Common.{inl, inr, ℕ, List, [], ◌∷◌, ◌++◌, length, map, sym, ◌∙◌, ap, subst}
-use Rattle.std.specs.Prelude.{All, IsTrue, option_map}
+use Rattle.std.specs.Prelude.{All, Contains, IsTrue, option_map}
 use Rattle.std.proofs.lemmas.List.Elements.{All-weaker}
 use Rattle.std.proofs.lemmas.Option.{slice_get-map, slice_get_within}
 use Rattle.descriptors.specs.declared.table.Definition.{Definition}
@@ -8,8 +8,8 @@ use Rattle.path_templates.specs.Places.{places_at}
 use Rattle.path_templates.specs.declared.place_index.PlaceIndex.{PlaceIndex}
 use Rattle.api_declarations.specs.Values.{DeclarationValue}
 use Rattle.endpoint_parameters.specs.Firsts.{IsSuchAtOneOf}
-use Rattle.api_registration.specs.EndpointIndexes.{CoversDefinitions, HasPlace, IsStoodFor, Keeps, StandsFor}
-use Rattle.api_registration.proofs.Covering.{before_or_last, stands_before}
+use Rattle.api_registration.specs.EndpointIndexes.{CoversDefinitions, HasPlace, IsNamedOrStoodFor, IsStoodFor, StandsFor}
+use Rattle.api_registration.proofs.Covering.{Keeps, before_or_last, stands_before}
 
 -- an endpoint that has its place stands for one behind all of them
 pub stood_for : {A : Type 0} (declared : A → DeclarationValue) (before : List A) (index : PlaceIndex) (e : DeclarationValue) (d : Definition)
@@ -32,6 +32,14 @@ module _ (es : List DeclarationValue) (old new : PlaceIndex) (kept : Keeps old n
   place_still place e d has = elim has [
     | inl at ↦ inl (kept d.name place at)
     | inr s ↦ inr record { earlier = s.earlier; before = s.before; stands = kept d.name s.earlier s.stands; other = s.other }
+  ]
+
+  -- it stands where the name is one at which it was added, or another stands for it there
+  pub place_or_stand_in : (place : ℕ) (e : DeclarationValue) (names : List (List ℕ)) → ((name : List ℕ) → Contains names name → Contains (places_at new name) place)
+      → (d : Definition) → IsNamedOrStoodFor es old place e names d → HasPlace es new place e d
+  place_or_stand_in place e names added d has = elim has [
+    | inl named ↦ inl (added d.name named)
+    | inr s ↦ place_still place e d (inr s)
   ]
 
   module _ (covers : CoversDefinitions es old) where

@@ -19,9 +19,15 @@ abbrev pub Covers : {A : Type 0} → (A → List (List ℕ)) → List A → Plac
 Covers {A} keys_of things index =
     (place : ℕ) (thing : A) → slice_get things place ≡ Some thing → StandsAt index (keys_of thing) place
 
--- each place that stood in an index at a key stands there still
-abbrev pub Keeps : PlaceIndex → PlaceIndex → Type 0
-Keeps old new = (key : List ℕ) (place : ℕ) → Contains (places_at old key) place → Contains (places_at new key) place
+-- each key has the places of before
+abbrev pub HasSamePlaces : PlaceIndex → PlaceIndex → Type 0
+HasSamePlaces old new = (key : List ℕ) → places_at new key ≡ places_at old key
+
+-- so it is at each template, at each shape, and at each name of a definition
+pub record IsAsBefore (old new : EndpointIndex) : Type 0 where
+  pub templates : HasSamePlaces old.templates new.templates
+  pub shapes : HasSamePlaces old.shapes new.shapes
+  pub definitions : HasSamePlaces old.definitions new.definitions
 
 -- documents show another endpoint in the versions of an endpoint, and it has the same definition
 pub record StandsFor (e : DeclarationValue) (d : Definition) (other : DeclarationValue) : Type 0 where
@@ -45,6 +51,10 @@ abbrev pub CoversDefinitions : List DeclarationValue → PlaceIndex → Type 0
 CoversDefinitions es index =
     (place : ℕ) (e : DeclarationValue) → slice_get es place ≡ Some e → IsTrue e.visible
     → All (HasPlace es index place e) e.shape.table
+
+-- the name of a definition is among some names, or an earlier endpoint stands there for the one at a place
+abbrev pub IsNamedOrStoodFor : List DeclarationValue → PlaceIndex → ℕ → DeclarationValue → List (List ℕ) → Definition → Type 0
+IsNamedOrStoodFor es index place e names d = Contains names d.name ⊎ IsStoodFor es index place e d
 
 -- An index is that of some endpoints: at each template it has the places of those that have it, and no others; at each
 -- shape those at least, and at the name of each definition those that others do not stand for.

@@ -1,19 +1,19 @@
 //! The index of endpoints: where they stand, by what is looked for among them.
-ghost use Rattle.std.specs.Prelude.{◌≡◌, ◌↔◌, ◌++◌, ◌∷◌, [], List as ListOf, ℕ, All, length, map};
-ghost use Rattle.std.specs.Prelude.{IsTrue, OnErr, OnOk, Some};
+ghost use Rattle.std.specs.Prelude.{◌≡◌, ◌↔◌, ◌++◌, ◌∷◌, [], List as ListOf, ℕ, All, Contains, length, map};
+ghost use Rattle.std.specs.Prelude.{IfOk, IsTrue, OnErr, OnOk, Some};
 ghost use Rattle.descriptors.specs.Definitions.{entry_of};
-ghost use Rattle.path_templates.specs.Places.{places_at, with_place};
+ghost use Rattle.path_templates.specs.Places.{places_at, with_place, with_places};
 ghost use Rattle.path_templates.specs.Templates.{trimmed};
 ghost use Rattle.api_declarations.specs.Keys.{shape_keys};
-ghost use Rattle.api_registration.specs.EndpointIndexes.{HasPlace, IsIndexed, Keeps, StandsAt};
-ghost use Rattle.api_registration.specs.EndpointIndexes.{StandsFor};
+ghost use Rattle.api_registration.specs.EndpointIndexes.{HasSamePlaces, IsAsBefore, IsIndexed};
+ghost use Rattle.api_registration.specs.EndpointIndexes.{IsNamedOrStoodFor, StandsFor};
 
 use crate::paths::path_shape;
 use api_declarations::{Declaration, Declared};
 use descriptors::{Definition, DescTable};
 use endpoint_parameters::{Condition, is_any};
 use path_templates::{PlaceIndex, without_trailing_slash};
-use schema_values::Text;
+use schema_values::{List, Text};
 use std::alloc::{AllocError, Global};
 
 /// The places of endpoints in a list: by their templates, by the shapes of these, and by the names
@@ -23,12 +23,11 @@ use std::alloc::{AllocError, Global};
 /// Whoever registers endpoints in a vector keeps the index beside it. `first_cause` is asked with
 /// both. Where it tells nothing, the vector makes room for one more by `reserve`, then `add` is
 /// called, and then the endpoint is put at the end of the vector, for which no memory is wanted any
-/// more. So want of memory leaves the endpoints as they were, and the index is theirs.
+/// more. So want of memory leaves the endpoints and the index as they were.
 #[derive(Drop)]
 pub struct EndpointIndex {
     templates: PlaceIndex,
-    /// By shapes. Each endpoint stands here that has the shape, but after want of memory others may
-    /// stand here too.
+    /// By shapes. Each endpoint stands here that has the shape.
     pub(crate) shapes: PlaceIndex,
     /// By names of definitions, likewise, but for endpoints that another stands for.
     pub(crate) definitions: PlaceIndex,
@@ -54,7 +53,8 @@ impl EndpointIndex {
     }
 
     /// Adds the place behind some endpoints for one more: then it is the index of these and the one
-    /// more. After want of memory it is an index of those before still.
+    /// more. After want of memory each key has the places of before, so it is the index of those
+    /// before still.
     pub fn add<E: Declared>(
         &mut self,
         alloc: Global,
@@ -64,47 +64,63 @@ impl EndpointIndex {
         requires { IsIndexed (map E.declared before.now) self.old }
         ensures added { OnOk result
             (IsIndexed (map E.declared (before.now ++ endpoint.now ∷ [])) self.new) }
+        ensures err { OnErr result (IsAsBefore self.old self.new) }
         ensures kept { OnErr result (IsIndexed (map E.declared before.now) self.new) }
     {
         let endpoint = endpoint.declaration();
-        add_definitions(alloc, &mut self.definitions, before, &endpoint)?;
-        add_shape(alloc, &mut self.shapes, before.len(), &endpoint)?;
-        add_template(alloc, &mut self.templates, before.len(), &endpoint)
+        let names = names_without_stand_in(alloc, &self.definitions, before, &endpoint)?;
+        let keys = names.as_slice();
+        self.definitions.add_all(alloc, keys, before.len())?;
+        match add_path(
+            alloc,
+            &mut self.shapes,
+            &mut self.templates,
+            before.len(),
+            &endpoint,
+        ) {
+            Ok(()) => Ok(()),
+            Err(error) => {
+                self.definitions.take_back(keys);
+                Err(error)
+            }
+        }
     }
 }
 
-// Adds the place behind some endpoints at the name of each definition of one more that documents
-// show, unless another stands for it there.
-fn add_definitions<E: Declared>(
+// The names of the definitions of an endpoint that documents show, but for those at which one of some
+// others stands for it.
+fn names_without_stand_in<E: Declared>(
     alloc: Global,
-    index: &mut PlaceIndex,
+    index: &PlaceIndex,
     before: &[E],
     endpoint: &Declaration<'_>,
-) -> Result<(), AllocError>
-    ensures kept { Keeps index.old index.new }
-    ensures added { OnOk result (IsTrue endpoint.now.visible
-        → All (HasPlace (map E.declared before.now) index.new (length before.now) endpoint.now)
-        endpoint.now.shape.table) }
+) -> Result<List<Text>, AllocError>
+    ensures { IfOk result (λ names. IsTrue endpoint.now.visible
+        → All (IsNamedOrStoodFor (map E.declared before.now) index.now (length before.now)
+        endpoint.now names) endpoint.now.shape.table) }
 {
+    let mut names = List::new(alloc);
     if !endpoint.visible {
-        return Ok(());
+        return Ok(names);
     }
     for definition in endpoint.shape.table.definitions() {
-        add_definition(alloc, index, before, endpoint, definition)?;
+        push_name(alloc, &mut names, index, before, endpoint, definition)?;
     }
-    Ok(())
+    Ok(names)
 }
 
-fn add_definition<E: Declared>(
+// Puts the name of a definition behind others, unless one of some endpoints stands for this one there.
+fn push_name<E: Declared>(
     alloc: Global,
-    index: &mut PlaceIndex,
+    names: &mut List<Text>,
+    index: &PlaceIndex,
     before: &[E],
     endpoint: &Declaration<'_>,
     definition: &Definition,
 ) -> Result<(), AllocError>
-    ensures kept { Keeps index.old index.new }
-    ensures added { OnOk result (HasPlace (map E.declared before.now) index.new
-        (length before.now) endpoint.now definition.now) }
+    ensures kept { OnOk result ((name : ListOf ℕ) → Contains names.old name → Contains names.new name) }
+    ensures named { OnOk result (IsNamedOrStoodFor (map E.declared before.now) index.now
+        (length before.now) endpoint.now names.new definition.now) }
 {
     let stand_in = StandIn {
         endpoint,
@@ -113,7 +129,8 @@ fn add_definition<E: Declared>(
     if is_any(&stand_in, before, index.at(&definition.name)) {
         return Ok(());
     }
-    index.add(alloc, definition.name.copy(alloc)?, before.len())
+    let name = definition.name.copy(alloc)?;
+    names.push(name)
 }
 
 /// Another endpoint stands for an endpoint at a definition.
@@ -152,19 +169,44 @@ fn has_definition(table: &DescTable, definition: &Definition) -> bool
     }
 }
 
-// Adds a place at the shape of an endpoint's path, if it is a template.
-fn add_shape(
+// Adds a place at the shape of an endpoint's path, if it is a template, and at its template.
+fn add_path(
     alloc: Global,
-    index: &mut PlaceIndex,
+    shapes: &mut PlaceIndex,
+    templates: &mut PlaceIndex,
     place: usize,
     endpoint: &Declaration<'_>,
 ) -> Result<(), AllocError>
-    ensures kept { Keeps index.old index.new }
-    ensures added { OnOk result (StandsAt index.new (shape_keys endpoint.now) place) }
+    ensures shapes { OnOk result ((key : ListOf ℕ) → places_at shapes.new key
+        ≡ with_places (places_at shapes.old) (shape_keys endpoint.now) place key) }
+    ensures templates { OnOk result ((key : ListOf ℕ) → places_at templates.new key
+        ≡ with_place (places_at templates.old) (trimmed endpoint.now.path) place key) }
+    ensures err { OnErr result
+        (HasSamePlaces shapes.old shapes.new × HasSamePlaces templates.old templates.new) }
 {
+    let shape = shape_of(alloc, endpoint)?;
+    let keys = shape.as_slice();
+    shapes.add_all(alloc, keys, place)?;
+    match add_template(alloc, templates, place, endpoint) {
+        Ok(()) => Ok(()),
+        Err(error) => {
+            shapes.take_back(keys);
+            Err(error)
+        }
+    }
+}
+
+// The shape of an endpoint's path alone, or nothing where it is no template.
+fn shape_of(alloc: Global, endpoint: &Declaration<'_>) -> Result<List<Text>, AllocError>
+    ensures { IfOk result (λ keys. keys ≡ shape_keys endpoint.now) }
+{
+    let mut keys = List::new(alloc);
     match path_shape(alloc, endpoint.path)? {
-        Some(shape) => index.add(alloc, shape, place),
-        None => Ok(()),
+        Some(shape) => {
+            keys.push(shape)?;
+            Ok(keys)
+        }
+        None => Ok(keys),
     }
 }
 

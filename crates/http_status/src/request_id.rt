@@ -1,7 +1,8 @@
 //! Ids of requests.
-ghost use Rattle.std.specs.Prelude.{◌≡◌, ◌↔◌, IfOk, IsErrOf};
+ghost use Rattle.std.specs.Prelude.{◌≡◌, ◌↔◌, IfOk, IsErrOf, IsTrue};
 ghost use Rattle.std.specs.Str.{chars, encode_utf8_all};
 ghost use Rattle.http_header.specs.FieldValue.{IsFieldValue, plain_value};
+ghost use Rattle.http_header.specs.Token.{is_value_byte};
 
 use http_header::{HeaderValue, HeaderValueError};
 use schema_values::Text;
@@ -14,19 +15,18 @@ use thiserror::Error;
 #[derive(Debug, Drop)]
 pub struct RequestId {
     text: Text,
-    value: HeaderValue,
 }
 
 impl Model for RequestId {
-    ghost use Rattle.std.specs.Prelude.{◌≡◌, ℕ, List};
+    ghost use Rattle.std.specs.Prelude.{ℕ, List};
     ghost use Rattle.std.specs.Str.{encode_utf8_all};
-    ghost use Rattle.http_header.specs.FieldValue.{plain_value};
+    ghost use Rattle.http_header.specs.FieldValue.{IsFieldValue};
 
     ghost Value = { List ℕ };
 
     ghost view = { λ id. id.text };
 
-    ghost invariant = { λ id. id.value ≡ plain_value (encode_utf8_all id.text) };
+    ghost invariant = { λ id. IsFieldValue (encode_utf8_all id.text) };
 }
 
 /// Why a text is no request id.
@@ -65,19 +65,18 @@ impl From<AllocError> for RequestIdError {
 }
 
 impl RequestId {
-    /// The id of a text. `BadRequestId` exactly where a header field may not hold the text.
+    /// The id of a text. `BadRequestId` exactly where a header field may not hold the text, and before
+    /// memory is asked for.
     pub fn new(alloc: Global, text: &str) -> Result<RequestId, RequestIdError>
         ensures ok { IfOk result (λ id. id ≡ chars text.now) }
         ensures valid { ¬ IsErrOf result RequestIdError.BadRequestId → IsFieldValue text.now }
         ensures bad { IsErrOf result RequestIdError.BadRequestId ↔ ¬ (IsFieldValue text.now) }
     {
-        let value = match HeaderValue::from_str(alloc, text) {
-            Ok(value) => value,
-            Err(HeaderValueError::Invalid) => return Err(RequestIdError::BadRequestId),
-            Err(HeaderValueError::OutOfMemory) => return Err(RequestIdError::OutOfMemory),
-        };
+        if !is_field_value(text.as_bytes()) {
+            return Err(RequestIdError::BadRequestId);
+        }
         let text = Text::from_str(alloc, text)?;
-        Ok(RequestId { text, value })
+        Ok(RequestId { text })
     }
 
     /// The text that it was made of.
@@ -88,11 +87,15 @@ impl RequestId {
         self.text.as_str()
     }
 
-    /// The id as the value of a header field.
-    pub fn to_value(&self) -> Result<HeaderValue, AllocError>
+    /// The id as the value of a header field. Fails only for want of memory.
+    pub fn to_value(&self, alloc: Global) -> Result<HeaderValue, AllocError>
         ensures { IfOk result (λ value. value ≡ plain_value (encode_utf8_all self.now)) }
     {
-        self.value.clone()
+        match HeaderValue::from_str(alloc, self.text.as_str()) {
+            Ok(value) => Ok(value),
+            Err(HeaderValueError::Invalid) => unreachable!(),
+            Err(HeaderValueError::OutOfMemory) => Err(AllocError),
+        }
     }
 
     /// An id equal to this one. Fails only for want of memory.
@@ -101,7 +104,24 @@ impl RequestId {
     {
         Ok(RequestId {
             text: self.text.copy(alloc)?,
-            value: self.value.clone()?,
         })
     }
+}
+
+// Whether the value of a header field may hold some bytes (RFC 9110, section 5.5).
+fn is_field_value(bytes: &[u8]) -> bool
+    ensures { IsTrue result ↔ IsFieldValue bytes.now }
+{
+    for byte in bytes {
+        if !is_value_byte(*byte) {
+            return false;
+        }
+    }
+    true
+}
+
+fn is_value_byte(byte: u8) -> bool
+    ensures { result ≡ is_value_byte byte }
+{
+    byte == b'\t' || (byte >= 0x20 && byte != 0x7f)
 }

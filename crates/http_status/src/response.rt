@@ -66,7 +66,7 @@ fn lines(
 ) -> Result<HeaderList, AllocError>
     ensures { IfOk result (λ lines. lines ≡ lines_behind own request_id.now) }
 {
-    let id = request_id.to_value()?;
+    let id = request_id.to_value(alloc)?;
     let mut lines = own.unwrap_or(HeaderList::new(alloc));
     lines.append(CONTENT_TYPE, HeaderValue::from_static(CONTENT_TYPE_JSON))?;
     lines.append(HeaderName::from_static(HEADER_REQUEST_ID), id)?;

@@ -28,6 +28,19 @@ pub enum NextLine {
 // The most bytes that are asked for at once.
 const PIECE: usize = 4096;
 
+// Room that a line begins with, so that a short one does not grow.
+const FIRST_ROOM: usize = 256;
+
+// An empty line, with that room where there is memory for it.
+fn empty_line(alloc: Global) -> Vec<u8>
+    ensures { result.items ≡ [] }
+{
+    match Vec::with_capacity(alloc, FIRST_ROOM) {
+        Ok(line) => line,
+        Err(_) => Vec::new(alloc),
+    }
+}
+
 /// Reads lines from a source in pieces, and handles them byte by byte.
 #[derive(Drop)]
 pub struct LineReader {
@@ -120,7 +133,7 @@ impl LineReader {
         ensures failed { result ≡ NextLine.ReadFault → HasRisen (S.faults source.old) (S.faults source.new) }
         ensures counts { result ≢ NextLine.ReadFault → S.faults source.new ≡ S.faults source.old }
     {
-        let mut line = Vec::new(alloc);
+        let mut line = empty_line(alloc);
         'bytes: loop {
             match self.peek(source) {
                 Err(_) => return NextLine::ReadFault,

@@ -1,12 +1,12 @@
 -- An index of places by keys: one more place, and the first thing that is found by it.
-use Rattle.std.proofs.Common.{◌≡◌, ℕ, ◌+◌, ◌<◌, drop, get_or, add-one, drop-cons, Bool, true, false, List, [], ◌∷◌, ◌++◌, length, map, Option, Some, None, refl, sym, ap, subst, ◌∙◌, append_assoc, length-append, inl, inr, arith}
+use Rattle.std.proofs.Common.{◌≡◌, ℕ, ◌+◌, ◌<◌, ◌-◌, drop, take, get_or, add-one, drop-cons, Bool, true, false, List, [], ◌∷◌, ◌++◌, length, map, Option, Some, None, refl, sym, ap, subst, ◌∙◌, append_assoc, length-append, inl, inr, arith}
 use Rattle.std.specs.Prelude.{bytes_eq, find, if◌then◌else◌, unwrap_or}
 use Rattle.std.specs.BTreeMap.{is_at}
 use Rattle.std.specs.List.{list_any, slice_get}
 use Rattle.std.proofs.lemmas.Bool.{cases_Bool}
 use Rattle.std.proofs.lemmas.Map.Text.{is_eq-slice_cmp}
 use Rattle.std.proofs.lemmas.Slice.Eq.{bytes_eq-Decides}
-use Rattle.path_templates.specs.Places.{IsIndexOf, first_at, found_or, places_at, places_from, text_order, with_place}
+use Rattle.path_templates.specs.Places.{IsIndexOf, first_at, found_or, places_at, places_from, text_order, with_place, without_last}
 use Rattle.path_templates.specs.declared.place_index.PlaceIndex.{PlaceIndex}
 
 -- what stands at each key, where something was put at one
@@ -21,6 +21,15 @@ module _ (old new : List ℕ → Option (List ℕ)) (key after : List ℕ)
     | inr other ↦ rw (updates q, is_eq-slice_cmp key q, other) refl
   ]
 
+  pub place_taken : after ≡ take (length (unwrap_or (old key) []) - 1) (unwrap_or (old key) [])
+      → (q : List ℕ) → unwrap_or (new q) [] ≡ without_last (λ r. unwrap_or (old r) []) key q
+  place_taken is q = elim (cases_Bool (bytes_eq key q)) [
+    | inl here ↦
+        let same = (bytes_eq-Decides key q).0 here in
+        rw (updates q, is_eq-slice_cmp key q, here) (is ∙ ap (λ r. take (length (unwrap_or (old r) []) - 1) (unwrap_or (old r) [])) same)
+    | inr other ↦ rw (updates q, is_eq-slice_cmp key q, other) refl
+  ]
+
   pub place_kept : Some after ≡ old key → (q : List ℕ) → unwrap_or (new q) [] ≡ unwrap_or (old q) []
   place_kept is q = elim (cases_Bool (bytes_eq key q)) [
     | inl here ↦
@@ -28,6 +37,15 @@ module _ (old new : List ℕ → Option (List ℕ)) (key after : List ℕ)
         rw (updates q, is_eq-slice_cmp key q, here) (ap (λ found. unwrap_or found []) (is ∙ ap old same))
     | inr other ↦ rw (updates q, is_eq-slice_cmp key q, other) refl
   ]
+
+-- nothing is taken where nothing stands
+pub nothing_taken : (old : List ℕ → Option (List ℕ)) (key : List ℕ) → None ≡ old key → (q : List ℕ) → unwrap_or (old q) [] ≡ without_last (λ r. unwrap_or (old r) []) key q
+nothing_taken old key is q = elim (cases_Bool (bytes_eq key q)) [
+  | inl here ↦
+      let none : old q ≡ None = sym (is ∙ ap old ((bytes_eq-Decides key q).0 here)) in
+      rw (here, none) refl
+  | inr other ↦ rw other refl
+]
 
 -- whether one of some keys is a given one
 abbrev has_key : List ℕ → List (List ℕ) → Bool

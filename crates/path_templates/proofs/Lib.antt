@@ -6,4 +6,5 @@ pub mod Arranged
 pub mod Values
 pub mod Spelled
 pub mod IndexLemmas
+pub mod TakenBack
 pub mod CallerLemmas

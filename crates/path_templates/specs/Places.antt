@@ -1,6 +1,6 @@
 -- The places of things in a list, by their keys.
-use Rattle.std.specs.Prelude.{◌≡◌, ◌++◌, ◌+◌, ℕ, Bool, List, [], ◌∷◌, if◌then◌else◌, Option, Some, None, unwrap_or}
-use Rattle.std.specs.Prelude.{bytes_eq}
+use Rattle.std.specs.Prelude.{◌≡◌, ◌++◌, ◌+◌, ◌-◌, ℕ, Bool, List, [], ◌∷◌, if◌then◌else◌, Option, Some, None, unwrap_or}
+use Rattle.std.specs.Prelude.{bytes_eq, length, take}
 use Rattle.std.specs.declared.cmp.Ordering.{Ordering}
 use Rattle.std.specs.BTreeMap.{get}
 use Rattle.std.specs.Cmp.Lexicographic.{slice_cmp}
@@ -19,6 +19,15 @@ places_at index key = unwrap_or (get text_order index.places key) []
 -- one more place at a key
 abbrev pub with_place : (List ℕ → List ℕ) → List ℕ → ℕ → List ℕ → List ℕ
 with_place places key place q = if bytes_eq key q then places q ++ place ∷ [] else places q
+
+-- one more place at each of some keys
+abbrev pub with_places : (List ℕ → List ℕ) → List (List ℕ) → ℕ → List ℕ → List ℕ
+with_places places [] place q = places q
+with_places places (key ∷ keys) place q = with_place (with_places places keys place) key place q
+
+-- the last place at a key away
+abbrev pub without_last : (List ℕ → List ℕ) → List ℕ → List ℕ → List ℕ
+without_last places key q = if bytes_eq key q then take (length (places q) - 1) (places q) else places q
 
 -- one more place before others, if it has a key
 abbrev pub if_keyed : List ℕ → List (List ℕ) → ℕ → List ℕ → List ℕ

@@ -1,6 +1,6 @@
 //! The places of things in a list, by their keys.
-ghost use Rattle.std.specs.Prelude.{◌≡◌, [], OnErr, OnOk, List as ListOf, ℕ};
-ghost use Rattle.path_templates.specs.Places.{places_at, with_place};
+ghost use Rattle.std.specs.Prelude.{◌≡◌, ◌-◌, [], OnErr, OnOk, List as ListOf, ℕ, length, take};
+ghost use Rattle.path_templates.specs.Places.{places_at, with_place, with_places, without_last};
 
 use schema_values::{List, Text};
 use std::alloc::{AllocError, Global};
@@ -50,4 +50,65 @@ impl PlaceIndex {
             }
         }
     }
+
+    /// Adds a place at each of some keys. After want of memory each key has the places of before.
+    pub fn add_all(&mut self, alloc: Global, keys: &[Text], place: usize) -> Result<(), AllocError>
+        ensures ok { OnOk result ((q : ListOf ℕ)
+            → places_at self.new q ≡ with_places (places_at self.old) keys.now place q) }
+        ensures err { OnErr result ((q : ListOf ℕ)
+            → places_at self.new q ≡ places_at self.old q) }
+    {
+        for (index, key) in keys.iter().enumerate() {
+            match self.add_copy(alloc, key, place) {
+                Ok(()) => (),
+                Err(error) => {
+                    self.take_back(&keys[..index]);
+                    return Err(error);
+                }
+            }
+        }
+        Ok(())
+    }
+
+    /// Takes back the place that was added last at each of some keys.
+    pub fn take_back(&mut self, keys: &[Text])
+        ensures { (places : ListOf ℕ → ListOf ℕ) (place : ℕ)
+            → ((q : ListOf ℕ) → places_at self.old q ≡ with_places places keys.now place q)
+            → (q : ListOf ℕ) → places_at self.new q ≡ places q }
+    {
+        let mut rest = keys;
+        while let Some((key, others)) = rest.split_first() {
+            self.take_last(key);
+            rest = others;
+        }
+    }
+
+    // Adds a place at a copy of a key.
+    fn add_copy(&mut self, alloc: Global, key: &Text, place: usize) -> Result<(), AllocError>
+        ensures ok { OnOk result ((q : ListOf ℕ)
+            → places_at self.new q ≡ with_place (places_at self.old) key.now place q) }
+        ensures err { OnErr result ((q : ListOf ℕ)
+            → places_at self.new q ≡ places_at self.old q) }
+    {
+        let key = key.copy(alloc)?;
+        self.add(alloc, key, place)
+    }
+
+    // Takes the last place at a key away, if there is one.
+    fn take_last(&mut self, key: &Text)
+        ensures { (q : ListOf ℕ)
+            → places_at self.new q ≡ without_last (places_at self.old) key.now q }
+    {
+        match self.places.get_mut(key) {
+            Some(places) => drop_last(places),
+            None => (),
+        }
+    }
+}
+
+fn drop_last(places: &mut List<usize>)
+    ensures { places.new ≡ take (length places.old - 1) places.old }
+{
+    let count = places.len().saturating_sub(1);
+    places.truncate(count);
 }

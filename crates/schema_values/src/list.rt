@@ -1,5 +1,5 @@
 ghost use Rattle.std.specs.List.{insert};
-ghost use Rattle.std.specs.Prelude.{◌≡◌, ◌≤◌, ◌↔◌, [], ◌∷◌, ◌++◌, length, slice_get};
+ghost use Rattle.std.specs.Prelude.{◌≡◌, ◌≤◌, ◌↔◌, [], ◌∷◌, ◌++◌, length, slice_get, take};
 ghost use Rattle.std.specs.Prelude.{IfOk, IsTrue, OnOk, OnErr};
 ghost use Rattle.std.specs.Option.{option_copied};
 
@@ -32,6 +32,16 @@ impl<T> List<T> {
         List {
             items: Vec::new(alloc),
         }
+    }
+
+    /// An empty list, for which room for so many items is asked. Its clause says that it is empty, and not
+    /// how much room it has. Fails only for want of memory.
+    pub fn with_capacity(alloc: Global, items: usize) -> Result<List<T>, AllocError>
+        ensures { IfOk result (λ list. list ≡ []) }
+    {
+        Ok(List {
+            items: Vec::with_capacity(alloc, items)?,
+        })
     }
 
     /// The items of a `Vec`, which is kept as it is.
@@ -108,6 +118,13 @@ impl<T: Drop> List<T> {
     {
         self.items.insert(index, item)?;
         Ok(())
+    }
+
+    /// Keeps so many items from the first on, and drops the others.
+    pub fn truncate(&mut self, count: usize)
+        ensures { self.new ≡ take count self.old }
+    {
+        self.items.truncate(count);
     }
 }
 

@@ -12,6 +12,9 @@ use crate::quoting::write_quoted;
 use crate::text::Text;
 use std::alloc::{AllocError, Global};
 
+// Room that a text begins with, so that a short one does not grow.
+const FIRST_ROOM: usize = 256;
+
 impl Json {
     /// The value's text with no white space.
     pub fn compact(&self, alloc: Global) -> Result<Text, AllocError>
@@ -19,7 +22,7 @@ impl Json {
         ensures reads_back { IfOk result (λ text. IsSound self.now → depth self.now ≤ 127
             → Reads (encode_utf8_all text) (sorted_members self.now)) }
     {
-        let mut out = Text::new(alloc);
+        let mut out = Text::with_capacity(alloc, FIRST_ROOM)?;
         self.write_compact(alloc, &mut out)?;
         Ok(out)
     }

@@ -272,7 +272,7 @@ impl Decoder<'_> {
         ensures { Tells result (as_tree Tree.Fields
             (told_fields self.now.table.now self.now.whole.now members.now.items.now fields.now)) }
     {
-        let mut trees = List::new(alloc);
+        let mut trees = List::with_capacity(alloc, fields.len())?;
         for field in fields {
             push(&mut trees, self.decode_field(alloc, field, members))?;
         }

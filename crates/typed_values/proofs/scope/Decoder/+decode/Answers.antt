@@ -215,7 +215,7 @@ decode_fields-returns-in_err-push t c =
     let fs = c.args.fields.now in
     let f : ℕ → Field → Told = λ i x. told_field c.args.self.now.table.now c.args.self.now.whole.now c.args.members.now.items.now x in
     let bad = not_pushed _ c.in_err-push.field-0.0 _ _ _ c.in_err-push.ensures c.decode_field.ensures in
-    let p = err_from_is_err_and c.from_residual.result c.from_residual.ensures.1 in
+    let p = err_from_is_err_and c.from_residual-in_err-push.result c.from_residual-in_err-push.ensures.1 in
     rw (p.1, p.2) (all_err f (all_told f 0 fs) fs c.loop-field.field-index c.loop-field.trees c.loop-field.invariant (as_tree Parts) (λ k. refl) c.field-item.result c.in_err-push.field-0.0 (omega arith) c.field-item.is bad)
 
 pub decode_fields-loop-field-preserved : goal.decode_fields-loop-field-preserved
