@@ -47,7 +47,7 @@ pub fn encode_error(
 fn own_lines(alloc: Global, request_id: &RequestId) -> Result<HeaderList, AllocError>
     ensures { IfOk result (λ lines. lines ≡ json_line ∷ id_line request_id.now ∷ []) }
 {
-    let id = request_id.to_value()?;
+    let id = request_id.to_value(alloc)?;
     let mut lines = HeaderList::new(alloc);
     lines.append(CONTENT_TYPE, HeaderValue::from_static(CONTENT_TYPE_JSON))?;
     lines.append(HeaderName::from_static(HEADER_REQUEST_ID), id)?;

@@ -1,9 +1,6 @@
-pub mod WordLemmas
 pub mod VersionErrors
-pub mod MemberLemmas
-pub mod RequestLemmas
-pub mod ReplyLemmas
+pub mod WordLemmas
+pub mod ListLemmas
 pub mod ReplyTexts
-pub mod AnswerLemmas
+pub mod BodyReading
 pub mod RunLemmas
-pub mod SampleLemmas

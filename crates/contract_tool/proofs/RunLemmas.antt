@@ -1,39 +1,81 @@
--- How a run ends, by how its session ends.
-use Rattle.std.proofs.Common.{◌≡◌, ◌≢◌, ◌+◌, ℕ, List, [], Option, take, ◌⊎◌, Result, Err, sym, ap, ◌∙◌, inl, inr, subst, refl}
+-- How a run ends, by how its session or its document ends.
+use Rattle.std.proofs.Common.{◌≡◌, ◌+◌, ◌++◌, ℕ, List, [], ◌∷◌, append-nil, Option, None, Ok, Result, Err, Some, String}
+use Rattle.std.proofs.Common.{Global, codes, take, string_bytes, ◌⊎◌, inl, inr, refl, sym, ap, subst, ◌∙◌}
+use Rattle.std.proofs.Common.{option_and_then}
+use Rattle.std.specs.Io.KnownBytes.{Appends}
+use Rattle.schema_values.specs.Causes.{HasRisen}
+use Rattle.schema_values.specs.Sound.{IsSound}
+use Rattle.schema_values.specs.declared.json_value.Json.{Json}
+use Rattle.openapi_values.specs.declared.info.Info.{Info}
+use Rattle.openapi_values.specs.Admits.{pagination_of}
+use Rattle.openapi_values.proofs.Stands.{pages-stand}
+use Rattle.semver.specs.Identifiers.{parts_of}
+use Rattle.semver.specs.Parse.{Parts, version_parts}
 use Rattle.line_session.specs.Lines.{HasLongLine, IsTooMuch, PassesNoLimit}
-use Rattle.line_session.specs.Session.{IsAnswered, NeverLost}
-use Rattle.line_session.specs.Status.{IsServed}
 use Rattle.line_session.specs.declared.ends.Sink.{Ghosts as SinkGhosts}
 use Rattle.line_session.specs.declared.ends.Source.{Ghosts as SourceGhosts}
 use Rattle.line_session.specs.declared.serving.SessionEnd.{SessionEnd}
 use Rattle.line_session.specs.declared.serving.SessionEnd.TheVariants as ended
-use Rattle.api_description.specs.declared.api_extract.request.RequestParts.{RequestParts}
-use Rattle.api_description.specs.declared.endpoint.ApiEndpoint.{ApiEndpoint}
-use Rattle.api_description.specs.declared.exchange.Exchange.{Exchange}
-use Rattle.api_description.specs.declared.exchange.ExchangeError.{ExchangeError}
-use Rattle.api_description.specs.declared.exchange.ExchangeError.TheVariants.{OutOfMemory as NoMemory}
-use Rattle.api_description.specs.Agreement.{FollowsDocument, IsAgreed, IsListed}
-use Rattle.api_description.specs.Documents.{document_of}
-use Rattle.api_description.specs.Endpoints.{Meanings}
-use Rattle.api_description.specs.Exchanges.{Answers}
-use Rattle.api_description.specs.Registering.{AreAccepted}
-use Rattle.api_description.specs.Stores.{Tables}
-use Rattle.schema_values.specs.declared.json_value.Json.{Json}
-use Rattle.schema_values.specs.Sound.{IsSound}
-use Rattle.std.specs.declared.alloc.Global.{Global}
-use Rattle.std.specs.declared.string.String.{String}
-use Rattle.semver.specs.Identifiers.{parts_of}
-use Rattle.semver.specs.Parse.{Parts}
-use Rattle.contract_tool.specs.declared.config.ToolStatus.{ToolStatus}
-use Rattle.contract_tool.specs.declared.config.ToolStatus.TheVariants.{Done, Usage, Refused, ReadFault, WriteFault, LineTooLong, TooMuchInput, OutOfMemory}
+use Rattle.http_bodies.specs.declared.frame.Frame.{Frame}
+use Rattle.tag_config.specs.Configurations.{Configuration}
+use Rattle.tree_store.specs.Tables.{Tables}
+use Rattle.request_parts.specs.Requests.{Request}
+use Rattle.api_declarations.specs.Values.{DeclarationValue}
+use Rattle.api_registration.specs.Accepted.{AreAccepted}
+use Rattle.api_documents.specs.Documents.{document_of, errors_of}
+use Rattle.api_documents.specs.Listed.{listed}
+use Rattle.api_documents.specs.Lists.{IsListed, Lists, ListsWritten}
+use Rattle.api_documents.specs.Operations.{operation_of}
+use Rattle.api_agreement.specs.Agreement.{Agrees}
+use Rattle.api_endpoints.specs.declared.endpoint.ApiEndpoint.{ApiEndpoint}
+use Rattle.api_endpoints.specs.Endpoints.{Meanings, declarations_of}
+use Rattle.api_exchanges.specs.Denoting.{IsHandledAsDenoted, IsHandledOrRefused, IsOutcomeCutShort}
+use Rattle.api_exchanges.specs.Exchanges.{Answers, Asked}
+use Rattle.api_exchanges.specs.declared.outcome.Exchange.{Exchange}
+use Rattle.api_exchanges.specs.declared.outcome.ExchangeError.{ExchangeError}
+use Rattle.api_exchanges.specs.declared.outcome.ExchangeError.TheVariants as failed
+use Rattle.api_descriptions.specs.Agreement.{FollowsDocument, IsValidFor}
+use Rattle.api_descriptions.specs.Written.{document_at}
 use Rattle.contract_tool.specs.declared.config.ToolConfig.{ToolConfig}
-use Rattle.contract_tool.specs.LineAnswers.{LineAnswers, LineIsLost}
+use Rattle.contract_tool.specs.declared.config.ToolStatus.{ToolStatus}
+use Rattle.contract_tool.specs.declared.config.ToolStatus.TheVariants.{Done, Usage, Refused, ReadFault, WriteFault}
+use Rattle.contract_tool.specs.declared.config.ToolStatus.TheVariants.{LineTooLong, TooMuchInput, OutOfMemory}
+use Rattle.contract_tool.specs.Ends.{CallsFor, DocumentEnds, IsServedSo, Outside, SessionEnds}
+use Rattle.contract_tool.specs.LineAnswers.{IsExchanged, Service, asked_in, asked_with, service}
 use Rattle.contract_tool.specs.ReplyLines.{Tells}
-use Rattle.contract_tool.specs.Words.{AskForSession}
-use Rattle.contract_tool.specs.Ends.{CallsFor, FailedToRead, FailedToWrite, IsEnded, IsSessionUpTo, Outside}
-use Rattle.contract_tool.specs.Sessions.{IsOpened, status_of}
-use Rattle.line_session.proofs.CallerLemmas.{served-kept}
+use Rattle.contract_tool.specs.Sessions.{IsDocumented, IsOpened, IsValidTo, info_at, status_of, written_document}
+use Rattle.contract_tool.specs.declared.words.Command.{Command}
+use Rattle.contract_tool.specs.declared.words.Command.TheVariants as commands
+use Rattle.contract_tool.specs.Words.{AskFor, AskForDocument, AskForSession, IsCommand, IsCommandOf}
 
+-- ---- words
+
+-- a command asks for one version
+pub asked_once : (command other : List ℕ) (words : List (String Global)) (one two : Parts) → AskFor command words one
+    → AskFor other words two → (one ≡ two) × (command ≡ other)
+asked_once command other words one two a b =
+    let lists : a.first ∷ a.second ∷ [] ≡ b.first ∷ b.second ∷ [] = sym a.two ∙ b.two in
+    let firsts : a.first ≡ b.first = cc lists in
+    let seconds : a.second ≡ b.second = cc lists in
+    let same : Ok one ≡ Ok two =
+    sym a.read ∙ ap (λ (w : String Global). version_parts (string_bytes w)) seconds ∙ b.read in
+    (cc same, sym a.asked ∙ ap string_bytes firsts ∙ b.asked)
+
+-- no words ask for both
+pub not_both : (words : List (String Global)) (one two : Parts) → AskForSession words one → AskForDocument words two → ⊥
+not_both words one two a b =
+    let same : codes "session" ≡ codes "document" =
+    (asked_once (codes "session") (codes "document") words one two a b).1 in
+    cc same
+
+-- each is a command
+pub command_is : (words : List (String Global)) (command : Command) → IsCommandOf words command → IsCommand words
+command_is words (commands.Session version) asked = (parts_of version, inl asked)
+command_is words (commands.Document version) asked = (parts_of version, inr asked)
+
+-- ---- ends of sessions
+
+-- the end of a session that ends a run so
 abbrev pub end_of : ToolStatus → SessionEnd
 end_of Done = ended.Done
 end_of Usage = ended.OutOfMemory
@@ -53,82 +95,187 @@ end_of-status_of (ended.TooMuchInput bytes) = refl
 end_of-status_of ended.OutOfMemory = refl
 
 -- the session's end, by the run's
-pub ended-so : (end : SessionEnd) (result status : ToolStatus) → result ≡ status_of end → result ≡ status → end ≡ end_of status
-ended-so end result status is same = sym (end_of-status_of end) ∙ ap end_of (sym is ∙ same)
+pub ended_so : (end : SessionEnd) (result status : ToolStatus) → result ≡ status_of end → result ≡ status
+    → end ≡ end_of status
+ended_so end result status is same = sym (end_of-status_of end) ∙ ap end_of (sym is ∙ same)
 
 -- a session that ends by the status that is called for, or for want of memory, ends the run so
-pub called-for : (config : ToolConfig) (all : List ℕ) (end : SessionEnd) (result status : ToolStatus) → result ≡ status_of end → CallsFor config all status
+pub called_for : (config : ToolConfig) (all : List ℕ) (end : SessionEnd) (result status : ToolStatus)
+    → result ≡ status_of end → CallsFor config all status
     → (PassesNoLimit config.most_input config.longest_line all → (end ≡ ended.Done) ⊎ (end ≡ ended.OutOfMemory))
-    → (HasLongLine config.longest_line (take config.most_input all) → (end ≡ ended.LineTooLong (config.longest_line + 1)) ⊎ (end ≡ ended.OutOfMemory))
-    → (IsTooMuch config.most_input config.longest_line all → (end ≡ ended.TooMuchInput (config.most_input + 1)) ⊎ (end ≡ ended.OutOfMemory))
+    → (HasLongLine config.longest_line (take config.most_input all)
+    → (end ≡ ended.LineTooLong (config.longest_line + 1)) ⊎ (end ≡ ended.OutOfMemory))
+    → (IsTooMuch config.most_input config.longest_line all
+    → (end ≡ ended.TooMuchInput (config.most_input + 1)) ⊎ (end ≡ ended.OutOfMemory))
     → (result ≡ status) ⊎ (result ≡ OutOfMemory)
-called-for config all end result status is calls none long much = by-status status calls
+called_for config all end result status is calls none long much = by_status status calls
   where
-    by-end : (to : SessionEnd) → (end ≡ to) ⊎ (end ≡ ended.OutOfMemory) → (result ≡ status_of to) ⊎ (result ≡ OutOfMemory)
-    by-end to (inl same) = inl (is ∙ ap status_of same)
-    by-end to (inr same) = inr (is ∙ ap status_of same)
+    by_end : (to : SessionEnd) → (end ≡ to) ⊎ (end ≡ ended.OutOfMemory)
+        → (result ≡ status_of to) ⊎ (result ≡ OutOfMemory)
+    by_end to (inl same) = inl (is ∙ ap status_of same)
+    by_end to (inr same) = inr (is ∙ ap status_of same)
 
-    by-status : (status : ToolStatus) → CallsFor config all status → (result ≡ status) ⊎ (result ≡ OutOfMemory)
-    by-status Done calls = by-end ended.Done (none calls)
-    by-status (LineTooLong bytes) calls = rw calls.0 (by-end (ended.LineTooLong (config.longest_line + 1)) (long calls.1))
-    by-status (TooMuchInput bytes) calls = rw calls.0 (by-end (ended.TooMuchInput (config.most_input + 1)) (much calls.1))
-    by-status Usage calls = absurd calls
-    by-status (Refused error) calls = absurd calls
-    by-status ReadFault calls = absurd calls
-    by-status WriteFault calls = absurd calls
-    by-status OutOfMemory calls = absurd calls
+    by_status : (status : ToolStatus) → CallsFor config all status → (result ≡ status) ⊎ (result ≡ OutOfMemory)
+    by_status Done calls = by_end ended.Done (none calls)
+    by_status (LineTooLong bytes) calls =
+        rw calls.0 (by_end (ended.LineTooLong (config.longest_line + 1)) (long calls.1))
+    by_status (TooMuchInput bytes) calls =
+        rw calls.0 (by_end (ended.TooMuchInput (config.most_input + 1)) (much calls.1))
+    by_status Usage calls = absurd calls
+    by_status (Refused error) calls = absurd calls
+    by_status ReadFault calls = absurd calls
+    by_status WriteFault calls = absurd calls
+    by_status OutOfMemory calls = absurd calls
 
--- want of memory is told by no line
-told-is-answer : (outcome : Result Exchange ExchangeError) (told : Json) → Tells outcome told → outcome ≢ Err NoMemory
-told-is-answer outcome told tells same = subst (λ (o : Result Exchange ExchangeError). Tells o told) same tells
+module _ {X : Type 0} {F : X → Type 0} {S K : Type 0} (m : Meanings X F) (s : Service X F)
+    (source : SourceGhosts S) (sink : SinkGhosts K) (before after : Outside S K) where
+  by_how : (how : SessionEnd) → IsServedSo m s source sink before after how
+      → (how ≡ ended.ReadFault → HasRisen (source.faults before.source) (source.faults after.source))
+      → (how ≡ ended.WriteFault → HasRisen (sink.faults before.sink) (sink.faults after.sink))
+      → SessionEnds m s source sink before after (status_of how)
+  by_how ended.Done served read write = served
+  by_how ended.ReadFault served read write = (read refl, served)
+  by_how ended.WriteFault served read write = (write refl, served)
+  by_how (ended.LineTooLong bytes) served read write = served
+  by_how (ended.TooMuchInput bytes) served read write = served
+  by_how ended.OutOfMemory served read write = inr served
 
-module _ {X : Type 0} {F : X → Type 0} (m : Meanings X F) where
-  -- a session is opened of accepted endpoints that agree with their document
-  pub opened : (config : ToolConfig) (version : Parts) (es : List (ApiEndpoint X F)) (words : List (String Global)) → AskForSession words version → AreAccepted m [] es
-      → IsSound (document_of m es config.title version) → IsListed m version es (document_of m es config.title version) → IsAgreed m version es (document_of m es config.title version)
-      → ((request : RequestParts) (body : List ℕ) (before : Tables) (outcome : Result Exchange ExchangeError) (after : Tables) → Answers m config.server es request body before outcome after
-      → FollowsDocument (document_of m es config.title (parts_of request.version)) request body outcome)
-      → IsOpened m config version es words
-  opened config version es words asked accepted sound listed agreed follow = record {
-    asked = asked;
-    accepted = accepted;
-    sound = sound;
-    listed = listed;
-    agreed = agreed;
-    followed = λ before line reply after x id sent sends.
-        subst (λ (v : Parts). FollowsDocument (document_of m es config.title v) x.request x.body x.outcome) x.asks_for.at_version
-        (follow x.request x.body before x.outcome after x.answers) id (told-is-answer x.outcome x.told x.tells) sent sends;
+  -- what a session says that ended so
+  pub session_ends : (how : SessionEnd) (result : ToolStatus) → result ≡ status_of how
+      → IsServedSo m s source sink before after how
+      → (how ≡ ended.ReadFault → HasRisen (source.faults before.source) (source.faults after.source))
+      → (how ≡ ended.WriteFault → HasRisen (sink.faults before.sink) (sink.faults after.sink))
+      → SessionEnds m s source sink before after result
+  session_ends how result is served read write =
+      subst (SessionEnds m s source sink before after) (sym is) (by_how how served read write)
+
+  -- a session is no usage, and refuses nothing
+  pub no_usage : (result : ToolStatus) → SessionEnds m s source sink before after result → result ≡ Usage → ⊥
+  no_usage result ends is = subst (SessionEnds m s source sink before after) is ends
+
+-- ---- ends of documents
+
+module _ {K : Type 0} (sink : SinkGhosts K) (before after : K) (bytes : List ℕ) where
+  pub written_whole : (result : ToolStatus) → DocumentEnds sink before after bytes result → result ≡ Done
+      → Appends (sink.taken before) (sink.taken after) bytes
+  written_whole result ends is = subst (DocumentEnds sink before after bytes) is ends
+
+-- nothing is a part of any bytes
+pub keeps_all : (known : Option (List ℕ)) → Appends known known []
+keeps_all None = tt
+keeps_all (Some bytes) = sym (append-nil bytes)
+
+-- what is known behind bytes that were known
+pub appended : (taken : Option (List ℕ)) (written bytes : List ℕ) (before : Option (List ℕ)) → before ≡ Some written
+    → Appends before taken bytes → taken ≡ Some (written ++ bytes)
+appended None written bytes before is grown = absurd (subst (λ (o : Option (List ℕ)). Appends o None bytes) is grown)
+appended (Some now) written bytes before is grown =
+    ap Some (subst (λ (o : Option (List ℕ)). Appends o (Some now) bytes) is grown)
+
+-- ---- what is opened
+
+module _ {X : Type 0} {F : X → Type 0} (m : Meanings X F) (s : Service X F) where
+  -- no line is cut short: want of memory is told by no line, and a body in memory does not fail
+  not_cut : (request : Request) (frames : List Frame) (before after : Tables) (outcome : Result Exchange ExchangeError)
+      (told : Json) → Answers m s.endpoints (asked_with s.config request frames before) outcome after
+      → Tells s.config.frame_budget outcome told → ¬ IsOutcomeCutShort outcome
+  not_cut request frames before after (Ok exchange) told answers tells cut = cut
+  not_cut request frames before after (Err failed.OutOfMemory) told answers tells cut = tells
+  not_cut request frames before after (Err (failed.BodyFault response)) told answers tells cut =
+      let can_fail = answers.2.0.can_fail in cc can_fail
+  not_cut request frames before after (Err failed.BadRequestId) told answers tells cut = cut
+  not_cut request frames before after (Err failed.NoSuchOperation) told answers tells cut = cut
+  not_cut request frames before after (Err failed.WrongVariables) told answers tells cut = cut
+  not_cut request frames before after (Err (failed.BodyTooLarge sum response)) told answers tells cut = cut
+  not_cut request frames before after (Err (failed.FrameBudget count)) told answers tells cut = cut
+
+  -- a line asks at the version of the session
+  valid_for : (before : Tables) (line reply : List ℕ) (after : Tables) (x : IsExchanged m s before line reply after)
+      (d : DeclarationValue) → IsValidTo m s d (asked_in m s before line reply after x)
+      → IsValidFor s.version (declarations_of m s.endpoints) d (asked_in m s before line reply after x)
+  valid_for before line reply after x d valid = record {
+    listed = valid.listed;
+    serves = valid.serves;
+    at_version = ap (λ (request : Request). request.version) x.asks_for.are_made.made;
+    valid = valid.valid;
+    no_token = valid.no_token;
   }
 
-  -- what was served, of endpoints and a preamble that are equal; a reply that was lost has bytes
-  pub served-same : (config : ToolConfig) (version : Parts) (one two : List (ApiEndpoint X F)) (preamble preamble' : List ℕ) (most longest : ℕ) (x y t u : Option (List ℕ)) (old new : Tables) (end : SessionEnd)
-      → one ≡ two → preamble ≡ preamble' → IsServed (LineAnswers m config version one) (LineIsLost m config version one) preamble most longest x y t u old new end
-      → IsServed (LineAnswers m config version two) NeverLost preamble' most longest x y t u old new end
-  served-same config version one two preamble preamble' most longest x y t u old new end p q served =
-      subst (λ (es : List (ApiEndpoint X F)). IsServed (LineAnswers m config version es) NeverLost preamble' most longest x y t u old new end) p
-      (subst (λ (f : List ℕ). IsServed (LineAnswers m config version one) NeverLost f most longest x y t u old new end) q
-      (served-kept (LineAnswers m config version one) (LineIsLost m config version one) (λ before line after lost. lost) preamble most longest x y t u old new end served))
+  module _ (accepted : AreAccepted s.tags [] (declarations_of m s.endpoints)) (sound : IsSound (written_document m s))
+      (lists : Lists (errors_of (listed s.version (declarations_of m s.endpoints)))
+      (document_of (declarations_of m s.endpoints) s.tags.tags (info_at s) s.version)
+      s.version (declarations_of m s.endpoints))
+      (in_text : ListsWritten (errors_of (listed s.version (declarations_of m s.endpoints))) (written_document m s)
+      s.version (declarations_of m s.endpoints))
+      (agreed : (d : DeclarationValue) → IsListed s.version (declarations_of m s.endpoints) d
+      → Agrees (written_document m s) d) where
+    documented : IsDocumented m s
+    documented = record {
+      accepted = accepted;
+      sound = sound;
+      lists = lists;
+      written = in_text;
+      pages = λ d is_listed.
+          ap (option_and_then pagination_of) (in_text.each d is_listed)
+          ∙ pages-stand (operation_of (errors_of (listed s.version (declarations_of m s.endpoints))) d);
+      agreed = agreed;
+    }
 
-  pub answered-same : (config : ToolConfig) (version : Parts) (one two : List (ApiEndpoint X F)) (preamble preamble' all before : List ℕ) (y u : Option (List ℕ)) (old new : Tables)
-      → one ≡ two → preamble ≡ preamble' → IsAnswered (LineAnswers m config version one) preamble all before y u old new
-      → IsAnswered (LineAnswers m config version two) preamble' all before y u old new
-  answered-same config version one two preamble preamble' all before y u old new p q answered =
-      subst (λ (es : List (ApiEndpoint X F)). IsAnswered (LineAnswers m config version es) preamble' all before y u old new) p
-      (subst (λ (f : List ℕ). IsAnswered (LineAnswers m config version one) f all before y u old new) q answered)
+    opened : ((asked : Asked) (outcome : Result Exchange ExchangeError) (after : Tables)
+        → Answers m s.endpoints asked outcome after
+        → FollowsDocument m s.endpoints (written_document m s) s.version asked outcome after)
+        → ((asked : Asked) (outcome : Result Exchange ExchangeError) (after : Tables)
+        → Answers m s.endpoints asked outcome after → IsHandledAsDenoted m s.endpoints asked outcome)
+        → ((asked : Asked) (outcome : Result Exchange ExchangeError) (after : Tables)
+        → Answers m s.endpoints asked outcome after → IsHandledOrRefused m s.endpoints asked outcome)
+        → IsOpened m s
+    opened followed denoted told = record {
+      documented = documented;
+      followed = λ before line reply after x d valid.
+          followed (asked_with s.config x.request x.frames before) x.outcome after x.answers d
+          (valid_for before line reply after x d valid)
+          (not_cut x.request x.frames before after x.outcome x.told x.answers x.tells);
+      denoted = λ before line reply after x e named valid.
+          let asked = asked_with s.config x.request x.frames before in
+          let whole = not_cut x.request x.frames before after x.outcome x.told x.answers x.tells in record {
+            handled = denoted asked x.outcome after x.answers e named valid whole;
+            answered = told asked x.outcome after x.answers e named valid whole;
+          };
+    }
 
-  module _ {S K : Type 0} (config : ToolConfig) (endpoints : List (ApiEndpoint X F)) (words : List (String Global)) (source : SourceGhosts S) (sink : SinkGhosts K) (before after : Outside S K) where
-    by-end : (how : SessionEnd) → IsSessionUpTo m config endpoints words source sink before after how
-        → (how ≡ ended.ReadFault → FailedToRead source before after) → (how ≡ ended.WriteFault → FailedToWrite sink before after)
-        → IsEnded m config endpoints words source sink before after (status_of how)
-    by-end ended.Done session read write = session
-    by-end ended.ReadFault session read write = (read refl, session)
-    by-end ended.WriteFault session read write = (write refl, session)
-    by-end (ended.LineTooLong bytes) session read write = session
-    by-end (ended.TooMuchInput bytes) session read write = session
-    by-end ended.OutOfMemory session read write = inr session
+-- What an API tells of its document and of its answers holds of the endpoints that it was made of.
+module _ {X : Type 0} {F : X → Type 0} (m : Meanings X F) (config : ToolConfig) {tags made_tags : Configuration}
+    {endpoints made : List (ApiEndpoint X F)} (version : Parts) (same_tags : made_tags ≡ tags)
+    (same_endpoints : made ≡ endpoints) (accepted : AreAccepted tags [] (declarations_of m endpoints))
+    (sound : (info : Info) (at : Parts) → IsSound (document_at m made_tags made info at))
+    (lists : (info : Info) (at : Parts) → Lists (errors_of (listed at (declarations_of m made)))
+    (document_of (declarations_of m made) made_tags.tags info at) at (declarations_of m made))
+    (in_text : (info : Info) (at : Parts) → ListsWritten (errors_of (listed at (declarations_of m made)))
+    (document_at m made_tags made info at) at (declarations_of m made))
+    (agreed : (info : Info) (at : Parts) (d : DeclarationValue) → IsListed at (declarations_of m made) d
+    → Agrees (document_at m made_tags made info at) d) where
+  abbrev mine : Service X F
+  mine = service config made_tags made version
 
-    -- a session that ended so ends the run by its status
-    pub is-ended : (how : SessionEnd) (result : ToolStatus) → result ≡ status_of how → IsSessionUpTo m config endpoints words source sink before after how
-        → (how ≡ ended.ReadFault → FailedToRead source before after) → (how ≡ ended.WriteFault → FailedToWrite sink before after)
-        → IsEnded m config endpoints words source sink before after result
-    is-ended how result is session read write = subst (IsEnded m config endpoints words source sink before after) (sym is) (by-end how session read write)
+  same : mine ≡ service config tags endpoints version
+  same = rw (same_tags, same_endpoints) refl
+
+  pub documented_as : IsDocumented m (service config tags endpoints version)
+  documented_as =
+      subst (IsDocumented m) same
+      (documented m mine (rw (same_tags, same_endpoints) accepted) (sound (info_at mine) version)
+      (lists (info_at mine) version) (in_text (info_at mine) version) (agreed (info_at mine) version))
+
+  pub opened_as : ((info : Info) (at : Parts) (asked : Asked) (outcome : Result Exchange ExchangeError) (after : Tables)
+      → Answers m made asked outcome after
+      → FollowsDocument m made (document_at m made_tags made info at) at asked outcome after)
+      → ((asked : Asked) (outcome : Result Exchange ExchangeError) (after : Tables)
+      → Answers m made asked outcome after → IsHandledAsDenoted m made asked outcome)
+      → ((asked : Asked) (outcome : Result Exchange ExchangeError) (after : Tables)
+      → Answers m made asked outcome after → IsHandledOrRefused m made asked outcome)
+      → IsOpened m (service config tags endpoints version)
+  opened_as followed denoted told =
+      subst (IsOpened m) same
+      (opened m mine (rw (same_tags, same_endpoints) accepted) (sound (info_at mine) version)
+      (lists (info_at mine) version) (in_text (info_at mine) version) (agreed (info_at mine) version)
+      (followed (info_at mine) version) denoted told)

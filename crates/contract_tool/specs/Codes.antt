@@ -1,7 +1,10 @@
--- The number that the program ends with.
-use Rattle.std.specs.Prelude.{ℕ}
+-- The number that the program ends with, and the text that tells why it ended so.
+use Rattle.std.specs.Prelude.{ℕ, List, codes}
+use Rattle.api_registration.specs.Texts.{error_text}
 use Rattle.contract_tool.specs.declared.config.ToolStatus.{ToolStatus}
-use Rattle.contract_tool.specs.declared.config.ToolStatus.TheVariants.{Done, Usage, Refused, ReadFault, WriteFault, LineTooLong, OutOfMemory, TooMuchInput}
+use Rattle.contract_tool.specs.declared.config.ToolStatus.TheVariants.{Done, Usage, Refused, ReadFault}
+use Rattle.contract_tool.specs.declared.config.ToolStatus.TheVariants.{WriteFault, LineTooLong}
+use Rattle.contract_tool.specs.declared.config.ToolStatus.TheVariants.{OutOfMemory, TooMuchInput}
 
 -- each status has its own number
 abbrev pub code_of : ToolStatus → ℕ
@@ -13,3 +16,14 @@ code_of WriteFault = 5
 code_of (LineTooLong bytes) = 6
 code_of OutOfMemory = 7
 code_of (TooMuchInput bytes) = 8
+
+-- why a run ended so; nothing of one that did all
+abbrev pub status_text : ToolStatus → List ℕ
+status_text Done = codes ""
+status_text Usage = codes "usage: contract-tool session VERSION < REQUEST-LINES, or contract-tool document VERSION"
+status_text (Refused error) = error_text error
+status_text ReadFault = codes "the input could not be read"
+status_text WriteFault = codes "the output could not be written"
+status_text (LineTooLong bytes) = codes "a line is too long"
+status_text OutOfMemory = codes "out of memory"
+status_text (TooMuchInput bytes) = codes "there is too much input"

@@ -1,8 +1,7 @@
-pub mod Codes
 pub mod Words
-pub mod RequestLines
+pub mod Codes
+pub mod ResponseBodies
 pub mod ReplyLines
 pub mod LineAnswers
-pub mod Sample
 pub mod Sessions
 pub mod Ends

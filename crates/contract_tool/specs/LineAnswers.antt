@@ -1,42 +1,69 @@
 -- What a request line may be answered.
-use Rattle.std.specs.Prelude.{◌≡◌, ◌⊎◌, ℕ, List, codes}
-use Rattle.std.specs.declared.result.Result.{Result}
+use Rattle.std.specs.Prelude.{◌≡◌, ◌⊎◌, ℕ, List, Result, codes}
 use Rattle.schema_values.specs.declared.json_value.Json.{Json}
 use Rattle.semver.specs.Parse.{Parts}
-use Rattle.api_description.specs.declared.api_extract.request.RequestParts.{RequestParts}
-use Rattle.api_description.specs.declared.endpoint.ApiEndpoint.{ApiEndpoint}
-use Rattle.api_description.specs.declared.exchange.Exchange.{Exchange}
-use Rattle.api_description.specs.declared.exchange.ExchangeError.{ExchangeError}
-use Rattle.api_description.specs.Endpoints.{Meanings}
-use Rattle.api_description.specs.Exchanges.{Answers}
-use Rattle.api_description.specs.Stores.{Tables}
+use Rattle.http_bodies.specs.Bodies.{never_failing}
+use Rattle.http_bodies.specs.declared.frame.Frame.{Frame}
+use Rattle.tag_config.specs.Configurations.{Configuration}
+use Rattle.tree_store.specs.Tables.{Tables}
+use Rattle.request_parts.specs.Requests.{Request}
+use Rattle.request_lines.specs.RequestLines.{AsksFor, IsBadLine}
+use Rattle.api_endpoints.specs.declared.endpoint.ApiEndpoint.{ApiEndpoint}
+use Rattle.api_endpoints.specs.Endpoints.{Meanings}
+use Rattle.api_exchanges.specs.declared.outcome.Exchange.{Exchange}
+use Rattle.api_exchanges.specs.declared.outcome.ExchangeError.{ExchangeError}
+use Rattle.api_exchanges.specs.Exchanges.{Answers, Asked, asked, called}
 use Rattle.contract_tool.specs.declared.config.ToolConfig.{ToolConfig}
-use Rattle.contract_tool.specs.ReplyLines.{Tells, line_of, outcome_alone}
-use Rattle.contract_tool.specs.RequestLines.{AsksFor, IsBadLine, IsUnbuilt}
+use Rattle.contract_tool.specs.ReplyLines.{Tells, bytes_of_line, outcome_alone}
 
--- the most bytes that a body may have
-abbrev pub most_body : ToolConfig → ℕ
-most_body config = config.server.default_request_body_max_bytes
+-- what lines are answered by: the settings of a run, the configuration of tags, the endpoints, and a version
+pub record Service (X : Type 0) (F : X → Type 0) : Type 0 where
+  pub config : ToolConfig
+  pub tags : Configuration
+  pub endpoints : List (ApiEndpoint X F)
+  pub version : Parts
 
--- the line is a request with a body, the endpoints answer it, and the reply tells the outcome
-pub record IsExchanged {X : Type 0} {F : X → Type 0} (m : Meanings X F) (config : ToolConfig) (version : Parts) (endpoints : List (ApiEndpoint X F))
+-- a service by its parts
+abbrev pub service : {X : Type 0} {F : X → Type 0} → ToolConfig → Configuration → List (ApiEndpoint X F) → Parts
+    → Service X F
+service config tags endpoints version =
+    record { config = config; tags = tags; endpoints = endpoints; version = version }
+
+-- a request with a body of these frames, in memory, as endpoints are asked with it from a store
+abbrev pub asked_with : ToolConfig → Request → List Frame → Tables → Asked
+asked_with config request frames store =
+    asked (called config.server request store) (never_failing frames) config.frame_budget
+
+-- the line asks for a request, the endpoints answer it, and the reply tells the outcome
+pub record IsExchanged {X : Type 0} {F : X → Type 0} (m : Meanings X F) (s : Service X F)
     (before : Tables) (line reply : List ℕ) (after : Tables) : Type 0 where
-  pub request : RequestParts
-  pub body : List ℕ
+  pub request : Request
+  pub frames : List Frame
   pub outcome : Result Exchange ExchangeError
   pub told : Json
-  pub asks_for : AsksFor (most_body config) version line request body
-  pub answers : Answers m config.server endpoints request body before outcome after
-  pub tells : Tells outcome told
-  pub written : reply ≡ line_of told
+  pub asks_for : AsksFor s.version line request frames
+  pub answers : Answers m s.endpoints (asked_with s.config request frames before) outcome after
+  pub tells : Tells s.config.frame_budget outcome told
+  pub written : reply ≡ bytes_of_line told
 
--- What a line may be answered in a session of a version. A line that is no request, or one of a kind that is not built yet, leaves the store.
-abbrev pub LineAnswers : {X : Type 0} {F : X → Type 0} → Meanings X F → ToolConfig → Parts → List (ApiEndpoint X F) → Tables → List ℕ → List ℕ → Tables → Type 0
-LineAnswers m config version endpoints before line reply after =
-    (IsBadLine line × (reply ≡ line_of (outcome_alone (codes "bad-line"))) × (after ≡ before))
-    ⊎ ((IsUnbuilt (most_body config) line × (reply ≡ line_of (outcome_alone (codes "not-built"))) × (after ≡ before))
-    ⊎ IsExchanged m config version endpoints before line reply after)
+-- what the endpoints were asked with, for a line
+abbrev pub asked_in : {X : Type 0} {F : X → Type 0} (m : Meanings X F) (s : Service X F) (before : Tables)
+    (line reply : List ℕ) (after : Tables) → IsExchanged m s before line reply after → Asked
+asked_in m s before line reply after x = asked_with s.config x.request x.frames before
 
--- the line was answered, and some reply tells that, though it was lost
-abbrev pub LineIsLost : {X : Type 0} {F : X → Type 0} → Meanings X F → ToolConfig → Parts → List (ApiEndpoint X F) → Tables → List ℕ → Tables → Type 0
-LineIsLost m config version endpoints before line after = (reply : List ℕ) × LineAnswers m config version endpoints before line reply after
+-- What a line may be answered: one that asks for nothing is told so, and leaves the store.
+abbrev pub LineAnswers : {X : Type 0} {F : X → Type 0} → Meanings X F → Service X F → Tables → List ℕ → List ℕ
+    → Tables → Type 0
+LineAnswers m s before line reply after =
+    (IsBadLine line × (reply ≡ bytes_of_line (outcome_alone (codes "bad-line"))) × (after ≡ before))
+    ⊎ IsExchanged m s before line reply after
+
+-- The line asks for a request, and the endpoints answered it, or ran out of memory and left the store as it was or as
+-- after a reply that the handler allows; no reply to the line was made.
+pub record LineIsLost {X : Type 0} {F : X → Type 0} (m : Meanings X F) (s : Service X F)
+    (before : Tables) (line : List ℕ) (after : Tables) : Type 0 where
+  pub request : Request
+  pub frames : List Frame
+  pub outcome : Result Exchange ExchangeError
+  pub asks_for : AsksFor s.version line request frames
+  pub answers : Answers m s.endpoints (asked_with s.config request frames before) outcome after

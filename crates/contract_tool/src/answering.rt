@@ -1,24 +1,28 @@
-//! What answers the lines of a session: the endpoints of an API.
-ghost use Rattle.std.specs.Prelude.{◌≡◌, ◌⊎◌, [], IfOk, OnErr};
-ghost use Rattle.std.specs.Str.{encode_utf8_all};
+//! What answers the lines of a session: the endpoints of an API, at one version.
+ghost use Rattle.std.specs.Prelude.{◌≡◌, ◌⊎◌, ◌-◌, ◌^◌, ◌<◌, IfOk, OnErr, Result};
+ghost use Rattle.schema_values.specs.declared.json_value.Json.{Json as JsonValue};
 ghost use Rattle.semver.specs.Identifiers.{parts_of};
-ghost use Rattle.api_description.specs.Endpoints.{boxed};
-ghost use Rattle.api_description.specs.Registering.{AreAccepted};
-ghost use Rattle.contract_tool.specs.LineAnswers.{LineAnswers, LineIsLost, most_body};
-ghost use Rattle.contract_tool.specs.RequestLines.{AsksFor};
+ghost use Rattle.api_endpoints.specs.Endpoints.{boxed};
+ghost use Rattle.api_exchanges.specs.Exchanges.{Answers};
+ghost use Rattle.api_exchanges.specs.declared.outcome.Exchange.{Exchange as ExchangeValue};
+ghost use Rattle.api_exchanges.specs.declared.outcome.ExchangeError.{ExchangeError as ErrorValue};
+ghost use Rattle.api_descriptions.specs.Ready.{IsReady};
+ghost use Rattle.contract_tool.specs.LineAnswers.{LineAnswers, LineIsLost, asked_with, service};
+ghost use Rattle.contract_tool.specs.ReplyLines.{Tells, bytes_of_line};
 
 use crate::config::ToolConfig;
-use crate::reply_line::{outcome_line, reply_line};
-use crate::request_line::{RequestLine, read_line};
-use api_description::ApiDescription;
-use api_description::api_extract::RequestParts;
-use api_description::api_respond::RouteHandler;
-use api_description::tree_store::Store;
+use crate::reply_line::reply_line;
+use crate::response_line::outcome_line;
+use api_descriptions::ApiDescription;
+use api_respond::RouteHandler;
+use http_bodies::{Body, SafeFrames};
 use line_session::Answering;
-use schema_values::{List, Scratch, Text};
+use request_lines::{AskedRequest, LineError, RequestForm};
+use schema_values::{List, Scratch};
 use semver::Version;
 use std::alloc::{AllocError, Global};
 use std::marker::PhantomData;
+use tree_store::Store;
 
 /// Answers request lines by the endpoints of an API, at one version.
 #[derive(Drop)]
@@ -26,31 +30,32 @@ pub(crate) struct LineAnswerer<'a> {
     pub api: &'a ApiDescription,
     pub config: &'a ToolConfig,
     pub version: &'a Version,
+    pub form: &'a RequestForm,
     // so that the ghost members below may name what a boxed handler means
     pub handlers: PhantomData<Box<dyn RouteHandler>>,
 }
 
 impl Answering for LineAnswerer<'_> {
-    ghost use Rattle.std.specs.Prelude.{[]};
-    ghost use Rattle.api_description.specs.Registering.{AreAccepted};
-    ghost use Rattle.contract_tool.specs.LineAnswers.{LineAnswers, LineIsLost};
+    ghost use Rattle.std.specs.Prelude.{◌-◌, ◌^◌, ◌<◌};
     ghost use Rattle.semver.specs.Identifiers.{parts_of};
+    ghost use Rattle.api_descriptions.specs.Ready.{IsReady};
+    ghost use Rattle.contract_tool.specs.LineAnswers.{LineAnswers, LineIsLost, service};
 
     type State = Store;
 
-    // What a line is read in.
+    // What lines are read in, and the bodies of their requests.
     type Room = Scratch;
 
-    ghost can_answer = { λ answerer. AreAccepted
-        (λ e. RouteHandler-box e.handler) [] answerer.api.now.endpoints.items };
+    ghost can_answer = { λ answerer. IsReady (λ e. RouteHandler-box e.handler) answerer.api.now
+        × (answerer.config.now.frame_budget < 2 ^ 64 - 1) };
 
-    ghost answers = { λ answerer. LineAnswers
-        (λ e. RouteHandler-box e.handler) answerer.config.now
-        (parts_of answerer.version.now) answerer.api.now.endpoints.items };
+    ghost answers = { λ answerer. LineAnswers (λ e. RouteHandler-box e.handler)
+        (service answerer.config.now answerer.api.now.tags answerer.api.now.endpoints.items
+        (parts_of answerer.version.now)) };
 
-    ghost lost = { λ answerer. LineIsLost
-        (λ e. RouteHandler-box e.handler) answerer.config.now
-        (parts_of answerer.version.now) answerer.api.now.endpoints.items };
+    ghost lost = { λ answerer. LineIsLost (λ e. RouteHandler-box e.handler)
+        (service answerer.config.now answerer.api.now.tags answerer.api.now.endpoints.items
+        (parts_of answerer.version.now)) };
 
     fn room(&self, alloc: Global) -> Result<Scratch, AllocError> {
         Ok(Scratch::new(alloc))
@@ -63,64 +68,64 @@ impl Answering for LineAnswerer<'_> {
         state: &mut Store,
         line: &[u8],
     ) -> Result<List<u8>, AllocError> {
-        answer_line(
-            alloc,
-            self.api,
-            self.config,
-            self.version,
-            room,
-            state,
-            line,
-        )
+        answer_line(alloc, self, room, state, line)
     }
 }
 
 fn answer_line(
     alloc: Global,
-    api: &ApiDescription,
-    config: &ToolConfig,
-    version: &Version,
+    answerer: &LineAnswerer<'_>,
     room: &mut Scratch,
     store: &mut Store,
     line: &[u8],
 ) -> Result<List<u8>, AllocError>
-    requires { AreAccepted (boxed ⟦<dyn RouteHandler as RouteHandler>⟧) [] api.now.endpoints.items }
+    requires ready { IsReady (boxed ⟦<dyn RouteHandler as RouteHandler>⟧) answerer.now.api.now }
+    requires budget { answerer.now.config.now.frame_budget < 2 ^ 64 - 1 }
     ensures ok { IfOk result (λ reply. LineAnswers (boxed ⟦<dyn RouteHandler as RouteHandler>⟧)
-        config.now (parts_of version.now) api.now.endpoints.items store.old line.now reply store.new) }
+        (service answerer.now.config.now answerer.now.api.now.tags answerer.now.api.now.endpoints.items
+        (parts_of answerer.now.version.now)) store.old line.now reply store.new) }
     ensures err { OnErr result ((store.new ≡ store.old)
         ⊎ LineIsLost (boxed ⟦<dyn RouteHandler as RouteHandler>⟧)
-        config.now (parts_of version.now) api.now.endpoints.items store.old line.now store.new) }
+        (service answerer.now.config.now answerer.now.api.now.tags answerer.now.api.now.endpoints.items
+        (parts_of answerer.now.version.now)) store.old line.now store.new) }
 {
-    let most = config.server.default_request_body_max_bytes;
-    match read_line(alloc, room, line, version, most)? {
-        RequestLine::Bad => outcome_line(alloc, "bad-line"),
-        RequestLine::NotBuilt => outcome_line(alloc, "not-built"),
-        RequestLine::Request(request, body) => {
-            answer_request(alloc, api, config, version, store, line, &request, &body)
-        }
+    match answerer.form.read_line(alloc, room, line, answerer.version) {
+        Ok(asked) => answer_request(alloc, room, answerer.api, answerer.config, store, asked),
+        Err(LineError::Bad) => outcome_line(alloc, "bad-line"),
+        Err(LineError::OutOfMemory) => Err(AllocError),
     }
 }
 
-// Answers a line that asks for this request with this body.
+// Answers a request, and tells the outcome. Where no line tells it, there was one all the same.
 fn answer_request(
     alloc: Global,
+    room: &mut Scratch,
     api: &ApiDescription,
     config: &ToolConfig,
-    version: &Version,
     store: &mut Store,
-    line: &[u8],
-    request: &RequestParts,
-    body: &Text,
+    asked: AskedRequest,
 ) -> Result<List<u8>, AllocError>
-    requires accepted { AreAccepted (boxed ⟦<dyn RouteHandler as RouteHandler>⟧) [] api.now.endpoints.items }
-    requires asks_for { AsksFor (most_body config.now) (parts_of version.now)
-        line.now request.now (encode_utf8_all body.now) }
-    ensures ok { IfOk result (λ reply. LineAnswers (boxed ⟦<dyn RouteHandler as RouteHandler>⟧)
-        config.now (parts_of version.now) api.now.endpoints.items store.old line.now reply store.new) }
-    ensures err { OnErr result ((store.new ≡ store.old)
-        ⊎ LineIsLost (boxed ⟦<dyn RouteHandler as RouteHandler>⟧)
-        config.now (parts_of version.now) api.now.endpoints.items store.old line.now store.new) }
+    requires ready { IsReady (boxed ⟦<dyn RouteHandler as RouteHandler>⟧) api.now }
+    requires budget { config.now.frame_budget < 2 ^ 64 - 1 }
+    ensures ok { IfOk result (λ reply. (outcome : Result ExchangeValue ErrorValue) × (json : JsonValue)
+        × Answers (boxed ⟦<dyn RouteHandler as RouteHandler>⟧) api.now.endpoints.items
+        (asked_with config.now asked.request asked.frames store.old) outcome store.new
+        × Tells config.now.frame_budget outcome json × (reply ≡ bytes_of_line json)) }
+    ensures err { (outcome : Result ExchangeValue ErrorValue)
+        × Answers (boxed ⟦<dyn RouteHandler as RouteHandler>⟧) api.now.endpoints.items
+        (asked_with config.now asked.request asked.frames store.old) outcome store.new }
 {
-    let outcome = api.exchange(alloc, store, request, body.as_bytes(), &config.server);
-    reply_line(alloc, &outcome)
+    let AskedRequest { request, frames } = asked;
+    let mut body = Body::with_frames(SafeFrames::new(frames));
+    let budget = config.frame_budget;
+    let outcome = api.exchange(
+        alloc,
+        room,
+        store,
+        &request,
+        &mut body,
+        budget,
+        &config.server,
+    );
+    reply_line(alloc, outcome, budget)
 }

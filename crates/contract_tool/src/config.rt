@@ -2,11 +2,15 @@
 ghost use Rattle.std.specs.Prelude.{◌≡◌, IfOk};
 ghost use Rattle.contract_tool.specs.Codes.{code_of};
 
-use api_description::ApiDescriptionRegisterError;
-use api_description::api_extract::ServerConfig;
+use api_descriptions::ApiDescriptionRegisterError;
+use request_parts::ServerConfig;
 use schema_values::Text;
 use std::alloc::{AllocError, Global};
 use std::fmt;
+
+// How the program is called.
+const USAGE: &str =
+    "usage: contract-tool session VERSION < REQUEST-LINES, or contract-tool document VERSION";
 
 /// The title of documents, and the limits of a run.
 #[derive(Drop)]
@@ -93,19 +97,23 @@ impl ToolStatus {
     }
 }
 
-/// Writes what tells a status that is no success.
+/// Writes why the run ended so; nothing where it did all.
 impl fmt::Display for ToolStatus {
+    ghost use Rattle.std.specs.Prelude.{Some};
+    ghost use Rattle.contract_tool.specs.Codes.{status_text};
+
+    ghost output = { λ status. Some (status_text status) };
+
     fn fmt<W: fmt::Write>(&self, f: &mut fmt::Formatter<W>) -> fmt::Result {
-        let message = match self {
-            ToolStatus::Done => "",
-            ToolStatus::Usage => "usage: contract-tool session VERSION < REQUEST-LINES",
-            ToolStatus::Refused(error) => error.message(),
-            ToolStatus::ReadFault => "the input could not be read",
-            ToolStatus::WriteFault => "the output could not be written",
-            ToolStatus::LineTooLong(_) => "a line is too long",
-            ToolStatus::OutOfMemory => "out of memory",
-            ToolStatus::TooMuchInput(_) => "there is too much input",
-        };
-        fmt::Display::fmt(message, f)
+        match self {
+            ToolStatus::Done => Ok(()),
+            ToolStatus::Usage => f.write_str(USAGE),
+            ToolStatus::Refused(error) => write!(f, "{}", error),
+            ToolStatus::ReadFault => f.write_str("the input could not be read"),
+            ToolStatus::WriteFault => f.write_str("the output could not be written"),
+            ToolStatus::LineTooLong(_) => f.write_str("a line is too long"),
+            ToolStatus::OutOfMemory => f.write_str("out of memory"),
+            ToolStatus::TooMuchInput(_) => f.write_str("there is too much input"),
+        }
     }
 }

@@ -1,30 +1,26 @@
 //! The top call.
-ghost use Rattle.std.specs.Prelude.{◌≡◌, ◌↔◌, ◌⊎◌, Some, ◌-◌, ◌^◌, ◌<◌, ◌≤◌, [], List as ListOf, ℕ, IfOk};
+ghost use Rattle.std.specs.Prelude.{◌≡◌, ◌↔◌, ◌-◌, ◌^◌, ◌<◌, ◌≤◌, List as ListOf, ℕ, Some};
 ghost use Rattle.schema_values.specs.Causes.{HasRisen};
-ghost use Rattle.semver.specs.Identifiers.{parts_of};
-ghost use Rattle.api_description.specs.Endpoints.{boxed};
-ghost use Rattle.api_description.specs.Registering.{AreAccepted};
-ghost use Rattle.api_description.specs.declared.register.ApiDescriptionRegisterError.{ApiDescriptionRegisterError as ErrorValue};
+ghost use Rattle.semver.specs.Parse.{Parts};
+ghost use Rattle.api_endpoints.specs.Endpoints.{boxed};
 ghost use Rattle.contract_tool.specs.declared.config.ToolStatus.{ToolStatus as StatusValue};
-ghost use Rattle.contract_tool.specs.Ends.{CallsFor, IsEnded, outside};
-ghost use Rattle.contract_tool.specs.Sessions.{IsSession, preamble_of, status_of};
-ghost use Rattle.contract_tool.specs.Words.{IsCommand};
+ghost use Rattle.contract_tool.specs.Ends.{CallsFor, EndsBy, EndsByRefusal, IsEnded, OnlyWrites, given, outside};
+ghost use Rattle.contract_tool.specs.LineAnswers.{service};
+ghost use Rattle.contract_tool.specs.Sessions.{AreAcceptedUnder, IsDocumentWritten, IsSession};
+ghost use Rattle.contract_tool.specs.Words.{AskForDocument, AskForSession, IsCommand};
 
-use crate::answering::LineAnswerer;
 use crate::config::{ToolConfig, ToolStatus};
-use crate::words::{WordsError, session_version};
-use api_description::api_respond::RouteHandler;
-use api_description::tree_store::Store;
-use api_description::{ApiDescription, ApiEndpoint, RegisterError, TagConfig};
-use line_session::{SessionEnd, Sink, Source, serve};
-use schema_values::List;
-use semver::Version;
-use std::alloc::{AllocError, Global};
-use std::marker::PhantomData;
+use crate::serving::{run_session, write_document};
+use crate::words::{Command, WordsError, command_of};
+use api_descriptions::{ApiDescription, ApiEndpoint, RegisterError, TagConfig};
+use api_respond::RouteHandler;
+use line_session::{Sink, Source};
+use std::alloc::Global;
+use tree_store::Store;
 
-/// Runs a command: reads the words of a command line, registers the endpoints in order, and then does what
-/// the words ask for. `session V` writes the document of version V and a newline, and then a reply line for
-/// each input line.
+/// Runs a command: reads the words of a command line, registers the endpoints in order, and then does what the words
+/// ask for. `session V` writes the document of version V and a newline, and then a reply line for each input line;
+/// `document V` writes the document and a newline, and reads nothing.
 pub fn run<S: Source, K: Sink>(
     alloc: Global,
     words: &[String],
@@ -39,38 +35,51 @@ pub fn run<S: Source, K: Sink>(
     requires longest { config.now.longest_line < 2 ^ 64 - 1 }
     requires budget { config.now.frame_budget < 2 ^ 64 - 1 }
 
-    // Of a source and a sink that tell their bytes: all were read, and each line was answered in order.
-    ensures session { result ≡ ToolStatus.Done → (all written : ListOf ℕ) →
-        S.left source.old ≡ Some all → K.taken sink.old ≡ Some written →
-        IsSession (boxed ⟦<dyn RouteHandler as RouteHandler>⟧) config.now endpoints.items words.now
-        all written (S.left source.new) (K.taken sink.new) store.old store.new }
+    // Of a source and a sink that tell their bytes: all were read, and each line was answered in order, behind the
+    // document of the endpoints; the two agree.
+    ensures session { result ≡ ToolStatus.Done → (version : Parts) → AskForSession words.now version
+        → (all earlier : ListOf ℕ) → S.left source.old ≡ Some all → K.taken sink.old ≡ Some earlier
+        → IsSession (boxed ⟦<dyn RouteHandler as RouteHandler>⟧)
+        (service config.now tags endpoints.items version) all earlier
+        (S.left source.new) (K.taken sink.new) store.old store.new }
+    // Of a sink that tells its bytes: the document was written.
+    ensures document { result ≡ ToolStatus.Done → (version : Parts) → AskForDocument words.now version
+        → (earlier : ListOf ℕ) → K.taken sink.old ≡ Some earlier
+        → IsDocumentWritten (boxed ⟦<dyn RouteHandler as RouteHandler>⟧)
+        (service config.now tags endpoints.items version) earlier (K.taken sink.new) }
     // What each status says.
-    ensures ended { IsEnded (boxed ⟦<dyn RouteHandler as RouteHandler>⟧) config.now endpoints.items words.now
-        S.Source K.Sink (outside source.old sink.old store.old) (outside source.new sink.new store.new)
-        result }
+    ensures ended { IsEnded (boxed ⟦<dyn RouteHandler as RouteHandler>⟧)
+        (given words.now config.now tags endpoints.items) S.Source K.Sink
+        (outside source.old sink.old store.old) (outside source.new sink.new store.new) result }
 
     ensures usage { result ≡ ToolStatus.Usage ↔ ¬ IsCommand words.now }
+    // A document alone reads nothing and leaves the store, however it ends.
+    ensures unread { (version : Parts) → AskForDocument words.now version
+        → OnlyWrites (outside source.old sink.old store.old) (outside source.new sink.new store.new) }
     // Endpoints that are not accepted are refused, or memory runs out.
-    ensures refused { IsCommand words.now →
-        ¬ AreAccepted (boxed ⟦<dyn RouteHandler as RouteHandler>⟧) [] endpoints.items →
-        ((error : ErrorValue) × (result ≡ ToolStatus.Refused error)) ⊎ (result ≡ ToolStatus.OutOfMemory) }
-    // Where nothing stands against it, the status is the one that the bytes call for, or memory runs out.
-    ensures complete { IsCommand words.now →
-        AreAccepted (boxed ⟦<dyn RouteHandler as RouteHandler>⟧) [] endpoints.items →
-        (all : ListOf ℕ) → S.left source.old ≡ Some all →
-        (status : StatusValue) → CallsFor config.now all status →
-        ¬ HasRisen (S.faults source.old) (S.faults source.new) →
-        ¬ HasRisen (K.faults sink.old) (K.faults sink.new) →
-        (result ≡ status) ⊎ (result ≡ ToolStatus.OutOfMemory) }
-    // A count of faults never falls.
+    ensures refused { IsCommand words.now
+        → ¬ AreAcceptedUnder (boxed ⟦<dyn RouteHandler as RouteHandler>⟧) tags endpoints.items
+        → EndsByRefusal result }
+    // Where nothing stands against it, the status is the one that is called for, or memory runs out.
+    ensures complete { (version : Parts) → AskForSession words.now version
+        → AreAcceptedUnder (boxed ⟦<dyn RouteHandler as RouteHandler>⟧) tags endpoints.items
+        → (all : ListOf ℕ) → S.left source.old ≡ Some all
+        → (status : StatusValue) → CallsFor config.now all status
+        → ¬ HasRisen (S.faults source.old) (S.faults source.new)
+        → ¬ HasRisen (K.faults sink.old) (K.faults sink.new)
+        → EndsBy status result }
+    ensures documented { (version : Parts) → AskForDocument words.now version
+        → AreAcceptedUnder (boxed ⟦<dyn RouteHandler as RouteHandler>⟧) tags endpoints.items
+        → ¬ HasRisen (K.faults sink.old) (K.faults sink.new)
+        → EndsBy ToolStatus.Done result }
+    // A count of faults never falls. One that rose ended the run, by whose it is.
     ensures source_later { S.faults source.old ≤ S.faults source.new }
     ensures sink_later { K.faults sink.old ≤ K.faults sink.new }
-    // One that rose ended the run, by whose it is.
     ensures read_risen { S.faults source.old < S.faults source.new → result ≡ ToolStatus.ReadFault }
     ensures write_risen { K.faults sink.old < K.faults sink.new → result ≡ ToolStatus.WriteFault }
 {
-    let version = match session_version(alloc, words) {
-        Ok(version) => version,
+    let command = match command_of(alloc, words) {
+        Ok(command) => command,
         Err(WordsError::Usage) => return ToolStatus::Usage,
         Err(WordsError::OutOfMemory) => return ToolStatus::OutOfMemory,
     };
@@ -79,53 +88,12 @@ pub fn run<S: Source, K: Sink>(
         Err(RegisterError::Refused(error)) => return ToolStatus::Refused(error),
         Err(RegisterError::OutOfMemory) => return ToolStatus::OutOfMemory,
     };
-    // The law of its document, which `session` and `ended` rest on.
+    // What its document says of its answers, on which `session`, `document` and `ended` rest.
     api.agrees();
-    let Ok(preamble) = preamble(alloc, &api, config, &version) else {
-        return ToolStatus::OutOfMemory;
-    };
-    let answerer = LineAnswerer {
-        api: &api,
-        config,
-        version: &version,
-        handlers: PhantomData,
-    };
-    status_of(serve(
-        alloc,
-        &answerer,
-        store,
-        preamble.as_slice(),
-        config.most_input,
-        config.longest_line,
-        source,
-        sink,
-    ))
-}
-
-// The pretty text of the document, and a newline.
-fn preamble(
-    alloc: Global,
-    api: &ApiDescription,
-    config: &ToolConfig,
-    version: &Version,
-) -> Result<List<u8>, AllocError>
-    requires { AreAccepted (boxed ⟦<dyn RouteHandler as RouteHandler>⟧) [] api.now.endpoints.items }
-    ensures { IfOk result (λ preamble. preamble ≡ preamble_of (boxed ⟦<dyn RouteHandler as RouteHandler>⟧)
-        config.now (parts_of version.now) api.now.endpoints.items) }
-{
-    let definition = api.openapi(alloc, config.title.as_str(), version.clone()?)?;
-    Ok(definition.text(alloc)?.into_bytes())
-}
-
-fn status_of(end: SessionEnd) -> ToolStatus
-    ensures { result ≡ status_of end }
-{
-    match end {
-        SessionEnd::Done => ToolStatus::Done,
-        SessionEnd::ReadFault => ToolStatus::ReadFault,
-        SessionEnd::WriteFault => ToolStatus::WriteFault,
-        SessionEnd::LineTooLong(bytes) => ToolStatus::LineTooLong(bytes),
-        SessionEnd::TooMuchInput(bytes) => ToolStatus::TooMuchInput(bytes),
-        SessionEnd::OutOfMemory => ToolStatus::OutOfMemory,
+    match command {
+        Command::Session(version) => {
+            run_session(alloc, &api, &version, store, config, source, sink)
+        }
+        Command::Document(version) => write_document(alloc, &api, version, config, sink),
     }
 }

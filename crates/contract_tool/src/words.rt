@@ -1,16 +1,27 @@
 //! The words of a command line.
 ghost use Rattle.std.specs.Prelude.{◌≡◌, ◌≢◌, ◌↔◌, Ok, IfOk, IsErrOf};
-ghost use Rattle.contract_tool.specs.Words.{AskForSession, IsCommand};
 ghost use Rattle.semver.specs.Identifiers.{parts_of};
 ghost use Rattle.semver.specs.Parse.{Parts, version_parts};
+ghost use Rattle.contract_tool.specs.Words.{IsCommand, IsCommandOf};
 
 use semver::Version;
 use std::alloc::{AllocError, Global};
 
-/// Why the words of a command line are no command.
+/// What the words of a command line ask for.
+#[derive(Drop)]
+pub(crate) enum Command {
+    /// A session at a version.
+    Session(Version),
+    /// The document of a version alone.
+    Document(Version),
+}
+
+/// Why no command was made of the words of a command line.
 #[derive(Clone, Copy, Debug, PartialEq, Eq)]
 pub(crate) enum WordsError {
+    /// They are none.
     Usage,
+    /// There was not enough memory.
     OutOfMemory,
 }
 
@@ -30,13 +41,18 @@ impl From<semver::Error> for WordsError {
     }
 }
 
-/// The version of the session that the words ask for.
-pub(crate) fn session_version(alloc: Global, words: &[String]) -> Result<Version, WordsError>
-    ensures session { IfOk result (λ version. AskForSession words.now (parts_of version)) }
+/// What the words ask for.
+pub(crate) fn command_of(alloc: Global, words: &[String]) -> Result<Command, WordsError>
+    ensures command { IfOk result (IsCommandOf words.now) }
     ensures usage { IsErrOf result WordsError.Usage ↔ ¬ IsCommand words.now }
 {
     match words {
-        [word, version] if word.as_str() == "session" => parse_version(alloc, version.as_str()),
+        [word, version] if word.as_str() == "session" => {
+            Ok(Command::Session(parse_version(alloc, version.as_str())?))
+        }
+        [word, version] if word.as_str() == "document" => {
+            Ok(Command::Document(parse_version(alloc, version.as_str())?))
+        }
         _ => Err(WordsError::Usage),
     }
 }

@@ -1,24 +1,28 @@
 //! The program: the sample API over the standard streams.
 #![tactic(auto)]
 
-use api_description::api_versions::ApiEndpointVersions;
-use api_description::tree_store::Store;
-use api_description::{ApiEndpoint, NewEndpointError, TagConfig};
-use contract_tool::sample::{self, PointCreate};
-use contract_tool::{StdSink, StdSource, ToolStatus, run};
-use http::Method;
+ghost use Rattle.std.specs.Prelude.{◌<◌, ◌-◌, ◌^◌, IfOk};
+
+use api_descriptions::{ApiEndpoint, NewEndpointError, TagConfig};
+use contract_tool::{StdSink, StdSource, ToolConfig, ToolStatus, run};
+use sample_api::SampleEndpoint;
 use schema_values::Text;
-use std::alloc::AllocError;
+use std::alloc::{AllocError, Global};
 use std::env;
 use std::io::ErrorKind;
 use std::process::ExitCode;
 
+// The media type of typed bodies.
+const JSON: &str = "application/json";
+
 const VERSION: &str = "contract-tool 0.1.0\n";
 
 const HELP: &str = "contract-tool session VERSION
+contract-tool document VERSION
 
-Writes the OpenAPI document of the sample API at a version (Semantic Versioning 2.0.0),
-and then a reply line for each request line of the standard input.
+A session writes the OpenAPI document of the sample API at a version (Semantic Versioning 2.0.0),
+and then a reply line for each request line of the standard input. The other command writes the
+document alone.
 ";
 
 // The words behind the program's name. One that is no UTF-8 makes them no command.
@@ -33,30 +37,62 @@ fn command_words(rt: &HostRuntime) -> Result<Vec<String>, ToolStatus> {
     }
 }
 
-// Runs a command of the sample API over the standard streams.
-fn run_sample(rt: &HostRuntime, words: &[String]) -> Result<ToolStatus, AllocError> {
+// The title and the limits that the sample is served with.
+fn sample_config(alloc: Global) -> Result<ToolConfig, AllocError>
+    ensures most { IfOk result (λ config. config.most_input < 2 ^ 64 - 1) }
+    ensures longest { IfOk result (λ config. config.longest_line < 2 ^ 64 - 1) }
+    ensures budget { IfOk result (λ config. config.frame_budget < 2 ^ 64 - 1) }
+{
+    Ok(ToolConfig {
+        title: Text::from_str(alloc, sample_api::TITLE)?,
+        server: sample_api::server_config(),
+        frame_budget: sample_api::FRAME_BUDGET,
+        longest_line: sample_api::LONGEST_LINE,
+        most_input: sample_api::MOST_INPUT,
+    })
+}
+
+// Runs a command of the sample API over the standard streams. Handlers are boxed in the function that keeps them: one
+// that hands a box out is not allowed.
+fn run_sample(rt: &HostRuntime, words: &[String]) -> Result<ToolStatus, NewEndpointError> {
     let alloc = rt.alloc();
     let mut endpoints = Vec::new(alloc);
-    match ApiEndpoint::new(
-        alloc,
-        Text::from_ascii(alloc, "point_create")?,
-        Box::new(alloc, PointCreate::new(alloc)?)?,
-        Method::POST,
-        "application/json",
-        Text::from_ascii(alloc, "/points")?,
-        ApiEndpointVersions::all(),
-    ) {
-        Ok(endpoint) => endpoints.push(endpoint)?,
-        Err(NewEndpointError::OutOfMemory) => return Err(AllocError),
-        Err(NewEndpointError::UnsupportedMime(_)) => unreachable!(),
+    for endpoint in sample_api::endpoints(alloc)? {
+        let SampleEndpoint {
+            handler,
+            operation_id,
+            method,
+            path,
+            versions,
+            body_limit,
+            visible,
+        } = endpoint;
+        let Ok(handler) = Box::new(alloc, handler) else {
+            return Err(NewEndpointError::OutOfMemory);
+        };
+        let mut made = ApiEndpoint::new(
+            alloc,
+            operation_id,
+            handler,
+            method,
+            JSON,
+            path,
+            versions,
+        )?;
+        made.request_body_max_bytes = body_limit;
+        made.visible = visible;
+        if endpoints.push(made).is_err() {
+            return Err(NewEndpointError::OutOfMemory);
+        }
     }
-    let config = sample::config(alloc)?;
+    let config = sample_config(alloc)?;
+    let mut store = sample_api::points_store(alloc)?;
     Ok(run(
         alloc,
         words,
         endpoints,
         TagConfig::default_config(alloc),
-        &mut Store::new(alloc),
+        &mut store,
         &config,
         &mut StdSource::new(rt.stdin()),
         &mut StdSink::new(rt.stdout()),
@@ -70,26 +106,36 @@ fn write_out(rt: &HostRuntime, text: &str) -> ToolStatus {
     }
 }
 
-// Does what the words of the command line ask for.
-fn run_words(rt: &HostRuntime, words: &[String]) -> ToolStatus {
+// The code of a status. One that is not 0 is told on standard error.
+fn told(rt: &HostRuntime, status: &ToolStatus) -> u8 {
+    let code = status.code();
+    if code != 0 {
+        let _ = eprintln!(rt; "contract-tool: {}", status);
+    }
+    code
+}
+
+// Does what the words of the command line ask for, and gives the code that the program ends with: 1 where an endpoint
+// of the sample could not be made.
+fn run_words(rt: &HostRuntime, words: &[String]) -> u8 {
     match words {
-        [word] if word.as_str() == "--help" => write_out(rt, HELP),
-        [word] if word.as_str() == "--version" => write_out(rt, VERSION),
+        [word] if word.as_str() == "--help" => told(rt, &write_out(rt, HELP)),
+        [word] if word.as_str() == "--version" => told(rt, &write_out(rt, VERSION)),
         words => match run_sample(rt, words) {
-            Ok(status) => status,
-            Err(AllocError) => ToolStatus::OutOfMemory,
+            Ok(status) => told(rt, &status),
+            Err(NewEndpointError::OutOfMemory) => told(rt, &ToolStatus::OutOfMemory),
+            Err(error) => {
+                let _ = eprintln!(rt; "contract-tool: {}", error);
+                1
+            }
         },
     }
 }
 
 fn main(rt: HostRuntime) -> ExitCode {
-    let status = match command_words(&rt) {
+    let code = match command_words(&rt) {
         Ok(words) => run_words(&rt, &words),
-        Err(status) => status,
+        Err(status) => told(&rt, &status),
     };
-    let code = status.code();
-    if code != 0 {
-        let _ = eprintln!(rt; "contract-tool: {}", status);
-    }
     ExitCode::from(code)
 }

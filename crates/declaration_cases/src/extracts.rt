@@ -8,7 +8,7 @@ use endpoint_notation::{
 use handler_shapes::ArgList;
 use http_bodies::{Body, FrameError};
 use request_parts::RequestParts;
-use schema_values::Json;
+use schema_values::{Json, Scratch};
 use std::alloc::{AllocError, Global};
 
 /// What comes of the request of a case for its slots, and how many frames its body then has left.
@@ -53,6 +53,7 @@ fn served(
     }
     let outcome = extract(
         alloc,
+        &mut Scratch::new(alloc),
         &slots,
         &table,
         request,

@@ -1,62 +1,173 @@
-//! What an API answers the request of a case.
-ghost use Rattle.std.specs.Prelude.{[]};
-ghost use Rattle.api_description.specs.Endpoints.{boxed};
-ghost use Rattle.api_description.specs.Registering.{AreAccepted};
+//! What an API answers the request of a case, from an empty store, or from that of the sample. The request, its body
+//! and how it is read are noted as requests.rt and reading.rt of `endpoint_notation` say. What is told is what a reply
+//! line of the tool tells, with the arguments of the handler under `"args"`, or the place of the fault under `"at"`;
+//! and how many bytes of the body were not read, under `"unread"`.
+ghost use Rattle.std.specs.Prelude.{◌<◌, ◌-◌, ◌^◌};
+ghost use Rattle.api_endpoints.specs.Endpoints.{boxed};
+ghost use Rattle.api_descriptions.specs.Ready.{IsReady};
 
-use crate::requests::{body_of, config, request_at, request_of};
-use crate::responses::response_told;
-use api_description::api_extract::RequestParts;
-use api_description::api_respond::RouteHandler;
-use api_description::tree_store::Store;
-use api_description::{ApiDescription, Exchange, ExchangeError};
-use case_notation::{CaseError, labelled, say};
-use schema_values::Json;
+use crate::own_source::OwnSource;
+use crate::responses::with_response;
+use crate::stores::store_of;
+use api_descriptions::{ApiDescription, Exchange, ExchangeError};
+use api_respond::RouteHandler;
+use case_notation::{CaseError, Record, say};
+use endpoint_notation::{Reading, args_told, body_of, parts_of, reading_of, request_at};
+use handler_shapes::ArgList;
+use http_bodies::{Body, DumpError, http_dump_body};
+use http_status::Response;
+use request_parts::{RequestParts, ServerConfig};
+use sample_api::server_config;
+use schema_values::{Json, Scratch};
 use std::alloc::Global;
+use tree_store::Store;
+use typed_values::Fault;
 
-/// The answer to the request of a case, from an empty store: as a reply line of the tool tells it.
-pub fn exchanged(alloc: Global, case: &Json, api: &ApiDescription) -> Result<Json, CaseError>
-    requires { AreAccepted
-        (boxed ⟦<dyn RouteHandler as RouteHandler>⟧) [] api.now.endpoints.items }
-{
-    let noted = request_at(case)?;
-    let body = body_of(noted)?;
-    let request = request_of(alloc, case, noted)?;
-    answer(alloc, api, &request, body)
+/// How a body is given.
+#[derive(Clone, Copy)]
+pub enum Way {
+    /// As a body.
+    Body,
+    /// As a source of frames of the program's own.
+    Source,
 }
 
-fn answer(
+/// What comes of the request of a case.
+pub fn exchanged(
+    alloc: Global,
+    case: &Json,
+    api: &ApiDescription,
+    way: Way,
+) -> Result<Json, CaseError>
+    requires { IsReady (boxed ⟦<dyn RouteHandler as RouteHandler>⟧) api.now }
+{
+    let body = body_of(alloc, request_at(case)?)?;
+    let mut source = OwnSource { body };
+    let told = outcome_of(alloc, case, api, way, &mut source)?;
+    told.put("unread", unread_told(alloc, &mut source.body))
+        .done()
+}
+
+fn unread_told(alloc: Global, body: &mut Body) -> Result<Json, CaseError> {
+    match http_dump_body(alloc, body, 1_000) {
+        Ok(bytes) => Ok(Json::Int(bytes.into())),
+        Err(DumpError::Failed) => say(alloc, "fails"),
+        Err(DumpError::FrameBudget) => Err(CaseError::Expected("fewer frames")),
+        Err(DumpError::OutOfMemory) => Err(CaseError::OutOfMemory),
+    }
+}
+
+fn outcome_of(
+    alloc: Global,
+    case: &Json,
+    api: &ApiDescription,
+    way: Way,
+    source: &mut OwnSource,
+) -> Result<Record, CaseError>
+    requires { IsReady (boxed ⟦<dyn RouteHandler as RouteHandler>⟧) api.now }
+{
+    let reading = reading_of(alloc, case)?;
+    let mut store = store_of(alloc, case)?;
+    let request = Box::new(alloc, parts_of(alloc, case, request_at(case)?)?)?;
+    let outcome = outcome_by(alloc, api, way, reading, &mut store, &request, source);
+    outcome_told(alloc, outcome, reading.calls)
+}
+
+fn outcome_by(
     alloc: Global,
     api: &ApiDescription,
+    way: Way,
+    reading: Reading,
+    store: &mut Store,
     request: &RequestParts,
-    body: &[u8],
-) -> Result<Json, CaseError>
-    requires { AreAccepted
-        (boxed ⟦<dyn RouteHandler as RouteHandler>⟧) [] api.now.endpoints.items }
+    source: &mut OwnSource,
+) -> Result<Exchange, ExchangeError>
+    requires ready { IsReady (boxed ⟦<dyn RouteHandler as RouteHandler>⟧) api.now }
+    requires budget { reading.budget < 2 ^ 64 - 1 }
 {
-    let config = config()?;
-    let mut store = Store::new(alloc);
-    match api.exchange(alloc, &mut store, request, body, &config) {
-        Ok(exchange) => exchange_told(alloc, &exchange),
+    let budget = reading.budget;
+    let config = config_of(reading.limit);
+    let room = &mut Scratch::new(alloc);
+    match way {
+        Way::Body => api.exchange(
+            alloc,
+            room,
+            store,
+            request,
+            &mut source.body,
+            budget,
+            &config,
+        ),
+        Way::Source => api.exchange_from(alloc, room, store, request, source, budget, &config),
+    }
+}
+
+fn config_of(limit: u64) -> ServerConfig {
+    ServerConfig {
+        default_request_body_max_bytes: limit,
+        ..server_config()
+    }
+}
+
+fn outcome_told(
+    alloc: Global,
+    outcome: Result<Exchange, ExchangeError>,
+    calls: u64,
+) -> Result<Record, CaseError> {
+    match outcome {
+        Ok(exchange) => Ok(exchange_told(alloc, exchange, calls)),
         Err(error) => error_told(alloc, error),
     }
 }
 
-fn exchange_told(alloc: Global, exchange: &Exchange) -> Result<Json, CaseError> {
+fn exchange_told(alloc: Global, exchange: Exchange, calls: u64) -> Record {
     match exchange {
-        Exchange::Handled { response, .. } => response_told(alloc, "handled", response),
-        Exchange::Refused { response, .. } => response_told(alloc, "refused", response),
+        Exchange::Handled {
+            args,
+            reply,
+            response,
+        } => {
+            drop(reply);
+            handled_told(alloc, args, response, calls)
+        }
+        Exchange::Refused { fault, response } => refused_told(alloc, &fault, response),
     }
 }
 
-fn error_told(alloc: Global, error: ExchangeError) -> Result<Json, CaseError> {
+fn handled_told(alloc: Global, args: ArgList, response: Response, calls: u64) -> Record {
+    let told = Record::new(alloc)
+        .text("outcome", "handled")
+        .put("args", args_told(alloc, args, calls));
+    with_response(alloc, told, response)
+}
+
+fn refused_told(alloc: Global, fault: &Fault, response: Response) -> Record {
+    let told = Record::new(alloc)
+        .text("outcome", "refused")
+        .text("at", fault.path.as_str());
+    with_response(alloc, told, response)
+}
+
+fn error_told(alloc: Global, error: ExchangeError) -> Result<Record, CaseError> {
+    let told = Record::new(alloc);
     match error {
-        ExchangeError::BadRequestId => outcome(alloc, "bad-request-id"),
-        ExchangeError::NoSuchOperation => outcome(alloc, "no-such-operation"),
+        ExchangeError::BadRequestId => Ok(told.text("outcome", "bad-request-id")),
+        ExchangeError::NoSuchOperation => Ok(told.text("outcome", "no-such-operation")),
+        ExchangeError::WrongVariables => Ok(told.text("outcome", "wrong-variables")),
+        ExchangeError::BodyFault(response) => {
+            let told = told.text("outcome", "body-fault");
+            Ok(with_response(alloc, told, response))
+        }
+        ExchangeError::BodyTooLarge(sum, response) => {
+            let told = told
+                .text("outcome", "body-too-large")
+                .number("sum", sum.into());
+            Ok(with_response(alloc, told, response))
+        }
+        ExchangeError::FrameBudget(count) => Ok(
+            told.text("outcome", "frame-budget")
+                .number("count", count.into()),
+        ),
         ExchangeError::OutOfMemory => Err(CaseError::OutOfMemory),
     }
-}
-
-/// An outcome without a response.
-pub fn outcome(alloc: Global, outcome: &str) -> Result<Json, CaseError> {
-    labelled(alloc, "outcome", say(alloc, outcome))
 }

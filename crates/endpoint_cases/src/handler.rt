@@ -1,221 +1,148 @@
-//! The handlers of cases. `"handler"` is `"returns"`, which gives back what it is given and stands
-//! where it is left out; `"fails"`, whose every reply is an internal error, under the table and the
-//! errors of `HttpError`; `"context"`, which gives a text of what it is told besides its arguments;
-//! or `{"gives":TREE}`. A reply that does not fit the response is want of memory, which ends the
-//! program.
-ghost use Rattle.std.specs.Prelude.{◌≡◌, ◌∷◌, [], ⊤, IfOk, IsTrue, MatchOption, Some, codes};
-ghost use Rattle.typed_values.specs.Checks.{TablePasses, DescPasses};
-ghost use Rattle.typed_values.specs.Fits.{Fits};
-ghost use Rattle.descriptors.specs.declared.desc.Desc.{Ref};
-ghost use Rattle.api_description.specs.Replies.{ContentFits, ContentPasses, ReplyFits, ShapePasses};
-ghost use Rattle.api_description.specs.Responses.{error_definition};
+//! The handlers of cases: the shape of an endpoint, and what is done, as outcomes.rt says. Where the endpoint notes no
+//! errors, and its table has no other definition of their name, they are those of the library. Of errors of another
+//! type the body is the tree under `"refuses"`. What is not of the shape is want of memory, which ends the program.
+ghost use Rattle.std.specs.Prelude.{IfOk, IsTrue};
+ghost use Rattle.handler_shapes.specs.ShapeChecks.{ShapePasses};
+ghost use Rattle.api_respond.specs.Replies.{ErrorFits, ReplyFits};
+ghost use Rattle.endpoint_cases.specs.Codeless.{is_codeless_right};
+ghost use Rattle.endpoint_cases.specs.Errors.{IsDefined, IsNamed};
 
-use crate::shapes::{error_table, http_errors, response_of, shape_of, slots_of};
-use api_description::api_extract::{Arg, ArgList};
-use api_description::api_respond::{
-    Content, ContentShape, ErrorReply, HandlerShape, Reply, RequestContext, RouteHandler,
-    SuccessReply,
-};
-use api_description::http_status::HttpError;
-use api_description::tree_store::Store;
-use case_notation::{CaseError, check_names, given, tree_of};
-use http::StatusCode;
+use crate::fitting::{own_fits, success_fits};
+use crate::outcomes::{error_of, success_of, tree_or_want};
+use crate::shapes::{is_codeless_right, set_errors};
+use api_respond::{ErrorReply, Reply, RequestContext, RouteHandler, SuccessReply};
+use case_notation::CaseError;
+use endpoint_notation::shape_of;
+use handler_shapes::{Arg, ArgList, HandlerShape, shape_passes};
+use http_status::{ErrorStatusCode, HttpError};
 use schema_values::{Json, Text};
 use std::alloc::{AllocError, Global};
-use typed_values::{Desc, DescTable, Tree, fits};
+use tree_store::Store;
 
-/// What is given in a success.
+/// A handler that does what its case notes.
 #[derive(Drop)]
-enum Gives {
-    /// What was given.
-    Body,
-    /// What was told.
-    Context,
-    /// This tree.
-    Tree(Tree),
+pub struct NotedHandler {
+    shape: Box<HandlerShape>,
+    library: bool,
+    does: Json,
+    ghost codeless: { IsTrue (is_codeless_right shape.value.response) },
+    ghost named: { IsTrue library → IsNamed shape.value },
+    ghost defined: { IsTrue library → IsDefined shape.value },
 }
 
-/// Fails, or gives something under a shape.
-#[derive(Drop)]
-pub struct Replies {
-    shape: HandlerShape,
-    fails: bool,
-    gives: Gives,
-    ghost errors: { IsTrue fails → shape ≡ record shape {
-      table = error_definition ∷ [];
-      error = Some (record { desc = Ref (codes "Error"); name = codes "Error" });
-    } },
-}
-
-/// The handler that is noted.
-pub fn handler_of(alloc: Global, noted: &Json) -> Result<Replies, CaseError> {
-    match noted.get("handler") {
-        Some(Json::Text(word)) if word.equals_str("fails") => failing_handler(alloc, noted),
-        handler => giving_handler(alloc, noted, handler),
-    }
-}
-
-fn failing_handler(alloc: Global, noted: &Json) -> Result<Replies, CaseError> {
-    Ok(Replies {
-        shape: failing_shape(alloc, noted)?,
-        fails: true,
-        gives: Gives::Body,
-    })
-}
-
-fn giving_handler(
+/// The handler of the shape that is noted, which does this.
+pub fn handler_of(
     alloc: Global,
     noted: &Json,
-    handler: Option<&Json>,
-) -> Result<Replies, CaseError> {
-    Ok(Replies {
-        gives: gives_of(alloc, handler)?,
-        fails: false,
-        shape: shape_of(alloc, noted)?,
-    })
+    does: &Json,
+) -> Result<Box<NotedHandler>, CaseError> {
+    let mut shape = Box::new(alloc, shape_of(alloc, noted)?)?;
+    let library = set_errors(alloc, noted, &mut shape)?;
+    if !is_codeless_right(&shape.response) {
+        return Err(CaseError::Expected("a code, or content of any kind"));
+    }
+    let does = does.copy(alloc)?;
+    let handler = NotedHandler {
+        shape,
+        library,
+        does,
+    };
+    Ok(Box::new(alloc, handler)?)
 }
 
-fn gives_of(alloc: Global, handler: Option<&Json>) -> Result<Gives, CaseError> {
-    match handler {
-        None => Ok(Gives::Body),
-        Some(Json::Text(word)) => gives_named(word.as_str()),
-        Some(handler) => tree_given(alloc, handler),
+impl NotedHandler {
+    // The reply of the success that is noted.
+    fn give(
+        &self,
+        alloc: Global,
+        context: &RequestContext,
+        args: &[Arg],
+    ) -> Result<Reply, AllocError>
+        requires { ShapePasses self.now.shape.value }
+        ensures { IfOk result (λ reply. ReplyFits self.now.shape.value reply) }
+    {
+        let code = self.shape.response.success;
+        self.check(success_of(alloc, &self.does, code, context, args)?)
+    }
+
+    fn check(&self, reply: SuccessReply) -> Result<Reply, AllocError>
+        requires { ShapePasses self.now.shape.value }
+        ensures { IfOk result (λ reply. ReplyFits self.now.shape.value reply) }
+    {
+        if success_fits(&self.shape.table, &self.shape.response, &reply) {
+            Ok(Reply::Success(reply))
+        } else {
+            Err(AllocError)
+        }
+    }
+
+    // The failure of the error that is noted.
+    fn fail(&self, alloc: Global, noted: &Json) -> Result<Reply, AllocError>
+        ensures { IfOk result (λ reply. ReplyFits self.now.shape.value reply) }
+    {
+        let error = error_of(alloc, noted)?;
+        Ok(Reply::Failure(self.refuse(alloc, error)?))
+    }
+
+    // An error of another type than the library's.
+    fn own(&self, alloc: Global, status: ErrorStatusCode) -> Result<ErrorReply, AllocError>
+        ensures { IfOk result (λ reply. ErrorFits self.now.shape.value reply) }
+    {
+        if !shape_passes(&self.shape) {
+            return Err(AllocError);
+        }
+        let body = tree_or_want(alloc, self.does.get("refuses"))?;
+        if !own_fits(&self.shape.table, &self.shape.error, &body) {
+            return Err(AllocError);
+        }
+        Ok(ErrorReply::Own {
+            status,
+            body,
+            message: Text::new(alloc),
+        })
     }
 }
 
-fn tree_given(alloc: Global, handler: &Json) -> Result<Gives, CaseError> {
-    check_names(handler, &["gives"])?;
-    Ok(Gives::Tree(tree_of(alloc, given(handler, "gives")?)?))
-}
+impl RouteHandler for NotedHandler {
+    ghost use Rattle.std.specs.Prelude.{⊤, codes};
 
-fn gives_named(word: &str) -> Result<Gives, CaseError> {
-    match word {
-        "returns" => Ok(Gives::Body),
-        "context" => Ok(Gives::Context),
-        _ => Err(CaseError::Expected("the name of a handler")),
-    }
-}
+    ghost logged_as = { λ _. codes "handler of a case" };
 
-fn failing_shape(alloc: Global, noted: &Json) -> Result<HandlerShape, CaseError>
-    ensures { IfOk result (λ shape. shape ≡ record shape {
-      table = error_definition ∷ [];
-      error = Some (record { desc = Ref (codes "Error"); name = codes "Error" });
-    }) }
-{
-    Ok(HandlerShape {
-        table: error_table(alloc)?,
-        slots: slots_of(alloc, noted)?,
-        error: Some(http_errors(alloc)?),
-        response: response_of(alloc, noted)?,
-    })
-}
-
-impl RouteHandler for Replies {
-    ghost use Rattle.std.specs.Prelude.{◌≡◌, ⊤, codes, if◌then◌else◌};
-    ghost use Rattle.api_description.specs.declared.api_respond.reply.ErrorReply.TheVariants.{Http};
-
-    ghost logged_as = { λ handler. if handler.fails then codes "fails" else codes "returns" };
-
-    ghost shape_of = { λ handler. handler.shape };
+    ghost shape_of = { λ handler. handler.shape.value };
 
     ghost allows = { λ _ _ _ _ _ _. ⊤ };
 
-    ghost turns = { λ _ error reply. reply ≡ Http error };
+    ghost turns = { λ _ _ _. ⊤ };
 
     fn label(&self) -> &str {
-        if self.fails { "fails" } else { "returns" }
+        "handler of a case"
     }
 
     fn shape(&self) -> &HandlerShape {
         &self.shape
     }
 
+    #[tactic(auto, using(typed_extractors::proofs::Arguments::all_untouched))]
     fn handle(
         &self,
         alloc: Global,
         ctx: &RequestContext,
-        store: &mut Store,
+        _store: &mut Store,
         args: &mut ArgList,
     ) -> Result<Reply, AllocError> {
-        if self.fails {
-            return failure(alloc, &self.shape);
-        }
-        match (&self.gives, args.as_slice()) {
-            (Gives::Body, [Arg::Tree(body)]) => success(&self.shape, body.copy(alloc)?),
-            (Gives::Body, _) => Err(AllocError),
-            (Gives::Context, _) => success(&self.shape, context_tree(alloc, ctx)?),
-            (Gives::Tree(tree), _) => success(&self.shape, tree.copy(alloc)?),
+        match self.does.get("fails") {
+            Some(error) => self.fail(alloc, error),
+            None => self.give(alloc, ctx, args.as_slice()),
         }
     }
 
+    #[tactic(auto, using(crate::proofs::LibraryErrors::has_errors))]
     fn refuse(&self, alloc: Global, error: HttpError) -> Result<ErrorReply, AllocError> {
-        Ok(ErrorReply::Http(error))
-    }
-}
-
-fn failure(alloc: Global, shape: &HandlerShape) -> Result<Reply, AllocError>
-    requires { shape.now ≡ record shape.now {
-      table = error_definition ∷ [];
-      error = Some (record { desc = Ref (codes "Error"); name = codes "Error" });
-    } }
-    ensures { IfOk result (λ reply. ReplyFits shape.now reply) }
-{
-    let message = Text::from_str(alloc, "for the log alone")?;
-    let error = HttpError::for_internal_error(alloc, message)?;
-    Ok(Reply::Failure(ErrorReply::Http(error)))
-}
-
-fn context_tree(alloc: Global, context: &RequestContext) -> Result<Tree, AllocError> {
-    context_told(alloc, &context.copy(alloc)?)
-}
-
-fn context_told(alloc: Global, context: &RequestContext) -> Result<Tree, AllocError> {
-    let operation_id = &context.endpoint.operation_id;
-    let mime_type = context.endpoint.body_content_type.mime_type();
-    let request_id = context.request_id.text();
-    let method = context.request.method().as_str();
-    let most_bytes = context.config.default_request_body_max_bytes;
-    let told = format!(in alloc; "{operation_id} {mime_type} {request_id} {method} {most_bytes}")?;
-    Ok(Tree::Text(Text::from_string(told)))
-}
-
-fn success(shape: &HandlerShape, body: Tree) -> Result<Reply, AllocError>
-    requires { ShapePasses shape.now }
-    ensures { IfOk result (λ reply. ReplyFits shape.now reply) }
-{
-    Ok(Reply::Success(SuccessReply {
-        status: status_of(shape.response.success),
-        content: content_of(&shape.table, &shape.response.content, body)?,
-    }))
-}
-
-fn status_of(success: Option<StatusCode>) -> StatusCode
-    ensures { MatchOption success ⊤ (λ code. result ≡ code) }
-{
-    match success {
-        Some(status) => status,
-        None => StatusCode::OK,
-    }
-}
-
-fn content_of(table: &DescTable, content: &ContentShape, body: Tree) -> Result<Content, AllocError>
-    requires table { TablePasses table.now }
-    requires content { ContentPasses table.now content.now }
-    ensures { IfOk result (λ reply. ContentFits table.now content.now reply) }
-{
-    match content {
-        ContentShape::Json(desc, _) => Ok(Content::Json(fitting(table, desc, body)?)),
-    }
-}
-
-fn fitting(table: &DescTable, desc: &Desc, tree: Tree) -> Result<Tree, AllocError>
-    requires table { TablePasses table.now }
-    requires desc { DescPasses table.now desc.now }
-    ensures { IfOk result (λ same. Fits table.now desc.now same) }
-{
-    if fits(table, desc, &tree) {
-        Ok(tree)
-    } else {
-        Err(AllocError)
+        if self.library || self.shape.error.is_none() {
+            return Ok(ErrorReply::Http(error));
+        }
+        let status = error.status_code;
+        drop(error);
+        self.own(alloc, status)
     }
 }

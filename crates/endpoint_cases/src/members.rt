@@ -1,48 +1,52 @@
 //! Members of cases that may be left out.
-use case_notation::{CaseError, Reader, given, number_of, text_of};
-use schema_values::{Json, List, Text};
+use case_notation::{CaseError, Reader, number_of};
+use endpoint_notation::u64_of;
+use schema_values::{Json, List};
 use std::alloc::Global;
+use tag_config::TagConfig;
+use typed_values::DecodeError;
 
-/// The text under a name.
-pub fn text_at(alloc: Global, noted: &Json, name: &'static str) -> Result<Text, CaseError> {
-    Ok(text_of(given(noted, name)?)?.copy(alloc)?)
-}
-
-/// The text under a name, or another where there is none.
-pub fn text_or(alloc: Global, noted: &Json, name: &str, other: &str) -> Result<Text, CaseError> {
+/// Reads the number of 32 bits under a name, or another where there is none.
+pub fn read_number_or(reader: &mut Reader, noted: &Json, name: &str, other: u32) -> u32 {
     match noted.get(name) {
-        Some(text) => Ok(text_of(text)?.copy(alloc)?),
-        None => Ok(Text::from_str(alloc, other)?),
+        Some(number) => reader.or(u32_of(number), other),
+        None => other,
     }
 }
 
-/// The number of 32 bits under a name, or another where there is none.
-pub fn number_or(noted: &Json, name: &str, other: u32) -> Result<u32, CaseError> {
-    let Some(number) = noted.get(name) else {
-        return Ok(other);
-    };
-    match u32::try_from(number_of(number)?) {
+fn u32_of(noted: &Json) -> Result<u32, CaseError> {
+    match u32::try_from(number_of(noted)?) {
         Ok(number) => Ok(number),
         Err(_) => Err(CaseError::Expected("a number of 32 bits")),
     }
 }
 
-/// The numbers under a name, or none where it is left out.
-pub fn numbers_of(alloc: Global, noted: &Json, name: &str) -> Result<List<u64>, CaseError> {
-    let mut reader = Reader::new(alloc);
-    let mut numbers = List::new(alloc);
+/// Reads the numbers under a name, none where they are left out.
+pub fn read_numbers(reader: &mut Reader, noted: &Json, name: &str) -> List<u64> {
+    let mut numbers = List::new(reader.alloc());
     if let Some(noted) = noted.get(name) {
         for number in reader.items(noted) {
             let number = reader.or(u64_of(number), 0);
             reader.push(&mut numbers, number);
         }
     }
-    reader.finish(numbers)
+    numbers
 }
 
-fn u64_of(noted: &Json) -> Result<u64, CaseError> {
-    match u64::try_from(number_of(noted)?) {
-        Ok(number) => Ok(number),
-        Err(_) => Err(CaseError::Expected("a number of 64 bits")),
+/// The settings under `tag_config`; all tags are allowed where they are left out.
+pub fn settings_at(alloc: Global, case: &Json) -> Result<TagConfig, CaseError> {
+    let Some(json) = case.get("tag_config") else {
+        return Ok(TagConfig::default_config(alloc));
+    };
+    if !json.sound() {
+        return Err(CaseError::Expected("sound JSON"));
+    }
+    TagConfig::from_json(alloc, json).map_err(not_decoded)
+}
+
+fn not_decoded(error: DecodeError) -> CaseError {
+    match error {
+        DecodeError::Fault(_) => CaseError::Expected("settings of tags"),
+        DecodeError::OutOfMemory => CaseError::OutOfMemory,
     }
 }

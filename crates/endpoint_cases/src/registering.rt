@@ -1,71 +1,77 @@
-//! What is told of endpoints as they are registered, and which endpoints an API then has.
-use api_description::{ApiDescription, ApiEndpoint, RegisterError};
-use case_notation::{CaseError, Record, Row, say, string_told};
-use schema_values::Json;
+//! What is told of endpoints as they are registered one by one.
+use crate::members::settings_at;
+use api_descriptions::{
+    ApiDescription, ApiDescriptionBuildErrors, ApiDescriptionRegisterError, ApiEndpoint,
+    RegisterError, TagConfig,
+};
+use case_notation::{CaseError, Reader, Record, Row, say, string_told};
+use schema_values::{Json, List};
 use std::alloc::Global;
 
-/// What is told of each endpoint as it is registered: `registered`, or the cause and the message of
-/// its refusal.
-pub fn registered(alloc: Global, endpoints: Vec<ApiEndpoint>) -> Result<Json, CaseError> {
-    let mut api = ApiDescription::new(alloc);
-    let mut words = Row::new(alloc);
-    for endpoint in endpoints {
-        words.push(told(alloc, api.register(endpoint)));
-    }
-    words.done()
+/// What is told of the refusals of endpoints together, in a copy of their errors.
+pub fn errors_told(
+    alloc: Global,
+    case: &Json,
+    endpoints: Vec<ApiEndpoint>,
+) -> Result<Json, CaseError> {
+    let settings = settings_at(alloc, case)?;
+    let mut reader = Reader::new(alloc);
+    let errors = errors_of(alloc, settings, endpoints, &mut reader);
+    let errors = ApiDescriptionBuildErrors::new(reader.finish(errors)?);
+    copy_told(alloc, &errors.copy(alloc)?)
 }
 
-fn told(alloc: Global, outcome: Result<(), RegisterError>) -> Result<Json, CaseError> {
+fn copy_told(alloc: Global, errors: &ApiDescriptionBuildErrors) -> Result<Json, CaseError> {
+    let mut causes = Row::new(alloc);
+    for error in errors.errors() {
+        causes.push(string_told(format!(in alloc; "{:?}", error.cause())));
+    }
+    Record::new(alloc)
+        .put("causes", causes.done())
+        .put("text", string_told(format!(in alloc; "{errors}")))
+        .done()
+}
+
+fn errors_of(
+    alloc: Global,
+    settings: TagConfig,
+    endpoints: Vec<ApiEndpoint>,
+    reader: &mut Reader,
+) -> List<ApiDescriptionRegisterError> {
+    let mut errors = List::new(alloc);
+    let mut api = ApiDescription::new(alloc).tag_config(settings);
+    for endpoint in endpoints {
+        match api.register(endpoint) {
+            Ok(()) => {}
+            Err(RegisterError::Refused(error)) => reader.push(&mut errors, error),
+            Err(RegisterError::OutOfMemory) => reader.keep(CaseError::OutOfMemory),
+        }
+    }
+    errors
+}
+
+/// What is told of an endpoint: `registered`, or the cause and the message of its refusal.
+pub fn outcome_told(alloc: Global, outcome: Result<(), RegisterError>) -> Result<Json, CaseError> {
     match outcome {
         Ok(()) => say(alloc, "registered"),
-        Err(RegisterError::Refused(error)) => {
-            string_told(format!(in alloc; "{:?}: {}", error.cause(), error.message()))
-        }
+        Err(RegisterError::Refused(error)) => cause_told(alloc, &error),
         Err(RegisterError::OutOfMemory) => Err(CaseError::OutOfMemory),
     }
 }
 
+fn cause_told(alloc: Global, error: &ApiDescriptionRegisterError) -> Result<Json, CaseError> {
+    string_told(format!(in alloc; "{:?}: {}", error.cause(), error.message()))
+}
+
 /// A refusal, as a copy of it is printed.
-pub fn refusal(alloc: Global, error: &RegisterError) -> Result<Json, CaseError> {
+pub fn refusal_told(alloc: Global, error: &RegisterError) -> Result<Json, CaseError> {
     match error.copy(alloc)? {
-        RegisterError::Refused(error) => {
-            let (cause, id) = (error.cause(), error.operation_id());
-            string_told(format!(in alloc; "{error}, {cause:?} of {id}"))
-        }
+        RegisterError::Refused(error) => printed(alloc, &error),
         RegisterError::OutOfMemory => Err(CaseError::OutOfMemory),
     }
 }
 
-/// The parts of each endpoint that an API has where all are registered that may be.
-pub fn shown(alloc: Global, endpoints: Vec<ApiEndpoint>) -> Result<Json, CaseError> {
-    let mut api = ApiDescription::new(alloc);
-    for endpoint in endpoints {
-        if let Err(RegisterError::OutOfMemory) = api.register(endpoint) {
-            return Err(CaseError::OutOfMemory);
-        }
-    }
-    all_shown(alloc, api.endpoints())
-}
-
-fn all_shown(alloc: Global, endpoints: &[ApiEndpoint]) -> Result<Json, CaseError> {
-    let mut shown = Row::new(alloc);
-    for endpoint in endpoints {
-        shown.push(endpoint_shown(alloc, endpoint));
-    }
-    shown.done()
-}
-
-fn endpoint_shown(alloc: Global, endpoint: &ApiEndpoint) -> Result<Json, CaseError> {
-    let versions = format!(in alloc; "{:?}", endpoint.versions());
-    Record::new(alloc)
-        .text("operation_id", endpoint.operation_id().as_str())
-        .text("method", endpoint.method().as_str())
-        .text("path", endpoint.path().as_str())
-        .text(
-            "body_content_type",
-            endpoint.body_content_type().mime_type(),
-        )
-        .put("versions", string_told(versions))
-        .text("handler", endpoint.handler().label())
-        .done()
+fn printed(alloc: Global, error: &ApiDescriptionRegisterError) -> Result<Json, CaseError> {
+    let (cause, id) = (error.cause(), error.operation_id());
+    string_told(format!(in alloc; "{error}, {cause:?} of {id}"))
 }

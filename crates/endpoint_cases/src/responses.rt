@@ -1,37 +1,31 @@
 //! Responses as cases tell them: as a reply line of the tool does.
-use api_description::http_status::{HeaderList, Response};
+use body_reading::{BodyError, read_whole};
 use case_notation::{CaseError, Record, Row, both, say};
+use endpoint_notation::bytes_noted;
+use http_status::{Body, HeaderList, Response};
 use schema_values::Json;
 use std::alloc::Global;
-use std::str;
 
-/// An outcome and the response to it.
-pub fn response_told(alloc: Global, outcome: &str, response: &Response) -> Result<Json, CaseError> {
-    Record::new(alloc)
-        .text("outcome", outcome)
-        .number("status", response.status.as_u16().into())
-        .put("headers", headers_told(alloc, &response.headers))
-        .put("body", text_told(alloc, response.body.as_slice()))
-        .done()
+/// What is told, with the response behind it.
+pub fn with_response(alloc: Global, told: Record, mut response: Response) -> Record {
+    told.number("status", response.status.as_u16().into())
+        .put("headers", lines_told(alloc, &response.headers))
+        .put("body", content_told(alloc, &mut response.body))
 }
 
-// The lines of a copy of some headers.
-fn headers_told(alloc: Global, headers: &HeaderList) -> Result<Json, CaseError> {
-    lines_told(alloc, &headers.copy(alloc)?)
-}
-
-fn lines_told(alloc: Global, headers: &HeaderList) -> Result<Json, CaseError> {
-    let mut pairs = Row::new(alloc);
-    for (name, value) in headers.lines() {
+fn lines_told(alloc: Global, lines: &HeaderList) -> Result<Json, CaseError> {
+    let mut told = Row::new(alloc);
+    for (name, value) in lines.lines() {
         let name = say(alloc, name.as_str());
-        pairs.push(both(alloc, name, text_told(alloc, value.as_bytes())));
+        told.push(both(alloc, name, bytes_noted(alloc, value.as_bytes())));
     }
-    pairs.done()
+    told.done()
 }
 
-fn text_told(alloc: Global, bytes: &[u8]) -> Result<Json, CaseError> {
-    match str::from_utf8(bytes) {
-        Ok(text) => say(alloc, text),
-        Err(_) => Err(CaseError::Expected("a response of texts")),
+fn content_told(alloc: Global, body: &mut Body) -> Result<Json, CaseError> {
+    match read_whole(alloc, body, 65_536, 1_000) {
+        Ok(content) => bytes_noted(alloc, content.as_slice()),
+        Err(BodyError::OutOfMemory) => Err(CaseError::OutOfMemory),
+        Err(_) => Err(CaseError::Expected("the body of a response")),
     }
 }

@@ -1,12 +1,12 @@
-//! Sessions of lines of which each is answered with itself.
-use crate::members::number_or;
-use crate::streams::{lines_told, sink_of, source_of};
-use case_notation::{CaseError, Record, string_told};
+//! Sessions of lines of which each is answered with itself, but for a line `lost`, whose reply is lost.
+use crate::limits::{Limits, read_limits};
+use crate::streams::{read_sink, read_source, written_told};
+use case_notation::{CaseError, Reader, Record, string_told};
 use line_session::{Answering, MemorySink, MemorySource, SessionEnd, serve};
 use schema_values::{Json, List};
 use std::alloc::{AllocError, Global};
 
-/// Replies with the line itself, and counts the lines. The reply to a line `lost` is lost.
+// Replies with the line itself, and counts the lines.
 struct Echo;
 
 impl Answering for Echo {
@@ -42,49 +42,45 @@ impl Answering for Echo {
     }
 }
 
-/// How a session ends, how many lines it answered, and what it wrote: the front, a line `front`,
-/// and the replies.
-pub fn served(alloc: Global, case: &Json) -> Result<Json, CaseError> {
-    let longest_line = number_or(case, "longest_line", 10)?;
-    let most_input = number_or(case, "most_input", 100)?;
-    let mut source = source_of(alloc, case)?;
-    let mut sink = sink_of(alloc, case)?;
-    let mut lines = 0;
-    let end = ended(
-        alloc,
-        &mut lines,
-        most_input,
-        longest_line,
-        &mut source,
-        &mut sink,
-    );
-    end_told(alloc, end, lines, sink.taken())
+// The limits of a session and its two ends.
+#[derive(Drop)]
+struct Ends {
+    limits: Limits,
+    source: MemorySource,
+    sink: MemorySink,
 }
 
-fn ended(
-    alloc: Global,
-    lines: &mut u64,
-    most_input: u32,
-    longest_line: u32,
-    source: &mut MemorySource,
-    sink: &mut MemorySink,
-) -> SessionEnd {
+/// How a session ends, how many lines it answered, and what it wrote: the front, a line `front`, and the replies.
+pub fn served(alloc: Global, case: &Json) -> Result<Json, CaseError> {
+    let mut reader = Reader::new(alloc);
+    let ends = Ends {
+        limits: read_limits(&mut reader, case),
+        source: read_source(&mut reader, case),
+        sink: read_sink(&mut reader, case),
+    };
+    served_between(alloc, Box::new(alloc, reader.finish(ends)?)?)
+}
+
+fn served_between(alloc: Global, mut ends: Box<Ends>) -> Result<Json, CaseError> {
+    let mut lines = 0;
+    let end = ended(alloc, &mut lines, &mut ends);
+    Record::new(alloc)
+        .put("ended", string_told(format!(in alloc; "{end:?}")))
+        .number("answered", lines.into())
+        .put("written", written_told(alloc, ends.sink.taken(), ""))
+        .done()
+}
+
+fn ended(alloc: Global, lines: &mut u64, ends: &mut Ends) -> SessionEnd {
+    let Limits { input, line, .. } = ends.limits;
     serve(
         alloc,
         &Echo,
         lines,
         b"front\n",
-        u64::from(most_input),
-        u64::from(longest_line),
-        source,
-        sink,
+        u64::from(input),
+        u64::from(line),
+        &mut ends.source,
+        &mut ends.sink,
     )
-}
-
-fn end_told(alloc: Global, end: SessionEnd, lines: u64, written: &[u8]) -> Result<Json, CaseError> {
-    Record::new(alloc)
-        .put("ended", string_told(format!(in alloc; "{end:?}")))
-        .number("answered", lines.into())
-        .put("written", lines_told(alloc, written, ""))
-        .done()
 }

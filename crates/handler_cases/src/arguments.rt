@@ -18,7 +18,7 @@ use handler_shapes::{ArgList, Slot};
 use own_types::{Color, Pin, Point, Span};
 use page_tokens::EmptyScanParams;
 use request_parts::RequestParts;
-use schema_values::{Json, List, Text};
+use schema_values::{Json, List, Scratch, Text};
 use std::alloc::Global;
 use typed_extractors::{Header, PagedQuery, Path, Query, RequestExtractor, TypedBody, UntypedBody};
 use typed_values::{AddError, DescTable};
@@ -141,6 +141,7 @@ fn served<X: RequestExtractor + Told>(
     let reading = reading_of(alloc, case)?;
     match extract_from(
         alloc,
+        &mut Scratch::new(alloc),
         slots,
         table,
         request,

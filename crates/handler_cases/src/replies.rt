@@ -19,7 +19,7 @@ use endpoint_notation::{
 use handler_shapes::{ArgList, HandlerShape, shape_passes};
 use http_status::{Body, HeaderList, HttpError, RequestId, Response};
 use request_parts::{RequestParts, ServerConfig};
-use schema_values::{Json, Text, copy_variables};
+use schema_values::{Json, Scratch, Text, copy_variables};
 use std::alloc::{AllocError, Global};
 use std::num::NonZeroU32;
 use tree_store::Store;
@@ -122,6 +122,7 @@ fn response_to(
     }
     match extract(
         alloc,
+        &mut Scratch::new(alloc),
         &shape.slots,
         &shape.table,
         request,

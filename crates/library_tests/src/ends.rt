@@ -80,7 +80,7 @@ fn the_eleventh_byte_is_too_much(rt: HostRuntime) -> Result<(), Fail> {
 
 // A reader of std over bytes, which gives at most three at once.
 #[derive(Drop)]
-struct Reader<'a>(&'a [u8]);
+pub(crate) struct Reader<'a>(pub &'a [u8]);
 
 impl io::Read for Reader<'_> {
     fn read(&mut self, buf: &mut [u8]) -> io::Result<usize> {
@@ -104,7 +104,7 @@ fn readers_and_writers_of_std_are_ends(rt: HostRuntime) {
 
 // A reader of std that errs.
 #[derive(Drop)]
-struct FailingReader;
+pub(crate) struct FailingReader;
 
 impl io::Read for FailingReader {
     fn read(&mut self, buf: &mut [u8]) -> io::Result<usize> {

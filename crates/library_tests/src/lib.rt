@@ -10,6 +10,8 @@ mod ends;
 #[cfg(test)]
 mod points;
 #[cfg(test)]
+mod runs;
+#[cfg(test)]
 mod schemas;
 #[cfg(test)]
 mod values;

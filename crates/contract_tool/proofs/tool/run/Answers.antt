@@ -1,61 +1,157 @@
-use Rattle.std.proofs.Common.{◌∙◌, Err, ap, refl, subst, sym}
+use Rattle.std.proofs.Common.{◌≡◌, ◌∙◌, Err, ap, codes, inl, inr, refl, subst, sym}
+use Rattle.line_session.specs.Session.{IsAnswered}
 use Rattle.semver.specs.Identifiers.{parts_of}
-use Rattle.contract_tool.specs.declared.config.ToolStatus.TheVariants.{Done}
-use Rattle.contract_tool.specs.Sessions.{IsOpened, status_of}
-use Rattle.contract_tool.proofs.RunLemmas.{answered-same, called-for, ended-so, is-ended, opened, served-same}
+use Rattle.contract_tool.specs.Ends.{DocumentEnds, SessionEnds, outside}
+use Rattle.contract_tool.specs.LineAnswers.{LineAnswers, service}
+use Rattle.contract_tool.specs.Sessions.{IsDocumented, IsOpened, preamble_of}
+use Rattle.contract_tool.specs.Words.{IsCommandOf}
+use Rattle.contract_tool.proofs.RunLemmas.{appended, asked_once, command_is, documented_as, no_usage}
+use Rattle.contract_tool.proofs.RunLemmas.{not_both, opened_as, written_whole}
 use Rattle.contract_tool.proofs.tool.run.Goals as goal
 
+-- ---- no command
+
+pub returns-in-Err-Usage-clause-complete : goal.returns-in-Err-Usage-clause-complete
+returns-in-Err-Usage-clause-complete g c version asked accepted all left status calls source sink =
+    absurd (c.in-Err-Usage.ensures.usage.0 (ap Err c.in-Err-Usage.field-0-is) (version, inl asked))
+
+pub returns-in-Err-Usage-clause-documented : goal.returns-in-Err-Usage-clause-documented
+returns-in-Err-Usage-clause-documented g c version asked accepted sink =
+    absurd (c.in-Err-Usage.ensures.usage.0 (ap Err c.in-Err-Usage.field-0-is) (version, inr asked))
+
+-- ---- endpoints that are refused
+
 pub returns-in-Err-Refused-clause-ended : goal.returns-in-Err-Refused-clause-ended
-returns-in-Err-Refused-clause-ended g c = rw c.in-Err-Refused.field-0-is (
-  (parts_of c.in-Ok.version, c.in-Ok.ensures.session),
-  c.in-Err-Refused.ensures.refused c.in-Err-Refused.error (ap Err c.in-Err-Refused.field-0-is),
-  refl,
-)
+returns-in-Err-Refused-clause-ended g c =
+    rw c.in-Err-Refused.field-0-is (inl (
+      command_is c.args.words.now c.in-Ok.command c.in-Ok.ensures.command,
+      c.in-Err-Refused.ensures.refused c.in-Err-Refused.error (ap Err c.in-Err-Refused.field-0-is),
+      refl,
+    ))
 
 pub returns-in-Err-Refused-clause-complete : goal.returns-in-Err-Refused-clause-complete
-returns-in-Err-Refused-clause-complete g c command accepted all left status calls source sink =
+returns-in-Err-Refused-clause-complete g c version asked accepted all left status calls source sink =
     absurd (cc (sym c.in-Err-Refused.field-0-is ∙ c.in-Err-Refused.ensures.complete accepted))
 
-pub serve-requires-clause-ready : goal.serve-requires-clause-ready
-serve-requires-clause-ready g c = rw c.in-Ok-of_endpoints.ensures.items c.in-Ok-of_endpoints.ensures.accepted
+pub returns-in-Err-Refused-clause-documented : goal.returns-in-Err-Refused-clause-documented
+returns-in-Err-Refused-clause-documented g c version asked accepted sink =
+    absurd (cc (sym c.in-Err-Refused.field-0-is ∙ c.in-Err-Refused.ensures.complete accepted))
 
-pub returns-clause-session : goal.returns-clause-session
-returns-clause-session g c is all written left taken =
-    let end = ended-so c.serve.result c.status_of.result Done c.status_of.ensures is in
-    let preamble = rw c.in-Ok-of_endpoints.ensures.items at (c.as_slice.ensures ∙ c.in-Ok-preamble.ensures) in
+-- ---- a session
+
+pub returns-in-Session-clause-session : goal.returns-in-Session-clause-session
+returns-in-Session-clause-session g c is version asked all earlier left taken =
+    let words = c.args.words.now in
+    let config = c.args.config.now in
+    let at = parts_of c.in-Session.version in
+    let here = subst (IsCommandOf words) c.in-Session.is c.in-Ok.ensures.command in
+    let made = c.in-Ok-of_endpoints.ensures in
+    let laws = c.agrees.ensures in
+    let once = (asked_once (codes "session") (codes "session") words at version here asked).0 in
+    let same : service config c.in-Ok-of_endpoints.api.tags c.in-Ok-of_endpoints.api.endpoints.items at
+    ≡ service config c.args.tags c.args.endpoints.items version = rw (made.tags, made.endpoints, once) refl in
     record {
-      version = parts_of c.in-Ok.version;
-      opened = subst (λ es. IsOpened (λ e. goal.RouteHandler-dyn g (e.handler.vtable, e.handler.value)) c.args.config.now (parts_of c.in-Ok.version) es c.args.words.now) c.in-Ok-of_endpoints.ensures.items
-          (opened (λ e. goal.RouteHandler-dyn g (e.handler.vtable, e.handler.value)) c.args.config.now (parts_of c.in-Ok.version) _ c.args.words.now c.in-Ok.ensures.session c.in-Ok-of_endpoints.ensures.registered
-          (c.agrees.ensures.sound c.args.config.now.title (parts_of c.in-Ok.version))
-          (c.agrees.ensures.listed c.args.config.now.title (parts_of c.in-Ok.version)) (c.agrees.ensures.agreed c.args.config.now.title (parts_of c.in-Ok.version))
-          (c.agrees.ensures.followed c.args.config.now.title c.args.config.now.server));
-      answered = answered-same _ c.args.config.now (parts_of c.in-Ok.version) _ c.args.endpoints.items _ _ all written _ _ _ _ c.in-Ok-of_endpoints.ensures.items preamble (c.serve.ensures.session end all written left taken);
+      opened = subst (λ v. IsOpened (λ e. goal.RouteHandler-dyn g (e.handler.vtable, e.handler.value))
+          (service config c.args.tags c.args.endpoints.items v)) once
+          (opened_as (λ e. goal.RouteHandler-dyn g (e.handler.vtable, e.handler.value)) config at
+          made.tags made.endpoints made.accepted laws.sound laws.lists laws.written laws.agreed
+          laws.followed laws.denoted laws.told);
+      answered = subst (λ s. IsAnswered
+          (LineAnswers (λ e. goal.RouteHandler-dyn g (e.handler.vtable, e.handler.value)) s)
+          (preamble_of (λ e. goal.RouteHandler-dyn g (e.handler.vtable, e.handler.value)) s) all earlier
+          (g.S.Source.left c.run_session.new.source) (g.K.Sink.taken c.run_session.new.sink)
+          c.args.store.now c.run_session.new.store) same (c.run_session.ensures.session is all earlier left taken);
+    }
+
+pub returns-in-Session-clause-document : goal.returns-in-Session-clause-document
+returns-in-Session-clause-document g c is version asked earlier taken =
+    absurd (not_both c.args.words.now (parts_of c.in-Session.version) version
+    (subst (IsCommandOf c.args.words.now) c.in-Session.is c.in-Ok.ensures.command) asked)
+
+pub returns-in-Session-clause-ended : goal.returns-in-Session-clause-ended
+returns-in-Session-clause-ended g c =
+    let config = c.args.config.now in
+    let at = parts_of c.in-Session.version in
+    let made = c.in-Ok-of_endpoints.ensures in
+    let laws = c.agrees.ensures in
+    let same : service config c.in-Ok-of_endpoints.api.tags c.in-Ok-of_endpoints.api.endpoints.items at
+    ≡ service config c.args.tags c.args.endpoints.items at = rw (made.tags, made.endpoints) refl in
+    inr (inl (record {
+      version = at;
+      asked = subst (IsCommandOf c.args.words.now) c.in-Session.is c.in-Ok.ensures.command;
+      opened = opened_as (λ e. goal.RouteHandler-dyn g (e.handler.vtable, e.handler.value)) config at
+          made.tags made.endpoints
+          made.accepted laws.sound laws.lists laws.written laws.agreed laws.followed laws.denoted laws.told;
+      ends = subst (λ s. SessionEnds (λ e. goal.RouteHandler-dyn g (e.handler.vtable, e.handler.value)) s
+          g.S.Source g.K.Sink (outside c.args.source.now c.args.sink.now c.args.store.now)
+          (outside c.run_session.new.source c.run_session.new.sink c.run_session.new.store) c.run_session.result) same
+          c.run_session.ensures.ends;
+    }))
+
+pub returns-in-Session-clause-usage : goal.returns-in-Session-clause-usage
+returns-in-Session-clause-usage g c = (
+  λ is. absurd (no_usage _ _ _ _ _ _ c.run_session.result c.run_session.ensures.ends is),
+  λ none. absurd (none (
+    parts_of c.in-Session.version,
+    inl (subst (IsCommandOf c.args.words.now) c.in-Session.is c.in-Ok.ensures.command),
+  )),
+)
+
+pub returns-in-Session-clause-unread : goal.returns-in-Session-clause-unread
+returns-in-Session-clause-unread g c version asked =
+    absurd (not_both c.args.words.now (parts_of c.in-Session.version) version
+    (subst (IsCommandOf c.args.words.now) c.in-Session.is c.in-Ok.ensures.command) asked)
+
+pub returns-in-Session-clause-refused : goal.returns-in-Session-clause-refused
+returns-in-Session-clause-refused g c command none = absurd (none c.in-Ok-of_endpoints.ensures.accepted)
+
+pub returns-in-Session-clause-documented : goal.returns-in-Session-clause-documented
+returns-in-Session-clause-documented g c version asked accepted sink =
+    absurd (not_both c.args.words.now (parts_of c.in-Session.version) version
+    (subst (IsCommandOf c.args.words.now) c.in-Session.is c.in-Ok.ensures.command) asked)
+
+-- ---- a document alone
+
+pub returns-clause-document : goal.returns-clause-document
+returns-clause-document g c is version asked earlier taken =
+    let words = c.args.words.now in
+    let config = c.args.config.now in
+    let at = parts_of c.in-Document.version in
+    let here = subst (IsCommandOf words) c.in-Document.is c.in-Ok.ensures.command in
+    let made = c.in-Ok-of_endpoints.ensures in
+    let laws = c.agrees.ensures in
+    let once = (asked_once (codes "document") (codes "document") words at version here asked).0 in
+    let same : service config c.in-Ok-of_endpoints.api.tags c.in-Ok-of_endpoints.api.endpoints.items at
+    ≡ service config c.args.tags c.args.endpoints.items version = rw (made.tags, made.endpoints, once) refl in
+    record {
+      documented = subst (λ v. IsDocumented (λ e. goal.RouteHandler-dyn g (e.handler.vtable, e.handler.value))
+          (service config c.args.tags c.args.endpoints.items v)) once
+          (documented_as (λ e. goal.RouteHandler-dyn g (e.handler.vtable, e.handler.value)) config at
+          made.tags made.endpoints made.accepted laws.sound laws.lists laws.written laws.agreed);
+      document = appended (g.K.Sink.taken c.write_document.new.sink) earlier
+          (preamble_of (λ e. goal.RouteHandler-dyn g (e.handler.vtable, e.handler.value))
+          (service config c.args.tags c.args.endpoints.items version)) (g.K.Sink.taken c.args.sink.now) taken
+          (written_whole g.K.Sink c.args.sink.now c.write_document.new.sink _ c.write_document.result
+          (subst (λ s. DocumentEnds g.K.Sink c.args.sink.now c.write_document.new.sink
+          (preamble_of (λ e. goal.RouteHandler-dyn g (e.handler.vtable, e.handler.value)) s) c.write_document.result)
+          same c.write_document.ensures.ends) is);
     }
 
 pub returns-clause-ended : goal.returns-clause-ended
 returns-clause-ended g c =
-    let preamble = rw c.in-Ok-of_endpoints.ensures.items at (c.as_slice.ensures ∙ c.in-Ok-preamble.ensures) in
-    is-ended _ c.args.config.now c.args.endpoints.items c.args.words.now _ _ _ _ c.serve.result c.status_of.result c.status_of.ensures (record {
-      version = parts_of c.in-Ok.version;
-      opened = subst (λ es. IsOpened (λ e. goal.RouteHandler-dyn g (e.handler.vtable, e.handler.value)) c.args.config.now (parts_of c.in-Ok.version) es c.args.words.now) c.in-Ok-of_endpoints.ensures.items
-          (opened (λ e. goal.RouteHandler-dyn g (e.handler.vtable, e.handler.value)) c.args.config.now (parts_of c.in-Ok.version) _ c.args.words.now c.in-Ok.ensures.session c.in-Ok-of_endpoints.ensures.registered
-          (c.agrees.ensures.sound c.args.config.now.title (parts_of c.in-Ok.version))
-          (c.agrees.ensures.listed c.args.config.now.title (parts_of c.in-Ok.version)) (c.agrees.ensures.agreed c.args.config.now.title (parts_of c.in-Ok.version))
-          (c.agrees.ensures.followed c.args.config.now.title c.args.config.now.server));
-      served = served-same _ c.args.config.now (parts_of c.in-Ok.version) _ c.args.endpoints.items _ _ _ _ _ _ _ _ _ _ _ c.in-Ok-of_endpoints.ensures.items preamble c.serve.ensures.served;
-      limits = c.serve.ensures.limits;
-    }) c.serve.ensures.read_fault c.serve.ensures.write_fault
-
-pub returns-clause-complete : goal.returns-clause-complete
-returns-clause-complete g c command accepted all left status calls source sink =
-    called-for c.args.config.now all c.serve.result c.status_of.result status c.status_of.ensures calls
-    (λ limit. c.serve.ensures.complete all left limit source sink)
-    (λ long. c.serve.ensures.too_long all left long source sink)
-    (λ much. c.serve.ensures.too_much all left much source sink)
-
-pub returns-clause-read_risen : goal.returns-clause-read_risen
-returns-clause-read_risen g c more = c.status_of.ensures ∙ ap status_of (c.serve.ensures.read_risen more)
-
-pub returns-clause-write_risen : goal.returns-clause-write_risen
-returns-clause-write_risen g c more = c.status_of.ensures ∙ ap status_of (c.serve.ensures.write_risen more)
+    let config = c.args.config.now in
+    let at = parts_of c.in-Document.version in
+    let made = c.in-Ok-of_endpoints.ensures in
+    let laws = c.agrees.ensures in
+    let same : service config c.in-Ok-of_endpoints.api.tags c.in-Ok-of_endpoints.api.endpoints.items at
+    ≡ service config c.args.tags c.args.endpoints.items at = rw (made.tags, made.endpoints) refl in
+    inr (inr (record {
+      version = at;
+      asked = subst (IsCommandOf c.args.words.now) c.in-Document.is c.in-Ok.ensures.command;
+      documented = documented_as (λ e. goal.RouteHandler-dyn g (e.handler.vtable, e.handler.value)) config at made.tags
+          made.endpoints made.accepted laws.sound laws.lists laws.written laws.agreed;
+      ends = subst (λ s. DocumentEnds g.K.Sink c.args.sink.now c.write_document.new.sink
+          (preamble_of (λ e. goal.RouteHandler-dyn g (e.handler.vtable, e.handler.value)) s) c.write_document.result)
+          same c.write_document.ensures.ends;
+      unread = (refl, refl);
+    }))

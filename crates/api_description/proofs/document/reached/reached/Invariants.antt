@@ -1,7 +1,0 @@
-use Rattle.std.proofs.Common.{◌≡◌}
-use Rattle.api_description.specs.Documents.{reached_within, roots_of}
-use Rattle.api_description.proofs.document.reached.reached.Given as goal
-
--- the names reached within the steps so far
-abbrev pub invariant-loop : goal.invariant-loop
-invariant-loop l = l.names.keys ≡ reached_within l.shape.table (roots_of l.shape) l.counter

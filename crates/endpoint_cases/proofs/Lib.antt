@@ -1,0 +1,2 @@
+pub mod CodelessShapes
+pub mod LibraryErrors

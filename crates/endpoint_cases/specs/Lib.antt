@@ -1,0 +1,2 @@
+pub mod Codeless
+pub mod Errors

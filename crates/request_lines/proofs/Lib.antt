@@ -1,0 +1,8 @@
+pub mod ListLemmas
+mod TreeLemmas
+mod FrameLemmas
+mod RequestLemmas
+mod MembersPass
+mod MembersForm
+mod MembersSame
+pub mod CallerLemmas

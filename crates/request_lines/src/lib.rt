@@ -1,0 +1,13 @@
+//! What a request line asks of a version of an API: a request, and the frames of its body.
+#![tactic(auto)]
+
+mod line_error;
+mod members;
+mod request_form;
+mod request_head;
+mod request_line;
+mod request_made;
+
+pub use line_error::LineError;
+pub use request_form::RequestForm;
+pub use request_made::AskedRequest;

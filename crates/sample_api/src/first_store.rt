@@ -1,0 +1,37 @@
+//! The store that the sample begins with.
+ghost use Rattle.std.specs.Prelude.{◌≡◌, codes, pos, true, IfOk, IsTrue, OnOk, ℕ};
+ghost use Rattle.descriptors.specs.declared.tree.Tree.TheVariants as trees;
+ghost use Rattle.schema_values.specs.Ascii.{all_ascii};
+ghost use Rattle.tree_store.specs.Tables.{changed, pairs_with};
+ghost use Rattle.sample_api.specs.FirstStore.{first_tables, numbered};
+
+use schema_values::{List, Text};
+use std::alloc::{AllocError, Global};
+use tree_store::Store;
+use typed_values::Tree;
+
+/// The points `p1` to `p4`, each with its number, and on. Fails only for want of memory.
+pub fn points_store(alloc: Global) -> Result<Store, AllocError>
+    ensures { IfOk result (λ store. store ≡ first_tables) }
+{
+    let mut store = Store::new(alloc);
+    put(alloc, &mut store, "p1", 1)?;
+    put(alloc, &mut store, "p2", 2)?;
+    put(alloc, &mut store, "p3", 3)?;
+    put(alloc, &mut store, "p4", 4)?;
+    Ok(store)
+}
+
+// Stores a point that is on under its label.
+fn put(alloc: Global, store: &mut Store, label: &str, n: u8) -> Result<(), AllocError>
+    requires { IsTrue (all_ascii label.now) }
+    ensures { OnOk result (store.new
+        ≡ changed (codes "points") (pairs_with label.now (numbered label.now n)) store.old) }
+{
+    let mut fields = List::new(alloc);
+    fields.push(Tree::Text(Text::from_ascii(alloc, label)?))?;
+    fields.push(Tree::Int(i128::from(n)))?;
+    fields.push(Tree::Bool(true))?;
+    store.insert("points", label, Tree::Fields(fields))?;
+    Ok(())
+}
