@@ -1,8 +1,8 @@
 #!/bin/sh
 # Tries the edits of bench/edits of these crates, or of all, in a copy of the repository, each alone: the proof of the
 # crate must fail with it. Prints where each was refused, and at the end those that were not. Crates that `rt ci` proved
-# on this machine in the same text are not proved again, but each crate once more as what its edits begin with; where this
-# kit's `rt ci` takes no names, `rt must-fail` proves the crates below first.
+# on this machine in the same text are not proved again, but each crate once more as what its edits begin with; where
+# this kit's `rt ci` takes no names, `rt must-fail` proves the crates below first.
 # usage: bench/edits.sh [CRATE..]
 here=$(cd "$(dirname "$0")/.." && pwd) || exit 1
 [ $# -gt 0 ] || set -- $(ls "$here/bench/edits")

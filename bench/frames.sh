@@ -1,8 +1,8 @@
 #!/bin/sh
 # Times of making a body of N frames (10000 by default) of one byte each, and of reading it to its end by
 # `http_dump_body`, and of the same with 2N frames. A time is the least of three runs, each that of a whole run of
-# `value_bench`. Beside them stand valgrind's counts of instructions, where it is there, and then they judge. Ends with 1
-# where 2N cost more than 2.3 times N.
+# `value_bench`. Beside them stand valgrind's counts of instructions, where it is there, and then they judge. Ends with
+# 1 where 2N cost more than 2.3 times N.
 here=$(cd "$(dirname "$0")/.." && pwd) || exit 1
 frames=${1:-10000}
 program=$here/crates/value_bench/out/value_bench

@@ -1,8 +1,8 @@
 #!/bin/sh
 # Times of decoding a query of N pairs (1000 by default), whose names are put by a fixed stride, a hundred times under a
-# struct of a hundred texts, and of the same with 2N pairs. A time is the least of three runs, each that of a whole run of
-# `value_bench`. Beside them stand valgrind's counts of instructions, where it is there, and then they judge. Ends with 1
-# where 2N cost more than 2.3 times N.
+# struct of a hundred texts, and of the same with 2N pairs. A time is the least of three runs, each that of a whole run
+# of `value_bench`. Beside them stand valgrind's counts of instructions, where it is there, and then they judge. Ends
+# with 1 where 2N cost more than 2.3 times N.
 here=$(cd "$(dirname "$0")/.." && pwd) || exit 1
 pairs=${1:-1000}
 program=$here/crates/value_bench/out/value_bench

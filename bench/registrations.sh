@@ -1,9 +1,9 @@
 #!/bin/sh
-# Times of registering N endpoints (1000 by default) one behind the other, and of that and their document, and of the same
-# with 10N. Each has a template and a definition of its own, a definition that four share, and `Error`, which all share. A
-# time is the least of three runs, each that of a whole run of `declaration_cases` on one case with these endpoints, whose
-# reading it has too. Beside them stand valgrind's counts of instructions, where it is there, and then they judge. Ends
-# with 1 where 10N cost more than 15 times N.
+# Times of registering N endpoints (1000 by default) one behind the other, and of that and their document, and of the
+# same with 10N. Each has a template and a definition of its own, a definition that four share, and `Error`, which all
+# share. A time is the least of three runs, each that of a whole run of `declaration_cases` on one case with these
+# endpoints, whose reading it has too. Beside them stand valgrind's counts of instructions, where it is there, and then
+# they judge. Ends with 1 where 10N cost more than 15 times N.
 # usage: bench/registrations.sh [N]
 here=$(cd "$(dirname "$0")/.." && pwd) || exit 1
 endpoints=${1:-1000}

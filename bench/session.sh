@@ -1,50 +1,63 @@
 #!/bin/sh
-# Lines a second of a session over N lines and over 2N lines of a point each (N is 100000 by default), and of the
-# slowest tenth of the replies, by the moments at which each tenth had come out of a pipe. With GNU time also the most
-# memory that was in use.
+# Processor times of a session over N lines (100000 by default), of which points, probes, raw bodies in three frames
+# and folders take turns, and over 2N; and of N lines and 2N of each of these kinds alone. A time is the least of
+# three runs. With GNU time also the most memory that was in use. Ends with status 1 where 2N lines in turns cost more
+# than 2.2 times N, or where a line was not handled. With kinds behind N, of these alone; `session` is lines in turns.
+# usage: bench/session.sh [N [KIND..]]
 here=$(cd "$(dirname "$0")/.." && pwd) || exit 1
 lines=${1:-100000}
+[ $# -lt 2 ] && set -- "$lines" session points probes bodies folders
+shift
+program=$here/crates/contract_tool_cli/out/contract_tool_cli
 work=$(mktemp -d) || exit 1
 trap 'rm -rf "$work"' EXIT
 
-points() {
-    awk -v lines="$1" 'BEGIN {
-        for (i = 1; i <= lines; i++)
-            printf "{\"method\":\"POST\",\"template\":\"/points\",\"frames\":[\"{\\\"label\\\":\\\"p%d\\\",\\\"n\\\":%d,\\\"on\\\":true}\"],\"request_id\":\"r%d\"}\n", (i * 7919) % lines, i, i
-    }'
+# The hundredths of a second that the programs between two calls of `times` took, with the system's.
+spent() {
+    awk 'FNR == 2 { gsub("[ms]", " "); all = ($1 + $3) * 60 + $2 + $4 - all }
+        END { printf "%d\n", all * 100 + 0.5 }' "$@"
 }
 
-# The nanoseconds at the start of a session over the input, and as each tenth of its replies has come.
-moments() {
-    date +%s%N
-    "$here/contract-tool" session 1.0.0 <"$work/input" | awk -v tenth="$1" '
-        /^\{"outcome":"handled"/ && ++handled % tenth == 0 {
-            clock = "date +%s%N"
-            clock | getline now
-            close(clock)
-            print now
-        }'
+# The least time of three sessions over so many lines of a kind, each of which must be handled.
+least_time() {
+    least=
+    "$here/bench/lines.sh" "$1" "$2" >"$work/input"
+    for run in 1 2 3; do
+        times >"$work/before"
+        "$program" session 1.0.0 <"$work/input" >"$work/output" || return 1
+        times >"$work/after"
+        if [ "$(grep -c '^{"outcome":"handled"' "$work/output")" -ne "$2" ]; then
+            echo "session.sh: not every line was handled" >&2
+            return 1
+        fi
+        time=$(spent "$work/before" "$work/after")
+        if [ -z "$least" ] || [ "$time" -lt "$least" ]; then
+            least=$time
+        fi
+    done
+    echo "$least"
+}
+
+# Prints the times of a kind, and how many times the second is the first.
+measure() {
+    once=$(least_time "$1" "$lines") || return 1
+    twice=$(least_time "$1" $((lines * 2))) || return 1
+    awk -v kind="$1" -v lines="$lines" -v once="$once" -v twice="$twice" 'BEGIN {
+        printf "%s, %d lines: %.2f s, %.0f lines a second\n", kind, lines, once / 100, lines * 100 / once
+        printf "%s, %d lines: %.2f s, %.2f times\n", kind, lines * 2, twice / 100, twice / once
+    }'
+    if [ -x /usr/bin/time ]; then
+        /usr/bin/time -f '%M kilobytes at most' "$program" session 1.0.0 <"$work/input" 2>&1 >/dev/null
+    fi
 }
 
 "$here/contract-tool" session 1.0.0 </dev/null >/dev/null || exit 1
-for count in "$lines" $((lines * 2)); do
-    points "$count" >"$work/input"
-    moments $((count / 10)) >"$work/moments"
-    awk -v count="$count" '
-        { at[NR] = $1 }
-        END {
-            if (NR != 11) {
-                print "not every line was handled"
-                exit 1
-            }
-            for (i = 2; i <= NR; i++)
-                if (at[i] - at[i - 1] > slowest)
-                    slowest = at[i] - at[i - 1]
-            all = at[NR] - at[1]
-            printf "%d lines, %.2f s, %.0f lines a second; the slowest tenth %.3f s, %.0f lines a second\n",
-                count, all / 1e9, count * 1e9 / all, slowest / 1e9, count * 1e8 / slowest
-        }' "$work/moments" || exit 1
-    if [ -x /usr/bin/time ]; then
-        /usr/bin/time -f '%M kilobytes at most' "$here/contract-tool" session 1.0.0 <"$work/input" 2>&1 >/dev/null
+status=0
+for kind in "$@"; do
+    measure "$kind" || exit 1
+    if [ "$kind" = session ] && [ "$((twice * 10))" -gt "$((once * 22))" ]; then
+        echo "more than 2.2 times"
+        status=1
     fi
 done
+exit $status

@@ -1,8 +1,8 @@
 #!/bin/sh
 # Times of filling a table of a store with N keys (100000 by default), put by a fixed stride, and paging through it, a
 # hundred keys a page, and of the same with 2N keys. A time is the least of three runs, each that of a whole run of
-# `value_bench`. Beside them stand valgrind's counts of instructions, where it is there, and then they judge, since times
-# also tell how much of the store the processor's caches hold. Ends with 1 where 2N cost more than 2.3 times N.
+# `value_bench`. Beside them stand valgrind's counts of instructions, where it is there, and then they judge, since
+# times also tell how much of the store the processor's caches hold. Ends with 1 where 2N cost more than 2.3 times N.
 here=$(cd "$(dirname "$0")/.." && pwd) || exit 1
 keys=${1:-100000}
 program=$here/crates/value_bench/out/value_bench
