@@ -3,7 +3,9 @@ ghost use Rattle.std.specs.Prelude.{◌≡◌, ◌++◌, ◌∷◌, [], IfNone, 
 ghost use Rattle.handler_shapes.specs.ShapeLengths.{ShapeHasShortLengths};
 ghost use Rattle.api_registration.specs.EndpointIndexes.{IsAsBefore, IsIndexed};
 ghost use Rattle.api_registration.specs.Registering.{MayRegister, RefusedBy};
-ghost use Rattle.api_registration.specs.declared.error.ApiDescriptionRegisterError.{ApiDescriptionRegisterError as ErrorValue};
+ghost use Rattle.api_registration.specs.declared.error.ApiDescriptionRegisterError.{
+  ApiDescriptionRegisterError as ErrorValue,
+};
 ghost use Rattle.api_registration.specs.Accepted.{AreAccepted};
 ghost use Rattle.api_descriptions.specs.Refusals.{IsFirstRefused};
 ghost use Rattle.api_endpoints.specs.Endpoints.{boxed, declaration_of, declarations_of};

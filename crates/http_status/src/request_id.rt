@@ -93,6 +93,7 @@ impl RequestId {
     {
         match HeaderValue::from_str(alloc, self.text.as_str()) {
             Ok(value) => Ok(value),
+            // The text of an id is the value of a header field.
             Err(HeaderValueError::Invalid) => unreachable!(),
             Err(HeaderValueError::OutOfMemory) => Err(AllocError),
         }

@@ -59,12 +59,9 @@ impl PlaceIndex {
             → places_at self.new q ≡ places_at self.old q) }
     {
         for (index, key) in keys.iter().enumerate() {
-            match self.add_copy(alloc, key, place) {
-                Ok(()) => (),
-                Err(error) => {
-                    self.take_back(&keys[..index]);
-                    return Err(error);
-                }
+            if let Err(error) = self.add_copy(alloc, key, place) {
+                self.take_back(&keys[..index]);
+                return Err(error);
             }
         }
         Ok(())
@@ -99,9 +96,8 @@ impl PlaceIndex {
         ensures { (q : ListOf ℕ)
             → places_at self.new q ≡ without_last (places_at self.old) key.now q }
     {
-        match self.places.get_mut(key) {
-            Some(places) => drop_last(places),
-            None => (),
+        if let Some(places) = self.places.get_mut(key) {
+            drop_last(places);
         }
     }
 }

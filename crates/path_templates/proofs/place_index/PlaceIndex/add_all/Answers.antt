@@ -13,7 +13,7 @@ loop-index-preserved c =
     take_more keys i key c.loop-index-test.true ∙ ap (λ k. take i keys ++ k ∷ []) (sym c.index-keys-index.is) in
     rw more
     (places_more (places_at c.args.self.now) c.args.place (take i keys) key (places_at c.loop-index.self) (places_at c.add_copy.new.self)
-    c.in-Ok.ensures.ok c.loop-index.invariant)
+    c.in_default.ensures.ok c.loop-index.invariant)
 
 pub returns-in-Err-clause-err : goal.returns-in-Err-clause-err
 returns-in-Err-clause-err c =

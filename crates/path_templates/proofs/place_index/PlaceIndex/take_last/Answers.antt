@@ -13,6 +13,6 @@ returns-in-Some c =
     place_taken before after c.args.key.now c.drop_last.new.places updates
     (c.drop_last.ensures ∙ ap (λ found. take (length (unwrap_or found []) - 1) (unwrap_or found [])) c.in-Some.ensures.value)
 
-pub returns-in-None : goal.returns-in-None
-returns-in-None c =
-    rw c.get_mut.follows.holds-at-none (nothing_taken (get text_order c.args.self.now.places) c.args.key.now c.in-None.ensures.value)
+pub returns-in_default : goal.returns-in_default
+returns-in_default c =
+    rw c.get_mut.follows.holds-at-none (nothing_taken (get text_order c.args.self.now.places) c.args.key.now c.in_default.ensures.value)
