@@ -1,8 +1,10 @@
 pub mod Pieces
 pub mod Handling
+pub mod Calling
 pub mod Counts
 pub mod Going
 pub mod Cuts
+pub mod ServedBy
 pub mod LineLemmas
 pub mod Limits
 pub mod Whole

@@ -6,3 +6,4 @@ pub mod Reading
 pub mod NextLine
 pub mod Session
 pub mod Status
+pub mod Calls

@@ -1,6 +1,9 @@
 -- Ends in memory, and what a read from memory gives.
 use Rattle.std.specs.Prelude.{ℕ, ◌≡◌, ◌+◌, ◌<◌, ◌≤◌, Bool, min, ◌-◌, ◌^◌, nat_lt, ◌&&◌, ◌==◌, if◌then◌else◌, List, [], length, take, drop}
+use Rattle.std.specs.Prelude.{◌↔◌, IsErrOf, IsTrue, Result, is_err}
 use Rattle.std.specs.List.{list_any}
+use Rattle.line_session.specs.declared.ends.SinkError.{SinkError}
+use Rattle.line_session.specs.declared.ends.SinkError.TheVariants.{Failed}
 
 -- the first `count` bytes of buf are those of content from `at` on; none only at the end or for no room
 pub record CopiesFront (content : List ℕ) (at : ℕ) (buf : List ℕ) (count : ℕ) : Type 0 where
@@ -37,3 +40,11 @@ after_call s bytes = record {
   calls = one_more s.calls;
   faults = if is_failing s.failing s.calls then one_more s.faults else s.faults;
 }
+
+-- what a call of an end in memory says of itself: it fails where it is to fail and nowhere else, and is counted
+abbrev pub IsMemoryRead : {E : Type 0} → MemoryState → Result ℕ E → MemoryState → Type 0
+IsMemoryRead old result new = (is_err result ≡ is_failing old.failing old.calls) × (new ≡ after_call old new.bytes)
+
+abbrev pub IsMemoryWrite : MemoryState → Result ℕ SinkError → MemoryState → Type 0
+IsMemoryWrite old result new =
+    (IsErrOf result Failed ↔ IsTrue (is_failing old.failing old.calls)) × (new ≡ after_call old new.bytes)

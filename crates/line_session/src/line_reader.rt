@@ -28,17 +28,14 @@ pub enum NextLine {
 // The most bytes that are asked for at once.
 const PIECE: usize = 4096;
 
-// Room that a line begins with, so that a short one does not grow.
+// Room that a line begins with: more than most have, so that they do not grow, and little beside a piece.
 const FIRST_ROOM: usize = 256;
 
 // An empty line, with that room where there is memory for it.
 fn empty_line(alloc: Global) -> Vec<u8>
     ensures { result.items ≡ [] }
 {
-    match Vec::with_capacity(alloc, FIRST_ROOM) {
-        Ok(line) => line,
-        Err(_) => Vec::new(alloc),
-    }
+    Vec::with_capacity(alloc, FIRST_ROOM).unwrap_or(Vec::new(alloc))
 }
 
 /// Reads lines from a source in pieces, and handles them byte by byte.
@@ -51,18 +48,19 @@ pub struct LineReader {
 }
 
 impl Model for LineReader {
-    ghost use Rattle.std.specs.Prelude.{◌<◌, ◌≤◌, slice_range, vec_len};
+    ghost use Rattle.std.specs.Prelude.{◌≡◌, ◌≤◌, slice_range, vec_len};
     ghost use Rattle.line_session.specs.Reading.{Reading};
 
     ghost Value = { Reading };
 
     ghost view = { λ a. record { pending = slice_range a.piece.items a.at a.filled; budget = a.budget } };
 
-    ghost invariant = { λ a. (a.at ≤ a.filled) × (a.filled ≤ vec_len a.piece) × (0 < vec_len a.piece) };
+    ghost invariant = { λ a. (a.at ≤ a.filled) × (a.filled ≤ vec_len a.piece) × (vec_len a.piece ≡ 4096) };
 }
 
 impl LineReader {
     ghost use Rattle.line_session.specs.Reading.{Handles};
+    ghost use Rattle.line_session.specs.Calls.{IsNextBy, PeeksBy};
     ghost use Rattle.line_session.specs.NextLine.{IsNext};
 
     /// A reader that has read nothing, and handles at most `budget` bytes. Fails only for want of memory.
@@ -87,6 +85,7 @@ impl LineReader {
         ensures failed { OnErr result (self.new.pending ≡ []) }
         ensures cause { HasCause (S.faults source.old) (S.faults source.new) result }
         ensures counts { OnOk result (S.faults source.new ≡ S.faults source.old) }
+        ensures calls { PeeksBy S.Source self.old self.new source.old source.new result }
     {
         if self.at == self.filled {
             return self.refill(source);
@@ -104,6 +103,7 @@ impl LineReader {
         ensures failed { OnErr result (self.new.pending ≡ []) }
         ensures cause { HasCause (S.faults source.old) (S.faults source.new) result }
         ensures counts { OnOk result (S.faults source.new ≡ S.faults source.old) }
+        ensures calls { PeeksBy S.Source self.old self.new source.old source.new result }
     {
         self.at = 0;
         self.filled = 0;
@@ -132,6 +132,7 @@ impl LineReader {
         ensures later { S.faults source.old ≤ S.faults source.new }
         ensures failed { result ≡ NextLine.ReadFault → HasRisen (S.faults source.old) (S.faults source.new) }
         ensures counts { result ≢ NextLine.ReadFault → S.faults source.new ≡ S.faults source.old }
+        ensures calls { IsNextBy S.Source longest self.old self.new source.old source.new result }
     {
         let mut line = empty_line(alloc);
         'bytes: loop {

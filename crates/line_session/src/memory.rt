@@ -4,7 +4,8 @@ ghost use Rattle.std.specs.Prelude.{OnOk};
 ghost use Rattle.std.specs.Io.{ReadsAtMost, WritesAtMost};
 ghost use Rattle.std.specs.Io.KnownBytes.{ReadConsumes, WriteAppends};
 ghost use Rattle.schema_values.specs.Causes.{HasCause, HasRisen};
-ghost use Rattle.line_session.specs.Memory.{CopiesFront, after_call, fresh, is_failing, one_more};
+ghost use Rattle.line_session.specs.Memory.{CopiesFront, IsMemoryRead, IsMemoryWrite};
+ghost use Rattle.line_session.specs.Memory.{after_call, fresh, is_failing, one_more};
 
 use crate::ends::{Failed, Sink, SinkError, Source};
 use schema_values::List;
@@ -184,6 +185,8 @@ impl Source for MemorySource {
 
     ghost faults = { λ s. s.faults };
 
+    ghost read_gives = { λ old buf result new. IsMemoryRead old result new };
+
     fn read(&mut self, buf: &mut [u8]) -> Result<usize, Failed>
         ensures bound { ReadsAtMost result buf.new }
         ensures bytes { ReadConsumes (Some self.old.bytes) (Some self.new.bytes) result buf.new }
@@ -220,6 +223,8 @@ impl Sink for MemorySink {
     ghost taken = { λ s. Some s.bytes };
 
     ghost faults = { λ s. s.faults };
+
+    ghost write_gives = { λ old piece result new. IsMemoryWrite old result new };
 
     fn write(&mut self, piece: &[u8]) -> Result<usize, SinkError>
         ensures bound { WritesAtMost result piece.now }

@@ -2,6 +2,7 @@
 ghost use Rattle.std.specs.Prelude.{◌≡◌, ◌⊎◌, Some, ◌+◌, ◌-◌, ◌^◌, ◌<◌, ◌≤◌, List as ListOf, ℕ, take, IfOk};
 ghost use Rattle.std.specs.Prelude.{OnOk, OnErr, IfErr, IsErrOf};
 ghost use Rattle.schema_values.specs.Causes.{HasRisen};
+ghost use Rattle.line_session.specs.Calls.{IsRepliedBy, IsServedBy};
 ghost use Rattle.line_session.specs.Lines.{HasLongLine, IsTooMuch, PassesNoLimit};
 ghost use Rattle.line_session.specs.Session.{Replied, PartReplied, IsAnswered};
 ghost use Rattle.line_session.specs.Status.{CountsFaults, IsServed, MeetsLimits, lost_at, status_of};
@@ -84,6 +85,8 @@ fn answer<A: Answering, K: Sink>(
     ensures later { K.faults sink.old ≤ K.faults sink.new }
     ensures failed { IsErrOf result SinkError.Failed → HasRisen (K.faults sink.old) (K.faults sink.new) }
     ensures counts { ¬ IsErrOf result SinkError.Failed → K.faults sink.new ≡ K.faults sink.old }
+    ensures calls { IsRepliedBy (A.answers answering.now) (A.lost answering.now) K.Sink sink.old sink.new
+        state.old line.now state.new result }
 {
     match answering.answer(alloc, room, state, line) {
         Ok(reply) => write_line(sink, reply),
@@ -121,6 +124,8 @@ fn serve_lines<A: Answering, S: Source, K: Sink>(
         (K.taken sink.old) (K.taken sink.new) state.old state.new result }
     ensures counts { CountsFaults (S.faults source.old) (S.faults source.new)
         (K.faults sink.old) (K.faults sink.new) result }
+    ensures calls { IsServedBy (A.answers answering.now) (A.lost answering.now) front.now most_input
+        longest_line S.Source K.Sink source.old source.new sink.old sink.new state.old state.new result }
 {
     if let Err(error) = write_all(sink, front) {
         return status_of(error);
@@ -173,6 +178,10 @@ pub fn serve<A: Answering, S: Source, K: Sink>(
     ensures served { IsServed (A.answers answering.now) (A.lost answering.now) front.now most_input
         longest_line (S.left source.old) (S.left source.new)
         (K.taken sink.old) (K.taken sink.new) state.old state.new result }
+    // The calls that were made of the source and the sink, and that what the status says holds of the bytes that
+    // they gave and took.
+    ensures calls { IsServedBy (A.answers answering.now) (A.lost answering.now) front.now most_input
+        longest_line S.Source K.Sink source.old source.new sink.old sink.new state.old state.new result }
     // Of a source and a sink that tell their bytes.
     ensures session { result ≡ SessionEnd.Done → (all before : ListOf ℕ) →
         S.left source.old ≡ Some all → K.taken sink.old ≡ Some before →

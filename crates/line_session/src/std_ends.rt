@@ -56,6 +56,8 @@ impl<R: Read> Source for StdSource<R> {
 
     ghost faults = { λ s. s.faults };
 
+    ghost read_gives = { λ old buf result new. OnErr result (new.faults ≡ one_more old.faults) };
+
     /// Makes one call. An error raises the count by one, up to the last value of a counter.
     fn read(&mut self, buf: &mut [u8]) -> Result<usize, Failed>
         ensures bound { ReadsAtMost result buf.new }
@@ -86,6 +88,8 @@ impl<W: Write> Sink for StdSink<W> {
     ghost taken = { λ s. W.contents s.inner };
 
     ghost faults = { λ s. s.faults };
+
+    ghost write_gives = { λ old piece result new. OnErr result (new.faults ≡ one_more old.faults) };
 
     /// Makes one call. An error, or that no byte of some was taken, raises the count by one, up to the last
     /// value of a counter.

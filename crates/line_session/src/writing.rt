@@ -2,6 +2,7 @@
 ghost use Rattle.std.specs.Prelude.{◌≡◌, ◌≤◌, OnOk, OnErr, IsErrOf};
 ghost use Rattle.std.specs.Io.KnownBytes.{Appends};
 ghost use Rattle.schema_values.specs.Causes.{HasRisen};
+ghost use Rattle.line_session.specs.Calls.{IsWrittenBy};
 ghost use Rattle.line_session.specs.Lines.{end_line};
 ghost use Rattle.line_session.specs.Parts.{AppendsPart};
 
@@ -15,6 +16,7 @@ pub fn write_all<K: Sink>(sink: &mut K, bytes: &[u8]) -> Result<(), SinkError>
     ensures later { K.faults sink.old ≤ K.faults sink.new }
     ensures failed { IsErrOf result SinkError.Failed → HasRisen (K.faults sink.old) (K.faults sink.new) }
     ensures counts { ¬ IsErrOf result SinkError.Failed → K.faults sink.new ≡ K.faults sink.old }
+    ensures calls { IsWrittenBy K.Sink bytes.now sink.old sink.new result }
 {
     let mut at = 0;
     while at < bytes.len() {
@@ -30,6 +32,7 @@ pub fn write_line<K: Sink>(sink: &mut K, mut line: List<u8>) -> Result<(), SinkE
     ensures later { K.faults sink.old ≤ K.faults sink.new }
     ensures failed { IsErrOf result SinkError.Failed → HasRisen (K.faults sink.old) (K.faults sink.new) }
     ensures counts { ¬ IsErrOf result SinkError.Failed → K.faults sink.new ≡ K.faults sink.old }
+    ensures calls { IsWrittenBy K.Sink (end_line line) sink.old sink.new result }
 {
     if line.push(b'\n').is_err() {
         return Err(SinkError::OutOfMemory);

@@ -1,10 +1,14 @@
 use Rattle.line_session.proofs.Cuts.{cut-none}
 use Rattle.line_session.proofs.Limits.{complete, limits, too_long, too_much}
+use Rattle.line_session.proofs.ServedBy.{served-none}
 use Rattle.line_session.proofs.Whole.{answered, served-at}
 use Rattle.line_session.proofs.serving.serve.Goals as goal
 
 pub returns-in_default-clause-served : goal.returns-in_default-clause-served
 returns-in_default-clause-served g c = cut-none _ _ _ _ _ _ _ _
+
+pub returns-in_default-clause-calls : goal.returns-in_default-clause-calls
+returns-in_default-clause-calls g c = served-none _ _ _ _ _ _ _ _ _ _
 
 pub returns-clause-session : goal.returns-clause-session
 returns-clause-session g c is all before left taken =
