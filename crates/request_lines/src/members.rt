@@ -53,6 +53,7 @@ pub(crate) fn members_of(tree: Tree) -> RequestMembers
             headers: items_of(headers),
             frames: items_of(frames),
         },
+        // A line has seven members.
         Err(_fields) => unreachable!(),
     }
 }

@@ -49,8 +49,20 @@ fn method_of(alloc: Global, text: &Text) -> Result<Method, LineError>
     Ok(method)
 }
 
-// The target that a text spells; the text is not copied.
+// The target that a text spells; the text is not copied, and the root takes no memory.
 fn target_of(text: Text) -> Result<Uri, LineError>
+    ensures spells { IfOk result (Spells (encode_utf8_all text)) }
+    ensures bad { IsErrOf result LineError.Bad → (uri : UriValue) → ¬ Spells (encode_utf8_all text) uri }
+{
+    if text.as_bytes() == b"/".as_slice() {
+        Ok(Uri::default())
+    } else {
+        read_target(text)
+    }
+}
+
+// The target that a text is read as.
+fn read_target(text: Text) -> Result<Uri, LineError>
     ensures spells { IfOk result (Spells (encode_utf8_all text)) }
     ensures bad { IsErrOf result LineError.Bad → (uri : UriValue) → ¬ Spells (encode_utf8_all text) uri }
 {

@@ -97,13 +97,10 @@ fn variable_of(alloc: Global, tree: Tree) -> Result<VariableValue, AllocError>
     ensures { IfOk result (λ value. variable_tree value ≡ tree) }
 {
     match tree {
-        Tree::Variant(place, value) => {
-            let value = value.into_inner();
-            if place == 0 {
-                Ok(VariableValue::String(text_of(value)))
-            } else {
-                Ok(VariableValue::Components(texts_of(alloc, items_of(value))?))
-            }
+        Tree::Variant(0, text) => Ok(VariableValue::String(text_of(text.into_inner()))),
+        Tree::Variant(_, list) => {
+            let items = items_of(list.into_inner());
+            Ok(VariableValue::Components(texts_of(alloc, items)?))
         }
         // The tree is that of a choice.
         _ => unreachable!(),
@@ -145,14 +142,8 @@ fn frame_of(alloc: Global, tree: Tree) -> Result<Frame, LineError>
         → (frame : FrameValue) → ¬ IsFrame written frame }
 {
     match tree {
-        Tree::Variant(place, value) => {
-            let value = value.into_inner();
-            if place == 0 {
-                Ok(Frame::Bytes(text_of(value).into_bytes()))
-            } else {
-                frame_of_digits(alloc, digits_in(&value))
-            }
-        }
+        Tree::Variant(0, text) => Ok(Frame::Bytes(text_of(text.into_inner()).into_bytes())),
+        Tree::Variant(_, fields) => frame_of_digits(alloc, digits_in(&fields.into_inner())),
         // The tree is that of a choice.
         _ => unreachable!(),
     }

@@ -8,7 +8,7 @@ use Rattle.http_uri.specs.declared.error.UriError.{UriError}
 use Rattle.http_uri.specs.declared.error.UriError.TheVariants.{Invalid, OutOfMemory}
 use Rattle.http_uri.specs.Uri.{Spells, uri_authority, uri_data, uri_scheme}
 use Rattle.request_lines.specs.declared.line_error.LineError.TheVariants.{Bad}
-use Rattle.request_lines.proofs.request_head.target_of.Goals as goal
+use Rattle.request_lines.proofs.request_head.read_target.Goals as goal
 
 -- the bytes of a text that is moved
 moved : (text bytes : List ℕ) (target : String Global) → text ≡ chars (string_bytes target)
