@@ -64,6 +64,7 @@ fn over_api(alloc: Global, case: &Json, call: &str) -> Result<Json, CaseError> {
         "exchange" => ApiCall::Exchange,
         "exchange_from" => ApiCall::ExchangeFrom,
         "document" => ApiCall::Document,
+        "document_said" => ApiCall::DocumentSaid,
         "text" => ApiCall::Text,
         "write" => ApiCall::Write,
         "admits" => ApiCall::Admits,

@@ -6,6 +6,7 @@ ghost use Rattle.api_descriptions.specs.Ready.{IsReady};
 use crate::admission::admits;
 use crate::documents::{document, document_text, written};
 use crate::exchanges::{Way, exchanged};
+use crate::information::document_said;
 use crate::members::settings_at;
 use crate::parts::all_shown;
 use crate::registering::{outcome_told, refusal_told};
@@ -24,6 +25,8 @@ pub enum ApiCall {
     ExchangeFrom,
     /// The document.
     Document,
+    /// The document, where something was said of the API as a whole.
+    DocumentSaid,
     /// The text of the document.
     Text,
     /// How the document is written to a sink.
@@ -101,6 +104,7 @@ fn over_api(
         ApiCall::Exchange => exchanged(alloc, case, api, Way::Body),
         ApiCall::ExchangeFrom => exchanged(alloc, case, api, Way::Source),
         ApiCall::Document => document(alloc, case, api),
+        ApiCall::DocumentSaid => document_said(alloc, case, api),
         ApiCall::Text => Ok(Json::Text(document_text(alloc, case, api)?)),
         ApiCall::Write => written(alloc, case, api),
         ApiCall::Admits => admits(alloc, case, api),

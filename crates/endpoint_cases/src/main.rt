@@ -10,6 +10,7 @@ mod documents;
 mod exchanges;
 mod fitting;
 mod handler;
+mod information;
 mod limits;
 mod making;
 mod members;
