@@ -2,11 +2,11 @@
 ghost use Rattle.std.specs.Prelude.{map};
 ghost use Rattle.api_registration.specs.EndpointIndexes.{IsIndexed};
 
-use crate::registered::{register, settings_at};
+use crate::registered::register;
 use api_declarations::Declared;
 use api_registration::{ApiDescriptionRegisterError, EndpointIndex};
 use case_notation::{CaseError, Row, say, string_told};
-use endpoint_notation::{PlainEndpoint, items_at};
+use endpoint_notation::{PlainEndpoint, items_at, settings_at};
 use schema_values::{Json, List};
 use std::alloc::Global;
 use tag_config::TagConfig;

@@ -5,12 +5,12 @@ ghost use Rattle.std.specs.Prelude.{All, IsTrue, map};
 ghost use Rattle.handler_shapes.specs.ShapeChecks.{ShapePasses};
 ghost use Rattle.api_registration.specs.EndpointIndexes.{IsIndexed};
 
-use crate::registered::{register, settings_at};
+use crate::registered::register;
 use api_declarations::{Declaration, Declared};
 use api_documents::document;
 use api_registration::{ApiDescriptionRegisterError, EndpointIndex};
 use case_notation::{CaseError, Reader, labelled, string_told};
-use endpoint_notation::{PlainEndpoint, items_at, read_text_or, version_at};
+use endpoint_notation::{PlainEndpoint, items_at, read_text_or, settings_at, version_at};
 use handler_shapes::shape_passes;
 use openapi_values::{Contact, Info, License, Part};
 use schema_values::{Json, List, Text};

@@ -1,2 +1,1 @@
-pub mod CodelessShapes
 pub mod LibraryErrors

@@ -15,4 +15,5 @@ IsNamed shape = shape ≡ record shape { error = Some (record { desc = error_des
 
 -- the table has its definition
 abbrev pub IsDefined : HandlerShape → Type 0
-IsDefined shape = with_table shape (option_to_list (entry_of shape.table (codes "Error"))) ≡ with_table shape (error_definition ∷ [])
+IsDefined shape =
+    with_table shape (option_to_list (entry_of shape.table (codes "Error"))) ≡ with_table shape (error_definition ∷ [])

@@ -1,2 +1,1 @@
-pub mod Codeless
 pub mod Errors

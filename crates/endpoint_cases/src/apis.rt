@@ -7,12 +7,12 @@ use crate::admission::admits;
 use crate::documents::{document, document_text, written};
 use crate::exchanges::{Way, exchanged};
 use crate::information::document_said;
-use crate::members::settings_at;
 use crate::parts::all_shown;
 use crate::registering::{outcome_told, refusal_told};
 use api_descriptions::{ApiDescription, ApiEndpoint};
 use api_respond::RouteHandler;
 use case_notation::{CaseError, Row, labelled};
+use endpoint_notation::settings_at;
 use schema_values::Json;
 use std::alloc::Global;
 

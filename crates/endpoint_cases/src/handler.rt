@@ -4,15 +4,14 @@
 ghost use Rattle.std.specs.Prelude.{IfOk, IsTrue};
 ghost use Rattle.handler_shapes.specs.ShapeChecks.{ShapePasses};
 ghost use Rattle.api_respond.specs.Replies.{ErrorFits, ReplyFits};
-ghost use Rattle.endpoint_cases.specs.Codeless.{is_codeless_right};
+ghost use Rattle.endpoint_notation.specs.Codeless.{is_codeless_right};
 ghost use Rattle.endpoint_cases.specs.Errors.{IsDefined, IsNamed};
 
-use crate::fitting::{own_fits, success_fits};
 use crate::outcomes::{error_of, success_of, tree_or_want};
-use crate::shapes::{is_codeless_right, set_errors};
+use crate::shapes::set_errors;
 use api_respond::{ErrorReply, Reply, RequestContext, RouteHandler, SuccessReply};
 use case_notation::CaseError;
-use endpoint_notation::shape_of;
+use endpoint_notation::{is_codeless_right, own_fits, shape_of, success_fits};
 use handler_shapes::{Arg, ArgList, HandlerShape, shape_passes};
 use http_status::{ErrorStatusCode, HttpError};
 use schema_values::{Json, Text};

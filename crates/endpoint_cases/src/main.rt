@@ -8,7 +8,6 @@ mod apis;
 mod calls;
 mod documents;
 mod exchanges;
-mod fitting;
 mod handler;
 mod information;
 mod limits;

@@ -2,9 +2,6 @@
 use case_notation::{CaseError, Reader, number_of};
 use endpoint_notation::u64_of;
 use schema_values::{Json, List};
-use std::alloc::Global;
-use tag_config::TagConfig;
-use typed_values::DecodeError;
 
 /// Reads the number of 32 bits under a name, or another where there is none.
 pub fn read_number_or(reader: &mut Reader, noted: &Json, name: &str, other: u32) -> u32 {
@@ -31,22 +28,4 @@ pub fn read_numbers(reader: &mut Reader, noted: &Json, name: &str) -> List<u64> 
         }
     }
     numbers
-}
-
-/// The settings under `tag_config`; all tags are allowed where they are left out.
-pub fn settings_at(alloc: Global, case: &Json) -> Result<TagConfig, CaseError> {
-    let Some(json) = case.get("tag_config") else {
-        return Ok(TagConfig::default_config(alloc));
-    };
-    if !json.sound() {
-        return Err(CaseError::Expected("sound JSON"));
-    }
-    TagConfig::from_json(alloc, json).map_err(not_decoded)
-}
-
-fn not_decoded(error: DecodeError) -> CaseError {
-    match error {
-        DecodeError::Fault(_) => CaseError::Expected("settings of tags"),
-        DecodeError::OutOfMemory => CaseError::OutOfMemory,
-    }
 }

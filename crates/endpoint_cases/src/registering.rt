@@ -1,10 +1,10 @@
 //! What is told of endpoints as they are registered one by one.
-use crate::members::settings_at;
 use api_descriptions::{
     ApiDescription, ApiDescriptionBuildErrors, ApiDescriptionRegisterError, ApiEndpoint,
     RegisterError, TagConfig,
 };
 use case_notation::{CaseError, Reader, Record, Row, say, string_told};
+use endpoint_notation::settings_at;
 use schema_values::{Json, List};
 use std::alloc::Global;
 

@@ -1,13 +1,12 @@
 //! Runs of the tool over the endpoints of a case. `"words"` are the words of the command line, `session` and the
 //! version of the case where they are left out.
 use crate::limits::{Limits, read_limits};
-use crate::members::settings_at;
 use crate::stores::{store_of, tree_at};
 use crate::streams::{read_sink, read_source, written_told};
 use api_descriptions::{ApiEndpoint, TagConfig};
 use case_notation::{CaseError, Reader, Record};
 use contract_tool::{MemorySink, MemorySource, ToolConfig, ToolStatus, run};
-use endpoint_notation::read_text_or;
+use endpoint_notation::{read_text_or, settings_at};
 use request_parts::ServerConfig;
 use sample_api::server_config;
 use schema_values::{Json, Text};

@@ -1,13 +1,12 @@
-//! The shapes of the handlers of cases.
+//! The errors of the handlers of cases.
 ghost use Rattle.std.specs.Prelude.{◌≡◌, IfOk, IsTrue, codes};
 ghost use Rattle.http_status.specs.ErrorBodies.{error_desc};
 ghost use Rattle.api_respond.specs.Replies.{HasHttpErrors};
-ghost use Rattle.endpoint_cases.specs.Codeless.{is_codeless_right};
 ghost use Rattle.endpoint_cases.specs.Errors.{IsDefined, IsNamed};
 
 use api_types::ApiType;
 use case_notation::CaseError;
-use handler_shapes::{ApiEndpointErrorResponse, ApiEndpointResponse, ContentShape, HandlerShape};
+use handler_shapes::{ApiEndpointErrorResponse, HandlerShape};
 use http_status::HttpErrorResponseBody;
 use schema_values::{Json, Text};
 use std::alloc::{AllocError, Global};
@@ -46,15 +45,4 @@ fn library_errors(alloc: Global) -> Result<ApiEndpointErrorResponse, AllocError>
     let name = Text::from_ascii(alloc, "Error")?;
     let desc = HttpErrorResponseBody::descriptor(alloc)?;
     Ok(ApiEndpointErrorResponse { desc, name })
-}
-
-/// Whether there is a code, or content of any kind without named headers.
-pub fn is_codeless_right(response: &ApiEndpointResponse) -> bool
-    ensures { IsTrue result → IsTrue (is_codeless_right response.now) }
-{
-    match (response.success, &response.content, &response.headers) {
-        (Some(_), _, _) => true,
-        (None, ContentShape::Freeform, None) => true,
-        _ => false,
-    }
 }

@@ -1,17 +1,17 @@
 //! How handlers of cases tell errors.
-ghost use Rattle.std.specs.Prelude.{IfOk, IsTrue};
-ghost use Rattle.typed_values.specs.Checks.{TablePasses};
-ghost use Rattle.handler_shapes.specs.ShapeChecks.{ErrorPasses, ShapePasses};
-ghost use Rattle.api_respond.specs.Replies.{ErrorFits, OwnFits};
+ghost use Rattle.std.specs.Prelude.{IfOk};
+ghost use Rattle.handler_shapes.specs.ShapeChecks.{ShapePasses};
+ghost use Rattle.api_respond.specs.Replies.{ErrorFits};
 
 use crate::problem::Problem;
 use api_respond::ErrorReply;
 use api_types::ApiType;
-use handler_shapes::{ApiEndpointErrorResponse, HandlerShape, shape_passes};
+use endpoint_notation::own_fits;
+use handler_shapes::{HandlerShape, shape_passes};
 use http_status::HttpError;
 use schema_values::Text;
 use std::alloc::{AllocError, Global};
-use typed_values::{DescTable, Tree, fits};
+use typed_values::Tree;
 
 /// The reply that tells an error: one of the library where the shape names no error, else a problem.
 /// A problem that is not of the shape is want of memory.
@@ -71,15 +71,4 @@ fn problem_reply(
 
 fn problem_tree(alloc: Global, status: u16, problem: Text) -> Result<Tree, AllocError> {
     Problem { status, problem }.to_tree(alloc)
-}
-
-fn own_fits(table: &DescTable, error: &Option<ApiEndpointErrorResponse>, body: &Tree) -> bool
-    requires table { TablePasses table.now }
-    requires error { ErrorPasses table.now error.now }
-    ensures { IsTrue result → OwnFits table.now error.now body.now }
-{
-    match error {
-        Some(error) => fits(table, &error.desc, body),
-        None => false,
-    }
 }

@@ -7,14 +7,14 @@
 ghost use Rattle.std.specs.Prelude.{IfOk, IsTrue};
 ghost use Rattle.handler_shapes.specs.ShapeChecks.{ShapePasses};
 ghost use Rattle.api_respond.specs.Replies.{ReplyFits};
-ghost use Rattle.handler_cases.specs.Codeless.{is_codeless_right};
+ghost use Rattle.endpoint_notation.specs.Codeless.{is_codeless_right};
 
 use crate::errors::told_as;
-use crate::fitting::success_fits;
 use crate::outcomes::{error_of, success_of};
 use api_respond::{ErrorReply, Reply, RequestContext, RouteHandler, SuccessReply};
 use case_notation::CaseError;
-use handler_shapes::{ApiEndpointResponse, Arg, ArgList, ContentShape, HandlerShape};
+use endpoint_notation::{is_codeless_right, success_fits};
+use handler_shapes::{Arg, ArgList, HandlerShape};
 use http_status::HttpError;
 use schema_values::{Json, Text};
 use std::alloc::{AllocError, Global};
@@ -37,17 +37,6 @@ pub fn handler_of<'c>(
         Ok(NotedHandler { shape, noted })
     } else {
         Err(CaseError::Expected("a code, or content of any kind"))
-    }
-}
-
-// Whether there is a code, or content of any kind without named headers.
-fn is_codeless_right(response: &ApiEndpointResponse) -> bool
-    ensures { IsTrue result → IsTrue (is_codeless_right response.now) }
-{
-    match (response.success, &response.content, &response.headers) {
-        (Some(_), _, _) => true,
-        (None, ContentShape::Freeform, None) => true,
-        _ => false,
     }
 }
 

@@ -8,7 +8,6 @@ mod arguments;
 mod content;
 mod contexts;
 mod errors;
-mod fitting;
 mod handler;
 mod look_ups;
 mod metadata;

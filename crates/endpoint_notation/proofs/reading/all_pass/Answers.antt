@@ -13,4 +13,5 @@ loop-slot-preserved c =
 
 pub returns : goal.returns
 returns c =
-    λ t. subst (All (SlotPasses c.args.table.now)) (take_all c.loop-slot.slot-index c.args.slots.now (omega arith)) c.loop-slot.invariant
+    λ t. subst (All (SlotPasses c.args.table.now))
+    (take_all c.loop-slot.slot-index c.args.slots.now (omega arith)) c.loop-slot.invariant

@@ -1,13 +1,25 @@
-//! Whether replies that handlers of cases give are of their shape.
+//! Whether handlers of cases may have a response, and whether replies that they give are of their shape.
 ghost use Rattle.std.specs.Prelude.{◌≡◌, ⊤, IsTrue, MatchOption};
 ghost use Rattle.typed_values.specs.Checks.{TablePasses};
 ghost use Rattle.handler_shapes.specs.ShapeChecks.{ContentPasses, ErrorPasses, HeadersPass, ResponsePasses};
 ghost use Rattle.api_respond.specs.Replies.{BareFits, ContentFits, HeadersFit, JsonFits, OwnFits, SuccessFits};
+ghost use Rattle.endpoint_notation.specs.Codeless.{is_codeless_right};
 
 use api_respond::{Content, SuccessReply};
 use handler_shapes::{ApiEndpointErrorResponse, ApiEndpointResponse, ContentShape};
 use http::StatusCode;
 use typed_values::{Desc, DescTable, Tree, fits};
+
+/// Whether there is a code, or content of any kind without named headers.
+pub fn is_codeless_right(response: &ApiEndpointResponse) -> bool
+    ensures { IsTrue result → IsTrue (is_codeless_right response.now) }
+{
+    match (response.success, &response.content, &response.headers) {
+        (Some(_), _, _) => true,
+        (None, ContentShape::Freeform, None) => true,
+        _ => false,
+    }
+}
 
 /// Whether a reply is of a response.
 pub fn success_fits(table: &DescTable, response: &ApiEndpointResponse, reply: &SuccessReply) -> bool

@@ -6,10 +6,11 @@ use Rattle.handler_shapes.specs.declared.shape.ContentShape.{ContentShape}
 use Rattle.handler_shapes.specs.declared.shape.ContentShape.TheVariants.{Json, Empty, Freeform}
 use Rattle.handler_shapes.specs.declared.shape.HandlerShape.{HandlerShape}
 use Rattle.api_respond.specs.Replies.{IsFreeformWithoutCode}
-use Rattle.handler_cases.specs.Codeless.{has_code_or_bytes, is_codeless_right}
+use Rattle.endpoint_notation.specs.Codeless.{has_code_or_bytes, is_codeless_right}
 
 -- without a code there is content of any kind, and there are no named headers
-parts : (code : Option ℕ) (content : ContentShape) (headers : Option Desc) → IsTrue (has_code_or_bytes code content headers)
+parts : (code : Option ℕ) (content : ContentShape) (headers : Option Desc)
+    → IsTrue (has_code_or_bytes code content headers)
     → (code ≡ None → content ≡ Freeform) × (code ≡ None → headers ≡ None)
 parts (Some code) content headers is = (λ e. absurd (cc e), λ e. absurd (cc e))
 parts None Freeform None is = (λ e. refl, λ e. refl)
