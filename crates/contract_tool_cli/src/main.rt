@@ -52,8 +52,8 @@ fn sample_config(alloc: Global) -> Result<ToolConfig, AllocError>
     })
 }
 
-// Runs a command of the sample API over the standard streams. Handlers are boxed in the function that keeps them: one
-// that hands a box out is not allowed.
+// Runs a command of the sample API. Handlers are boxed in the function that keeps them: one that hands a box out is not
+// allowed.
 fn run_sample(rt: &HostRuntime, words: &[String]) -> Result<ToolStatus, NewEndpointError> {
     let alloc = rt.alloc();
     let mut endpoints = Vec::new(alloc);
@@ -85,6 +85,16 @@ fn run_sample(rt: &HostRuntime, words: &[String]) -> Result<ToolStatus, NewEndpo
             return Err(NewEndpointError::OutOfMemory);
         }
     }
+    Ok(run_over(rt, words, endpoints)?)
+}
+
+// Runs a command over the endpoints of the sample and the standard streams.
+fn run_over(
+    rt: &HostRuntime,
+    words: &[String],
+    endpoints: Vec<ApiEndpoint>,
+) -> Result<ToolStatus, AllocError> {
+    let alloc = rt.alloc();
     let config = sample_config(alloc)?;
     let mut store = sample_api::points_store(alloc)?;
     Ok(run(

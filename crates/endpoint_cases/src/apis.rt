@@ -72,10 +72,26 @@ pub fn over_registered(
     for endpoint in endpoints {
         told.push(outcome_told(alloc, api.register(endpoint)));
     }
+    match told.done() {
+        Ok(told) => asked_of(alloc, case, asked, &api, told),
+        Err(error) => Err(error),
+    }
+}
+
+// What is answered behind the last of them, where none failed for want of memory.
+fn asked_of(
+    alloc: Global,
+    case: &Json,
+    asked: Asked,
+    api: &ApiDescription,
+    told: Json,
+) -> Result<Json, CaseError>
+    requires { IsReady (boxed ⟦<dyn RouteHandler as RouteHandler>⟧) api.now }
+{
     match asked {
-        Asked::Told => told.done(),
+        Asked::Told => Ok(told),
         Asked::Endpoints => all_shown(alloc, api.endpoints()),
-        Asked::Call(call) => over_api(alloc, case, call, &api),
+        Asked::Call(call) => over_api(alloc, case, call, api),
     }
 }
 

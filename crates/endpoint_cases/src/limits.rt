@@ -2,6 +2,7 @@
 //! of the whole input, `{"body", "line", "frames", "input"}`, as the sample has them where they are left out.
 use crate::members::read_number_or;
 use case_notation::Reader;
+use sample_api::{FRAME_BUDGET, LONGEST_LINE, MOST_INPUT, server_config};
 use schema_values::Json;
 
 /// The limits of a run.
@@ -29,10 +30,11 @@ pub fn read_limits(reader: &mut Reader, case: &Json) -> Limits {
 }
 
 fn limits_of(reader: &mut Reader, noted: &Json) -> Limits {
+    let body = server_config().default_request_body_max_bytes;
     Limits {
-        body: read_number_or(reader, noted, "body", 1_024),
-        frames: read_number_or(reader, noted, "frames", 1_000),
-        line: read_number_or(reader, noted, "line", 1_048_576),
-        input: read_number_or(reader, noted, "input", 2_147_483_648),
+        body: read_number_or(reader, noted, "body", body as u32),
+        frames: read_number_or(reader, noted, "frames", FRAME_BUDGET as u32),
+        line: read_number_or(reader, noted, "line", LONGEST_LINE as u32),
+        input: read_number_or(reader, noted, "input", MOST_INPUT as u32),
     }
 }

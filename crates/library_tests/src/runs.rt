@@ -13,6 +13,17 @@ use tree_store::Store;
 
 const LINES: &[u8] = b"[]\n{\"method\":\"GET\",\"template\":\"/\",\"request_id\":\"r\"}";
 
+const DOCUMENT: &[u8] = b"{
+  \"openapi\": \"3.0.3\",
+  \"info\": {
+    \"title\": \"none\",
+    \"version\": \"1.0.0\"
+  },
+  \"paths\": {},
+  \"components\": {}
+}
+";
+
 const REPLIES: &[u8] = b"}\n{\"outcome\":\"bad-line\"}\n{\"outcome\":\"no-such-operation\"}\n";
 
 // The code of how a session over no endpoints ends.
@@ -78,5 +89,6 @@ fn a_run_whose_reader_errs_is_a_read_fault(rt: HostRuntime) -> Result<(), Fail> 
     let mut sink = SafeSink::new(alloc);
     let status = session(alloc, &mut source, &mut sink)?;
     assert_eq!(rt; status.code(), 4);
+    assert_eq!(rt; sink.taken(), DOCUMENT);
     Ok(())
 }
