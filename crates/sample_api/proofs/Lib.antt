@@ -1,2 +1,2 @@
-pub mod Folders
-pub mod ShapesOwed
+pub mod Shapes
+pub mod Answered

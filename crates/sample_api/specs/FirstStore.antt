@@ -3,7 +3,7 @@ use Rattle.std.specs.Prelude.{ℕ, pos, true, List, [], ◌∷◌, codes}
 use Rattle.descriptors.specs.declared.tree.Tree.{Tree}
 use Rattle.descriptors.specs.declared.tree.Tree.TheVariants as trees
 use Rattle.tree_store.specs.Tables.{Tables}
-use Rattle.sample_api.specs.Handlers.{point_tree}
+use Rattle.sample_types.specs.Types.{point_tree}
 
 -- a point of this label and number, which is on
 abbrev pub numbered : List ℕ → ℕ → Tree

@@ -1,5 +1,5 @@
--- What each handler of the sample allows: the reply to some arguments, and the store that it leaves.
-use Rattle.std.specs.Prelude.{◌≡◌, ◌⊎◌, ◌-◌, ◌^◌, ℕ, pos, List, [], ◌∷◌, length, min, true, Some, None, IsSome, codes}
+-- What the handler of each operation allows: the reply to some arguments, and the store that it leaves.
+use Rattle.std.specs.Prelude.{◌≡◌, ◌⊎◌, ◌-◌, ◌^◌, ℕ, pos, List, [], ◌∷◌, length, min, true, None, IsSome, codes}
 use Rattle.std.specs.Str.{encode_utf8_all}
 use Rattle.descriptors.specs.declared.tree.Tree.{Tree}
 use Rattle.descriptors.specs.declared.tree.Tree.TheVariants as trees
@@ -12,8 +12,12 @@ use Rattle.api_respond.specs.declared.reply.Content.TheVariants.{Empty, Json}
 use Rattle.api_respond.specs.declared.reply.ErrorReply.TheVariants.{Http}
 use Rattle.api_respond.specs.declared.reply.Reply.{Reply}
 use Rattle.api_respond.specs.declared.reply.Reply.TheVariants.{Failure, Success}
-use Rattle.sample_api.specs.declared.folder.Folder.{Folder}
-use Rattle.sample_api.specs.Folders.{folder_count, folder_tree}
+use Rattle.own_types.specs.declared.folder.Folder.{Folder}
+use Rattle.own_types.specs.Folders.{folder_tree}
+use Rattle.sample_types.specs.declared.operation.Operation.{Operation}
+use Rattle.sample_types.specs.declared.operation.Operation.TheVariants as operations
+use Rattle.sample_types.specs.Folders.{folder_count}
+use Rattle.sample_types.specs.Types.{point_tree}
 
 -- ---- replies
 
@@ -27,17 +31,13 @@ gives code tree = replied code (Json tree)
 
 -- ---- points
 
--- the tree of a point
-abbrev pub point_tree : List ℕ → Tree → Tree → Tree
-point_tree label n on = trees.Fields (trees.Text label ∷ n ∷ on ∷ [])
-
 -- the one argument is a point, which is stored under its label and given back with status 201
 pub record CreatesPoint (args : List Arg) (before : Tables) (reply : Reply) (after : Tables) : Type 0 where
   pub label : List ℕ
   pub n : Tree
   pub on : Tree
   pub given : args ≡ arguments.Tree (point_tree label n on) ∷ []
-  pub replied : reply ≡ gives 201 (point_tree label n on)
+  pub reply_is : reply ≡ gives 201 (point_tree label n on)
   pub stored : after ≡ changed (codes "points") (pairs_with (encode_utf8_all label) (point_tree label n on)) before
 
 -- the label of the path, the two numbers of the query and the one of the header are given back, and the store stays
@@ -49,26 +49,26 @@ pub record Probes (args : List Arg) (before : Tables) (reply : Reply) (after : T
   pub given : args ≡ arguments.Tree (trees.Fields (label ∷ []))
       ∷ arguments.Tree (trees.Fields (n ∷ i ∷ []))
       ∷ arguments.Tree (trees.Fields (a ∷ [])) ∷ []
-  pub replied : reply ≡ gives 200 (trees.Fields (label ∷ n ∷ i ∷ a ∷ []))
+  pub reply_is : reply ≡ gives 200 (trees.Fields (label ∷ n ∷ i ∷ a ∷ []))
   pub stays : after ≡ before
 
 -- a point of this label is there: it is dropped, with status 204
 pub record IsDropped (label : List ℕ) (before : Tables) (reply : Reply) (after : Tables) : Type 0 where
   pub there : IsSome (stored (codes "points") (encode_utf8_all label) before)
-  pub replied : reply ≡ replied 204 Empty
+  pub reply_is : reply ≡ replied 204 Empty
   pub dropped : after ≡ changed (codes "points") (pairs_without (encode_utf8_all label)) before
 
 -- none is there: that is told by the error of status 404, and the store stays
 pub record IsAbsent (label : List ℕ) (before : Tables) (reply : Reply) (after : Tables) : Type 0 where
   pub absent : stored (codes "points") (encode_utf8_all label) before ≡ None
-  pub refused : reply ≡ Failure (Http (not_found None (codes "Not Found")))
+  pub reply_is : reply ≡ Failure (Http (not_found None (codes "Not Found")))
   pub stays : after ≡ before
 
 -- the one argument is the label of a path
 pub record DropsPoint (args : List Arg) (before : Tables) (reply : Reply) (after : Tables) : Type 0 where
   pub label : List ℕ
   pub given : args ≡ arguments.Tree (trees.Fields (trees.Text label ∷ [])) ∷ []
-  pub told : IsDropped label before reply after ⊎ IsAbsent label before reply after
+  pub outcome : IsDropped label before reply after ⊎ IsAbsent label before reply after
 
 -- ---- the others
 
@@ -76,18 +76,29 @@ pub record DropsPoint (args : List Arg) (before : Tables) (reply : Reply) (after
 pub record TellsSize (args : List Arg) (before : Tables) (reply : Reply) (after : Tables) : Type 0 where
   pub bytes : List ℕ
   pub given : args ≡ arguments.Raw bytes ∷ []
-  pub replied : reply ≡ gives 200 (trees.Int (pos (length bytes)))
+  pub reply_is : reply ≡ gives 200 (trees.Int (pos (length bytes)))
   pub stays : after ≡ before
 
 -- the number of folders is given back, or 2^32-1 where there are more
 pub record CountsFolders (args : List Arg) (before : Tables) (reply : Reply) (after : Tables) : Type 0 where
   pub folder : Folder
   pub given : args ≡ arguments.Tree (folder_tree folder) ∷ []
-  pub replied : reply ≡ gives 200 (trees.Int (pos (min (folder_count folder) (2 ^ 32 - 1))))
+  pub reply_is : reply ≡ gives 200 (trees.Int (pos (min (folder_count folder) (2 ^ 32 - 1))))
   pub stays : after ≡ before
 
 -- `true` is given back
 pub record TellsTrue (args : List Arg) (before : Tables) (reply : Reply) (after : Tables) : Type 0 where
   pub given : args ≡ []
-  pub replied : reply ≡ gives 200 (trees.Bool true)
+  pub reply_is : reply ≡ gives 200 (trees.Bool true)
   pub stays : after ≡ before
+
+-- ---- all
+
+-- what the handler of an operation may reply to arguments, and which store it may leave
+abbrev pub allowed : Operation → List Arg → Tables → Reply → Tables → Type 0
+allowed operations.PointCreate = CreatesPoint
+allowed operations.PointProbe = Probes
+allowed operations.PointDrop = DropsPoint
+allowed operations.RawSize = TellsSize
+allowed operations.FolderCount = CountsFolders
+allowed operations.Inner = TellsTrue

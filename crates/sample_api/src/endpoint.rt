@@ -1,25 +1,20 @@
 //! The endpoints of the sample: what is said of each, and what handles its requests.
-ghost use Rattle.std.specs.Prelude.{◌≡◌, IfOk, None, map, true};
-ghost use Rattle.api_versions.specs.declared.range.ApiEndpointVersions.TheVariants as versions;
-ghost use Rattle.sample_api.specs.Endpoints.{declarations, declared};
-ghost use Rattle.sample_api.specs.Endpoints.{folder_count_declared, inner_declared, point_create_declared};
-ghost use Rattle.sample_api.specs.Endpoints.{point_drop_declared, point_probe_declared, raw_size_declared};
+ghost use Rattle.std.specs.Prelude.{◌≡◌, IfOk, IsTrue, map};
+ghost use Rattle.schema_values.specs.Ascii.{all_ascii};
+ghost use Rattle.sample_types.specs.declared.operation.Operation.TheVariants as operations;
+ghost use Rattle.sample_api.specs.Endpoints.{all_served, served, usual};
+ghost use Rattle.sample_api.specs.Endpoints.{inner_declared, point_drop_declared, raw_size_declared};
 
-use crate::folder_count::FolderCount;
-use crate::inner::Inner;
-use crate::point_create::PointCreate;
-use crate::point_drop::PointDrop;
-use crate::point_probe::PointProbe;
-use crate::raw_size::RawSize;
 use crate::sample_handler::SampleHandler;
 use api_versions::ApiEndpointVersions;
 use http::Method;
+use sample_types::Operation;
 use schema_values::Text;
 use semver::Version;
 use std::alloc::{AllocError, Global};
 
-/// An endpoint of the sample, before its handler is boxed: it has no tags and no further texts, and a typed body is
-/// JSON.
+/// An endpoint of the sample, before its handler is boxed. It is meant to be boxed without tags and further texts, and
+/// with JSON as the media type of its bodies.
 #[derive(Drop)]
 pub struct SampleEndpoint {
     /// What handles its requests.
@@ -38,101 +33,66 @@ pub struct SampleEndpoint {
     pub visible: bool,
 }
 
-/// The endpoints of the sample, in order. Fails only for want of memory.
+/// The endpoints of the sample, in order, each with the handler of its operation. Fails only for want of memory.
 pub fn endpoints(alloc: Global) -> Result<Vec<SampleEndpoint>, AllocError>
-    ensures { IfOk result (λ endpoints. map declared endpoints.items ≡ declarations) }
+    ensures { IfOk result (λ endpoints. map served endpoints.items ≡ all_served) }
 {
     let mut endpoints = Vec::new(alloc);
-    endpoints.push(point_create(alloc)?)?;
-    endpoints.push(point_probe(alloc)?)?;
+    endpoints.push(endpoint(alloc, Operation::PointCreate, Method::POST, "/points")?)?;
+    endpoints.push(endpoint(alloc, Operation::PointProbe, Method::GET, "/points/{label}")?)?;
     endpoints.push(point_drop(alloc)?)?;
     endpoints.push(raw_size(alloc)?)?;
-    endpoints.push(folder_count(alloc)?)?;
+    endpoints.push(endpoint(alloc, Operation::FolderCount, Method::POST, "/folders")?)?;
     endpoints.push(inner(alloc)?)?;
     Ok(endpoints)
 }
 
-fn point_create(alloc: Global) -> Result<SampleEndpoint, AllocError>
-    ensures { IfOk result (λ endpoint. declared endpoint ≡ point_create_declared) }
-{
-    let operation_id = Text::from_ascii(alloc, "point_create")?;
-    let path = Text::from_ascii(alloc, "/points")?;
-    let handler = SampleHandler::PointCreate(PointCreate::new(alloc)?);
-    Ok(endpoint(handler, operation_id, Method::POST, path))
-}
-
-fn point_probe(alloc: Global) -> Result<SampleEndpoint, AllocError>
-    ensures { IfOk result (λ endpoint. declared endpoint ≡ point_probe_declared) }
-{
-    let operation_id = Text::from_ascii(alloc, "point_probe")?;
-    let path = Text::from_ascii(alloc, "/points/{label}")?;
-    let handler = SampleHandler::PointProbe(PointProbe::new(alloc)?);
-    Ok(endpoint(handler, operation_id, Method::GET, path))
-}
-
 // From version 2.0.0 on.
 fn point_drop(alloc: Global) -> Result<SampleEndpoint, AllocError>
-    ensures { IfOk result (λ endpoint. declared endpoint ≡ point_drop_declared) }
+    ensures { IfOk result (λ endpoint. served endpoint ≡ (point_drop_declared, operations.PointDrop)) }
 {
-    let operation_id = Text::from_ascii(alloc, "point_drop")?;
-    let path = Text::from_ascii(alloc, "/points/{label}")?;
-    let handler = SampleHandler::PointDrop(PointDrop::new(alloc)?);
-    let mut endpoint = endpoint(handler, operation_id, Method::DELETE, path);
+    let mut endpoint = endpoint(
+        alloc,
+        Operation::PointDrop,
+        Method::DELETE,
+        "/points/{label}",
+    )?;
     endpoint.versions = ApiEndpointVersions::from(Version::new(2, 0, 0));
     Ok(endpoint)
 }
 
 // Bodies of at most 8 bytes.
 fn raw_size(alloc: Global) -> Result<SampleEndpoint, AllocError>
-    ensures { IfOk result (λ endpoint. declared endpoint ≡ raw_size_declared) }
+    ensures { IfOk result (λ endpoint. served endpoint ≡ (raw_size_declared, operations.RawSize)) }
 {
-    let operation_id = Text::from_ascii(alloc, "raw_size")?;
-    let path = Text::from_ascii(alloc, "/raw")?;
-    let handler = SampleHandler::RawSize(RawSize::new(alloc)?);
-    let mut endpoint = endpoint(handler, operation_id, Method::PUT, path);
+    let mut endpoint = endpoint(alloc, Operation::RawSize, Method::PUT, "/raw")?;
     endpoint.body_limit = Some(8);
     Ok(endpoint)
 }
 
-fn folder_count(alloc: Global) -> Result<SampleEndpoint, AllocError>
-    ensures { IfOk result (λ endpoint. declared endpoint ≡ folder_count_declared) }
-{
-    let operation_id = Text::from_ascii(alloc, "folder_count")?;
-    let path = Text::from_ascii(alloc, "/folders")?;
-    let handler = SampleHandler::FolderCount(FolderCount::new(alloc)?);
-    Ok(endpoint(handler, operation_id, Method::POST, path))
-}
-
 // Hidden.
 fn inner(alloc: Global) -> Result<SampleEndpoint, AllocError>
-    ensures { IfOk result (λ endpoint. declared endpoint ≡ inner_declared) }
+    ensures { IfOk result (λ endpoint. served endpoint ≡ (inner_declared, operations.Inner)) }
 {
-    let operation_id = Text::from_ascii(alloc, "inner")?;
-    let path = Text::from_ascii(alloc, "/inner")?;
-    let handler = SampleHandler::Inner(Inner::new(alloc)?);
-    let mut endpoint = endpoint(handler, operation_id, Method::GET, path);
+    let mut endpoint = endpoint(alloc, Operation::Inner, Method::GET, "/inner")?;
     endpoint.visible = false;
     Ok(endpoint)
 }
 
 // An endpoint that is served in all versions, shown, and without a limit of its own.
 fn endpoint(
-    handler: SampleHandler,
-    operation_id: Text,
+    alloc: Global,
+    operation: Operation,
     method: Method,
-    path: Text,
-) -> SampleEndpoint
-    ensures { result ≡ record {
-      handler = handler;
-      operation_id = operation_id;
-      method = method;
-      path = path;
-      versions = versions.All;
-      body_limit = None;
-      visible = true;
-    } }
+    path: &str,
+) -> Result<SampleEndpoint, AllocError>
+    requires { IsTrue (all_ascii path.now) }
+    ensures { IfOk result (λ endpoint. served endpoint ≡ (usual operation method path.now, operation)) }
 {
-    SampleEndpoint {
+    let operation_id = Text::from_ascii(alloc, operation.name())?;
+    let path = Text::from_ascii(alloc, path)?;
+    let handler = SampleHandler::new(alloc, operation)?;
+    Ok(SampleEndpoint {
         handler,
         operation_id,
         method,
@@ -140,5 +100,5 @@ fn endpoint(
         versions: ApiEndpointVersions::all(),
         body_limit: None,
         visible: true,
-    }
+    })
 }

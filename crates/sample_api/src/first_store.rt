@@ -1,6 +1,5 @@
 //! The store that the sample begins with.
-ghost use Rattle.std.specs.Prelude.{◌≡◌, codes, pos, true, IfOk, IsTrue, OnOk, ℕ};
-ghost use Rattle.descriptors.specs.declared.tree.Tree.TheVariants as trees;
+ghost use Rattle.std.specs.Prelude.{◌≡◌, codes, true, IfOk, IsTrue, OnOk};
 ghost use Rattle.schema_values.specs.Ascii.{all_ascii};
 ghost use Rattle.tree_store.specs.Tables.{changed, pairs_with};
 ghost use Rattle.sample_api.specs.FirstStore.{first_tables, numbered};

@@ -6,78 +6,32 @@ ghost use Rattle.handler_shapes.specs.Arguments.{ArgsFit};
 ghost use Rattle.handler_shapes.specs.ShapeChecks.{ShapePasses};
 ghost use Rattle.handler_shapes.specs.declared.arguments.Arg.TheVariants as arguments;
 ghost use Rattle.sample_api.specs.Handlers.{DropsPoint};
-ghost use Rattle.sample_api.specs.Shapes.{point_drop_shape};
+ghost use Rattle.sample_types.specs.Shapes.{point_drop_shape};
 
-use crate::point::LabelPath;
 use crate::replies::replied;
-use crate::shapes::{empty, shape_of};
-use api_respond::{Content, ErrorReply, Reply, RequestContext, RouteHandler};
+use api_respond::{Content, ErrorReply, Reply};
 use api_types::ApiType;
-use handler_shapes::{Arg, ArgList, HandlerShape, Slot};
+use handler_shapes::Arg;
 use http::StatusCode;
 use http_status::HttpError;
-use schema_values::{List, Text};
+use sample_types::LabelPath;
+use schema_values::Text;
 use std::alloc::{AllocError, Global};
 use tree_store::Store;
-use typed_values::{DescTable, Tree};
+use typed_values::Tree;
 
-/// Drops the point of a label; where there is none, that is told.
-#[derive(Drop)]
-pub struct PointDrop {
-    shape: HandlerShape,
-    ghost of_labels: { shape ≡ point_drop_shape },
-}
-
-impl PointDrop {
-    /// The handler. Fails only for want of memory.
-    pub fn new(alloc: Global) -> Result<PointDrop, AllocError>
-        ensures { IfOk result (λ handler. handler.shape ≡ point_drop_shape) }
-    {
-        let mut slots = List::new(alloc);
-        slots.push(Slot::Path(LabelPath::descriptor(alloc)?))?;
-        let response = empty(alloc, StatusCode::NO_CONTENT, "successful deletion")?;
-        Ok(PointDrop {
-            shape: shape_of(alloc, DescTable::new(alloc), slots, response)?,
-        })
-    }
-}
-
-impl RouteHandler for PointDrop {
-    ghost use Rattle.std.specs.Prelude.{◌≡◌, codes};
-    ghost use Rattle.api_respond.specs.declared.reply.ErrorReply.TheVariants.{Http};
-    ghost use Rattle.sample_api.specs.Handlers.{DropsPoint};
-
-    ghost logged_as = { λ _. codes "point_drop" };
-
-    ghost shape_of = { λ handler. handler.shape };
-
-    ghost allows = { λ _ _ before args reply after. DropsPoint args before reply after };
-
-    ghost turns = { λ _ error reply. reply ≡ Http error };
-
-    fn label(&self) -> &str {
-        "point_drop"
-    }
-
-    fn shape(&self) -> &HandlerShape {
-        &self.shape
-    }
-
-    fn handle(
-        &self,
-        alloc: Global,
-        _ctx: &RequestContext,
-        store: &mut Store,
-        args: &mut ArgList,
-    ) -> Result<Reply, AllocError> {
-        match args.as_slice() {
-            [Arg::Tree(path)] => drop_at(alloc, store, path),
-            _ => unreachable!(),
-        }
-    }
-
-    fn refuse(&self, _alloc: Global, error: HttpError) -> Result<ErrorReply, AllocError> {
-        Ok(ErrorReply::Http(error))
+/// Answers arguments, which fit the slots.
+pub(crate) fn answer(alloc: Global, store: &mut Store, args: &[Arg]) -> Result<Reply, AllocError>
+    requires passes { ShapePasses point_drop_shape }
+    requires fit { ArgsFit point_drop_shape.table point_drop_shape.slots args.now }
+    ensures drops { IfOk result (λ reply. DropsPoint args.now store.old reply store.new) }
+    ensures fits { IfOk result (ReplyFits point_drop_shape) }
+    ensures err { OnErr result (store.new ≡ store.old) }
+{
+    match args {
+        [Arg::Tree(path)] => drop_at(alloc, store, path),
+        // Other arguments do not fit.
+        _ => unreachable!(),
     }
 }
 

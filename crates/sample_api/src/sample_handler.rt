@@ -1,95 +1,96 @@
-//! Any handler of the sample, so that the endpoints stand in one list.
-ghost use Rattle.std.specs.Prelude.{◌≡◌};
+//! The handlers of the operations.
+ghost use Rattle.std.specs.Prelude.{◌≡◌, IfOk, OnErr};
+ghost use Rattle.api_respond.specs.Replies.{ReplyFits};
+ghost use Rattle.handler_shapes.specs.Arguments.{ArgsFit};
+ghost use Rattle.handler_shapes.specs.ShapeChecks.{ShapePasses};
+ghost use Rattle.sample_api.specs.Handlers.{allowed};
+ghost use Rattle.sample_types.specs.Operations.{shape_of};
 
-use crate::folder_count::FolderCount;
-use crate::inner::Inner;
-use crate::point_create::PointCreate;
-use crate::point_drop::PointDrop;
-use crate::point_probe::PointProbe;
-use crate::raw_size::RawSize;
+use crate::{folder_count, inner, point_create, point_drop, point_probe, raw_size};
 use api_respond::{ErrorReply, Reply, RequestContext, RouteHandler};
-use handler_shapes::{ArgList, HandlerShape};
+use handler_shapes::{Arg, ArgList, HandlerShape};
 use http_status::HttpError;
+use sample_types::Operation;
 use std::alloc::{AllocError, Global};
 use tree_store::Store;
 
-/// A handler of the sample.
+/// The handler of an operation.
 #[derive(Drop)]
-pub enum SampleHandler {
-    /// Stores a point.
-    PointCreate(PointCreate),
-    /// Tells what it is asked with.
-    PointProbe(PointProbe),
-    /// Drops a point.
-    PointDrop(PointDrop),
-    /// Tells the size of a body.
-    RawSize(RawSize),
-    /// Tells how many folders there are.
-    FolderCount(FolderCount),
-    /// Tells `true`.
-    Inner(Inner),
+pub struct SampleHandler {
+    operation: Operation,
+    shape: HandlerShape,
+    ghost of_operation: { shape ≡ shape_of operation },
+}
+
+impl SampleHandler {
+    /// The handler of an operation. Fails only for want of memory.
+    pub fn new(alloc: Global, operation: Operation) -> Result<SampleHandler, AllocError>
+        ensures operation { IfOk result (λ handler. handler.operation ≡ operation) }
+        ensures shape { IfOk result (λ handler. handler.shape ≡ shape_of operation) }
+    {
+        Ok(SampleHandler {
+            shape: operation.shape(alloc)?,
+            operation,
+        })
+    }
 }
 
 impl RouteHandler for SampleHandler {
     ghost use Rattle.std.specs.Prelude.{◌≡◌};
     ghost use Rattle.api_respond.specs.declared.reply.ErrorReply.TheVariants.{Http};
-    ghost use Rattle.sample_api.specs.SampleHandlers.{allowed_by, name_of, shape_in};
+    ghost use Rattle.sample_types.specs.Operations.{name_of};
+    ghost use Rattle.sample_api.specs.Handlers.{allowed};
 
-    ghost logged_as = { name_of };
+    ghost logged_as = { λ handler. name_of handler.operation };
 
-    ghost shape_of = { shape_in };
+    ghost shape_of = { λ handler. handler.shape };
 
-    ghost allows = { λ handler _ before args reply after. allowed_by handler args before reply after };
+    ghost allows = { λ handler _ before args reply after. allowed handler.operation args before reply after };
 
     ghost turns = { λ _ error reply. reply ≡ Http error };
 
     fn label(&self) -> &str {
-        match self {
-            SampleHandler::PointCreate(handler) => handler.label(),
-            SampleHandler::PointProbe(handler) => handler.label(),
-            SampleHandler::PointDrop(handler) => handler.label(),
-            SampleHandler::RawSize(handler) => handler.label(),
-            SampleHandler::FolderCount(handler) => handler.label(),
-            SampleHandler::Inner(handler) => handler.label(),
-        }
+        self.operation.name()
     }
 
     fn shape(&self) -> &HandlerShape {
-        match self {
-            SampleHandler::PointCreate(handler) => handler.shape(),
-            SampleHandler::PointProbe(handler) => handler.shape(),
-            SampleHandler::PointDrop(handler) => handler.shape(),
-            SampleHandler::RawSize(handler) => handler.shape(),
-            SampleHandler::FolderCount(handler) => handler.shape(),
-            SampleHandler::Inner(handler) => handler.shape(),
-        }
+        &self.shape
     }
 
     fn handle(
         &self,
         alloc: Global,
-        ctx: &RequestContext,
+        _ctx: &RequestContext,
         store: &mut Store,
         args: &mut ArgList,
     ) -> Result<Reply, AllocError> {
-        match self {
-            SampleHandler::PointCreate(handler) => handler.handle(alloc, ctx, store, args),
-            SampleHandler::PointProbe(handler) => handler.handle(alloc, ctx, store, args),
-            SampleHandler::PointDrop(handler) => handler.handle(alloc, ctx, store, args),
-            SampleHandler::RawSize(handler) => handler.handle(alloc, ctx, store, args),
-            SampleHandler::FolderCount(handler) => handler.handle(alloc, ctx, store, args),
-            SampleHandler::Inner(handler) => handler.handle(alloc, ctx, store, args),
-        }
+        answer(self.operation, alloc, store, args.as_slice())
     }
 
-    fn refuse(&self, alloc: Global, error: HttpError) -> Result<ErrorReply, AllocError> {
-        match self {
-            SampleHandler::PointCreate(handler) => handler.refuse(alloc, error),
-            SampleHandler::PointProbe(handler) => handler.refuse(alloc, error),
-            SampleHandler::PointDrop(handler) => handler.refuse(alloc, error),
-            SampleHandler::RawSize(handler) => handler.refuse(alloc, error),
-            SampleHandler::FolderCount(handler) => handler.refuse(alloc, error),
-            SampleHandler::Inner(handler) => handler.refuse(alloc, error),
-        }
+    fn refuse(&self, _alloc: Global, error: HttpError) -> Result<ErrorReply, AllocError> {
+        Ok(ErrorReply::Http(error))
+    }
+}
+
+// Answers arguments, which fit the slots of an operation.
+fn answer(
+    operation: Operation,
+    alloc: Global,
+    store: &mut Store,
+    args: &[Arg],
+) -> Result<Reply, AllocError>
+    requires passes { ShapePasses (shape_of operation) }
+    requires fit { ArgsFit (shape_of operation).table (shape_of operation).slots args.now }
+    ensures allowed { IfOk result (λ reply. allowed operation args.now store.old reply store.new) }
+    ensures fits { IfOk result (ReplyFits (shape_of operation)) }
+    ensures err { OnErr result (store.new ≡ store.old) }
+{
+    match operation {
+        Operation::PointCreate => point_create::answer(alloc, store, args),
+        Operation::PointProbe => point_probe::answer(alloc, args),
+        Operation::PointDrop => point_drop::answer(alloc, store, args),
+        Operation::RawSize => raw_size::answer(alloc, args),
+        Operation::FolderCount => folder_count::answer(alloc, args),
+        Operation::Inner => inner::answer(alloc, args),
     }
 }

@@ -20,10 +20,10 @@ returns-in-Some-clause-drops c =
     record {
       label = label;
       given = ap (λ (tree : Tree). arguments.Tree tree ∷ []) (sym c.in_ok-label.ensures);
-      told = inl (record {
+      outcome = inl (record {
         there = subst (λ (bytes : List ℕ). IsSome (stored (codes "points") bytes before)) (sym key)
             (ap is_some (sym c.remove.ensures.removed ∙ c.in-Some.is));
-        replied = c.replied.ensures;
+        reply_is = c.replied.ensures;
         dropped = c.remove.ensures.left (ap is_some c.in-Some.is)
             ∙ ap (λ (bytes : List ℕ). changed (codes "points") (pairs_without bytes) before) (sym key);
       });
@@ -38,10 +38,10 @@ returns-clause-drops c =
     record {
       label = label;
       given = ap (λ (tree : Tree). arguments.Tree tree ∷ []) (sym c.in_ok-label.ensures);
-      told = inr (record {
+      outcome = inr (record {
         absent = subst (λ (bytes : List ℕ). stored (codes "points") bytes before ≡ None) (sym key)
             (sym c.remove.ensures.removed ∙ c.in-None.is);
-        refused = ap (λ (error : HttpError). Failure (Http error)) c.in_ok-absent-in-None.ensures;
+        reply_is = ap (λ (error : HttpError). Failure (Http error)) c.in_ok-absent-in-None.ensures;
         stays = c.remove.ensures.absent c.in-None.is;
       });
     }

@@ -1,7 +1,0 @@
-use Rattle.std.proofs.Common.{◌≡◌, ◌-◌, ◌^◌, map, min, take}
-use Rattle.std.specs.Prelude.{sum}
-use Rattle.sample_api.specs.Folders.{folder_count}
-use Rattle.sample_api.proofs.folder.+count.Given as goal
-
-abbrev pub invariant-counted-loop-folder : goal.invariant-counted-loop-folder
-invariant-counted-loop-folder l = l.count ≡ min (sum (map folder_count (take l.folder-index l.folders))) (2 ^ 32 - 1)

@@ -1,6 +1,0 @@
-use Rattle.std.proofs.Common.{Some, None}
-use Rattle.api_types.proofs.CallerLemmas.{words_reach}
-use Rattle.sample_api.proofs.label.PointLabelApiType.reach.Goals as goal
-
-pub returns : goal.returns
-returns c = words_reach (Some 1) None None

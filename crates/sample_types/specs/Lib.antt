@@ -1,0 +1,5 @@
+pub mod Labels
+pub mod Types
+pub mod Folders
+pub mod Shapes
+pub mod Operations
