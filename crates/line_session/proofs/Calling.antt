@@ -47,7 +47,7 @@ written-part sink bytes old new result error is part = subst (IsWrittenBy sink b
 
 -- ---- bytes that come later
 
-Handles-later : (a b : Reading) (xs ys bytes : List ℕ) → Handles a b (Some xs) (Some []) bytes → Handles a b (Some (xs ++ ys)) (Some ys) bytes
+pub Handles-later : (a b : Reading) (xs ys bytes : List ℕ) → Handles a b (Some xs) (Some []) bytes → Handles a b (Some (xs ++ ys)) (Some ys) bytes
 Handles-later a b xs ys bytes p = record {
   input = p.input;
   consumed = ap (λ (l : List ℕ). l ++ ys) (p.consumed ∙ append-nil p.input);
@@ -55,7 +55,7 @@ Handles-later a b xs ys bytes p = record {
   budget = p.budget;
 }
 
-IsOpen-later : (longest : ℕ) (a b : Reading) (xs ys line : List ℕ) → IsOpen longest a b (Some xs) (Some []) line → IsOpen longest a b (Some (xs ++ ys)) (Some ys) line
+pub IsOpen-later : (longest : ℕ) (a b : Reading) (xs ys line : List ℕ) → IsOpen longest a b (Some xs) (Some []) line → IsOpen longest a b (Some (xs ++ ys)) (Some ys) line
 IsOpen-later longest a b xs ys line p = record { fits = p.fits; handled = Handles-later a b xs ys line p.handled }
 
 -- ---- a line

@@ -1,21 +1,21 @@
 -- How a session goes on from call to call, and ends.
-use Rattle.std.proofs.Common.{◌≡◌, ◌≢◌, ◌⊎◌, inl, inr, ℕ, ◌+◌, ◌<◌, List, [], ◌∷◌, ◌++◌, length, refl, sym, ap, ◌∙◌, subst, append-nil, Some, Ok, Err, Result}
+use Rattle.std.proofs.Common.{◌≡◌, ◌≢◌, ◌⊎◌, inl, inr, ℕ, ◌+◌, ◌<◌, List, [], ◌∷◌, ◌++◌, length, refl, sym, ap, ◌∙◌, subst, append-nil, Some, Ok, Err, Result, Bool, true, false, append_assoc}
 use Rattle.std.specs.Io.KnownBytes.{IsAtEnd}
 use Rattle.std.specs.declared.option.Option.{Option}
-use Rattle.line_session.specs.Calls.{Gave, GaveAll, GaveAndFailed, GivesPiece, Took, TookUpTo, TakesPiece}
+use Rattle.line_session.specs.Calls.{Gave, GaveAll, GaveAndFailed, GivesPiece, Took, TookUpTo, TakesPiece, GaveUpTo}
 use Rattle.line_session.specs.Calls.{EndsReading, EndsWriting, IsRepliedBy, IsServedBy, IsWrittenBy}
 use Rattle.line_session.specs.Lines.{Fits, end_line}
 use Rattle.line_session.specs.NextLine.{IsOpen}
 use Rattle.line_session.specs.Reading.{Reading, Handles}
 use Rattle.line_session.specs.Session.{PartReplied}
-use Rattle.line_session.specs.Status.{lost_at, status_of}
+use Rattle.line_session.specs.Status.{IsServed, lost_at, status_of}
 use Rattle.line_session.specs.declared.ends.Sink.{Ghosts as SinkGhosts}
 use Rattle.line_session.specs.declared.ends.SinkError.{SinkError}
 use Rattle.line_session.specs.declared.ends.SinkError.TheVariants.{Failed, OutOfMemory as NoMemory}
 use Rattle.line_session.specs.declared.ends.Source.{Ghosts as SourceGhosts}
 use Rattle.line_session.specs.declared.serving.SessionEnd.{SessionEnd}
 use Rattle.line_session.specs.declared.serving.SessionEnd.TheVariants.{Done, ReadFault, LineTooLong, TooMuchInput, OutOfMemory}
-use Rattle.line_session.proofs.Calling.{ByCalls-none, ByCalls-then}
+use Rattle.line_session.proofs.Calling.{ByCalls-none, ByCalls-then, Handles-later, IsOpen-later}
 use Rattle.line_session.proofs.Cuts.{cut-before, cut-front, cut-last, cut-line, cut-none, cut-open, served-cut}
 use Rattle.line_session.proofs.Going.{Going, Going-first, Going-more, done-ended, done-last, stopped-fault, stopped-long, stopped-much}
 
@@ -27,10 +27,11 @@ writes-to sink before after out status Failed is (inl p) = subst (EndsWriting si
 writes-to sink before after out status Failed is (inr p) = absurd (cc p.0)
 writes-to sink before after out status NoMemory is p = subst (EndsWriting sink before out after) (sym is) p
 
-reads-to : {S : Type 0} (source : SourceGhosts S) (before after : S) (bytes : List ℕ) (status : SessionEnd) (e : SinkError)
-    → status ≡ status_of e → Gave source before bytes after ⊎ GaveAll source before bytes after → EndsReading source before bytes after status
-reads-to source before after bytes status Failed is p = subst (EndsReading source before bytes after) (sym is) p
-reads-to source before after bytes status NoMemory is p = subst (EndsReading source before bytes after) (sym is) p
+reads-to : {S : Type 0} (source : SourceGhosts S) (told : Bool) (before after : S) (bytes : List ℕ) (status : SessionEnd)
+    (e : SinkError) → status ≡ status_of e → GaveUpTo source told before bytes after
+    → EndsReading source told before bytes after status
+reads-to source told before after bytes status Failed is p = subst (EndsReading source told before bytes after) (sym is) p
+reads-to source told before after bytes status NoMemory is p = subst (EndsReading source told before bytes after) (sym is) p
 
 took-up_to : {K : Type 0} (sink : SinkGhosts K) (a b c : K) (xs ys : List ℕ) (e : SinkError)
     → Took sink a xs b → TookUpTo sink b ys e c → TookUpTo sink a (xs ++ ys) e c
@@ -74,6 +75,17 @@ not_replied Answers Lost sink k old new line (inr lost) =
 -- ---- a session
 
 module _ {X : Type 0} (Answers : X → List ℕ → List ℕ → X → Type 0) (Lost : X → List ℕ → X → Type 0) (front : List ℕ) (most longest : ℕ) where
+  -- where the end was told, nothing comes
+  served-all : (input : List ℕ) (t u : Option (List ℕ)) (old new : X) (how : SessionEnd)
+      → IsServed Answers Lost front most longest (Some input) (Some []) t u old new how
+      → (more : List ℕ) → (true ≡ true → more ≡ [])
+      → IsServed Answers Lost front most longest (Some (input ++ more)) (Some more) t u old new how
+  served-all input t u old new how p more none =
+      subst (λ (l : List ℕ). IsServed Answers Lost front most longest (Some (input ++ l)) (Some l) t u old new how)
+      (sym (none refl))
+      (subst (λ (l : List ℕ). IsServed Answers Lost front most longest (Some l) (Some []) t u old new how)
+      (sym (append-nil input)) p)
+
   going-later : (input more : List ℕ) (t u : Option (List ℕ)) (old new : X) (a : Reading)
       → Going Answers front most longest (Some input) (Some []) t u old new a → Going Answers front most longest (Some (input ++ more)) (Some more) t u old new a
   going-later input more t u old new a p = record {
@@ -91,6 +103,13 @@ module _ {X : Type 0} (Answers : X → List ℕ → List ℕ → X → Type 0) (
     };
     wrote = p.wrote;
   }
+
+  going-beyond : (input more rest : List ℕ) (t u : Option (List ℕ)) (old new : X) (a : Reading)
+      → Going Answers front most longest (Some input) (Some []) t u old new a
+      → Going Answers front most longest (Some ((input ++ more) ++ rest)) (Some (more ++ rest)) t u old new a
+  going-beyond input more rest t u old new a p =
+      subst (λ (l : List ℕ). Going Answers front most longest (Some l) (Some (more ++ rest)) t u old new a)
+      (sym (append_assoc input more rest)) (going-later input (more ++ rest) t u old new a p)
 
   module _ {S K : Type 0} (source : SourceGhosts S) (sink : SinkGhosts K) where
     abbrev Served : S → S → K → K → X → X → SessionEnd → Type 0
@@ -121,9 +140,10 @@ module _ {X : Type 0} (Answers : X → List ℕ → List ℕ → X → Type 0) (
     served-none s k old = record {
       input = [];
       output = [];
-      reads = inl (ByCalls-none (GivesPiece source) s);
+      told = false;
+      reads = ByCalls-none (GivesPiece source) s;
       writes = inr (refl, ByCalls-none (TakesPiece sink) k);
-      served = cut-none Answers Lost front most longest (Some []) (Some []) old;
+      served = λ rest none. cut-none Answers Lost front most longest (Some rest) (Some []) old;
     }
 
     -- the front was not written
@@ -132,10 +152,11 @@ module _ {X : Type 0} (Answers : X → List ℕ → List ℕ → X → Type 0) (
     served-front s k l old status e is (part, more, whole, took) = record {
       input = [];
       output = part;
-      reads = reads-to source s s [] status e is (inl (ByCalls-none (GivesPiece source) s));
+      told = false;
+      reads = reads-to source false s s [] status e is (ByCalls-none (GivesPiece source) s);
       writes = writes-to sink k l part status e is took;
-      served = served-cut Answers Lost front most longest (Some []) (Some []) (Some []) (Some part) old old status e is
-          (cut-front Answers (lost_at Lost e) front most longest (Some []) (Some []) (Some part) old
+      served = λ rest none. served-cut Answers Lost front most longest (Some rest) (Some rest) (Some []) (Some part) old old status e is
+          (cut-front Answers (lost_at Lost e) front most longest (Some rest) (Some []) (Some part) old
           (record { part = part; more = more; appended = refl; front = whole }));
     }
 
@@ -144,9 +165,10 @@ module _ {X : Type 0} (Answers : X → List ℕ → List ℕ → X → Type 0) (
     served-before s k l old took = record {
       input = [];
       output = front;
-      reads = inl (ByCalls-none (GivesPiece source) s);
+      told = false;
+      reads = ByCalls-none (GivesPiece source) s;
       writes = inr (refl, took);
-      served = cut-before Answers Lost front most longest (Some []) (Some []) (Some front) old refl;
+      served = λ rest none. cut-before Answers Lost front most longest (Some rest) (Some []) (Some front) old refl;
     }
 
     -- ---- behind lines
@@ -155,6 +177,11 @@ module _ {X : Type 0} (Answers : X → List ℕ → List ℕ → X → Type 0) (
       -- what was read behind these lines
       later : (more : List ℕ) → Going Answers front most longest (Some (p.input ++ more)) (Some more) (Some []) (Some p.output) old mid a
       later more = going-later p.input more (Some []) (Some p.output) old mid a p.going
+
+      -- and what may come behind it
+      beyond : (more rest : List ℕ)
+          → Going Answers front most longest (Some ((p.input ++ more) ++ rest)) (Some (more ++ rest)) (Some []) (Some p.output) old mid a
+      beyond more rest = going-beyond p.input more rest (Some []) (Some p.output) old mid a p.going
 
       -- a line was answered
       pub GoingBy-more : (more : List ℕ) → Gave source s more t → Fits longest line × Handles a b (Some more) (Some []) (end_line line)
@@ -176,11 +203,12 @@ module _ {X : Type 0} (Answers : X → List ℕ → List ℕ → X → Type 0) (
       served-line status e is more gave q (part, took, replied) = record {
         input = p.input ++ more;
         output = p.output ++ part;
-        reads = reads-to source first t (p.input ++ more) status e is (inl (ByCalls-then (GivesPiece source) first s t p.input more p.gave gave));
+        told = false;
+        reads = reads-to source false first t (p.input ++ more) status e is (ByCalls-then (GivesPiece source) first s t p.input more p.gave gave);
         writes = writes-to sink k m (p.output ++ part) status e is (took-up_to sink k l m p.output part e p.took took);
-        served = served-cut Answers Lost front most longest (Some (p.input ++ more)) (Some []) (Some []) (Some (p.output ++ part)) old new status e is
-            (cut-line Answers (lost_at Lost e) front most longest (Some (p.input ++ more)) (Some more) (Some []) (Some []) (Some p.output)
-            (Some (p.output ++ part)) old mid new a b line (later more) q (part-behind Answers (lost_at Lost e) p.output part mid line new replied));
+        served = λ rest none. served-cut Answers Lost front most longest (Some ((p.input ++ more) ++ rest)) (Some rest) (Some []) (Some (p.output ++ part)) old new status e is
+            (cut-line Answers (lost_at Lost e) front most longest (Some ((p.input ++ more) ++ rest)) (Some (more ++ rest)) (Some rest) (Some []) (Some p.output)
+            (Some (p.output ++ part)) old mid new a b line (beyond more rest) (q.0, Handles-later a b more rest (end_line line) q.1) (part-behind Answers (lost_at Lost e) p.output part mid line new replied));
       }
 
       -- the reply to the last line was cut short
@@ -191,11 +219,12 @@ module _ {X : Type 0} (Answers : X → List ℕ → List ℕ → X → Type 0) (
       served-last status e is more gave q some (part, took, replied) = record {
         input = p.input ++ more;
         output = p.output ++ part;
-        reads = reads-to source first t (p.input ++ more) status e is (inr (gave-all source first s t p.input more p.gave gave));
+        told = true;
+        reads = reads-to source true first t (p.input ++ more) status e is (gave-all source first s t p.input more p.gave gave);
         writes = writes-to sink k m (p.output ++ part) status e is (took-up_to sink k l m p.output part e p.took took);
-        served = served-cut Answers Lost front most longest (Some (p.input ++ more)) (Some []) (Some []) (Some (p.output ++ part)) old new status e is
+        served = served-all (p.input ++ more) (Some []) (Some (p.output ++ part)) old new status (served-cut Answers Lost front most longest (Some (p.input ++ more)) (Some []) (Some []) (Some (p.output ++ part)) old new status e is
             (cut-last Answers (lost_at Lost e) front most longest (Some (p.input ++ more)) (Some more) (Some []) (Some []) (Some p.output)
-            (Some (p.output ++ part)) old mid new a b line (later more) q some (part-behind Answers (lost_at Lost e) p.output part mid line new replied));
+            (Some (p.output ++ part)) old mid new a b line (later more) q some (part-behind Answers (lost_at Lost e) p.output part mid line new replied)));
       }
 
       -- the last line was answered
@@ -205,15 +234,20 @@ module _ {X : Type 0} (Answers : X → List ℕ → List ℕ → X → Type 0) (
       served-done more gave q some (reply, answered, took) = record {
         input = p.input ++ more;
         output = p.output ++ end_line reply;
-        reads = gave-all source first s t p.input more p.gave gave;
+        told = true;
+        reads = (refl, gave-all source first s t p.input more p.gave gave);
         writes = ByCalls-then (TakesPiece sink) k l m p.output (end_line reply) p.took took;
-        served = done-last Answers front most longest (Some (p.input ++ more)) (Some more) (Some []) (Some []) (Some p.output)
-            (Some (p.output ++ end_line reply)) old mid new a b line (later more) q some (reply, answered, refl);
+        served = served-all (p.input ++ more) (Some []) (Some (p.output ++ end_line reply)) old new Done (done-last Answers front most longest (Some (p.input ++ more)) (Some more) (Some []) (Some []) (Some p.output)
+            (Some (p.output ++ end_line reply)) old mid new a b line (later more) q some (reply, answered, refl));
       }
 
     -- ---- no further line was answered
 
     module _ (first s t : S) (k l : K) (old new : X) (a b : Reading) (p : GoingBy first s k l old new a) where
+      past : (more rest : List ℕ)
+          → Going Answers front most longest (Some ((p.input ++ more) ++ rest)) (Some (more ++ rest)) (Some []) (Some p.output) old new a
+      past more rest = going-beyond p.input more rest (Some []) (Some p.output) old new a p.going
+
       behind : (more : List ℕ) → Going Answers front most longest (Some (p.input ++ more)) (Some more) (Some []) (Some p.output) old new a
       behind more = going-later p.input more (Some []) (Some p.output) old new a p.going
 
@@ -223,10 +257,11 @@ module _ {X : Type 0} (Answers : X → List ℕ → List ℕ → X → Type 0) (
       served-ended line more gave q none = record {
         input = p.input ++ more;
         output = p.output;
-        reads = gave-all source first s t p.input more p.gave gave;
+        told = true;
+        reads = (refl, gave-all source first s t p.input more p.gave gave);
         writes = p.took;
-        served = done-ended Answers front most longest (Some (p.input ++ more)) (Some more) (Some []) (Some []) (Some p.output) old new a b line
-            (behind more) q none;
+        served = served-all (p.input ++ more) (Some []) (Some p.output) old new Done (done-ended Answers front most longest (Some (p.input ++ more)) (Some more) (Some []) (Some []) (Some p.output) old new a b line
+            (behind more) q none);
       }
 
       pub served-fault : (more : List ℕ) → GaveAndFailed source s more t
@@ -234,10 +269,11 @@ module _ {X : Type 0} (Answers : X → List ℕ → List ℕ → X → Type 0) (
       served-fault more gave q = record {
         input = p.input ++ more;
         output = p.output;
-        reads = gave-and_failed source first s t p.input more p.gave gave;
+        told = false;
+        reads = (refl, gave-and_failed source first s t p.input more p.gave gave);
         writes = p.took;
-        served = stopped-fault Answers front most longest (Some (p.input ++ more)) (Some more) (Some []) (Some []) (Some p.output) old new a b
-            (behind more) q;
+        served = λ rest none. stopped-fault Answers front most longest (Some ((p.input ++ more) ++ rest)) (Some (more ++ rest)) (Some rest) (Some []) (Some p.output) old new a b
+            (past more rest) (q.0, IsOpen-later longest a b more rest q.0 q.1, q.2);
       }
 
       gave-more : (more : List ℕ) → Gave source s more t → Gave source first (p.input ++ more) t
@@ -250,12 +286,13 @@ module _ {X : Type 0} (Answers : X → List ℕ → List ℕ → X → Type 0) (
       served-long n is more gave q = record {
         input = p.input ++ more;
         output = p.output;
-        reads = gave-more more gave;
+        told = false;
+        reads = (refl, gave-more more gave);
         writes = p.took;
-        served = (
+        served = λ rest none. (
           is,
-          stopped-long Answers front most longest (Some (p.input ++ more)) (Some more) (Some []) (Some []) (Some p.output) old new a b
-              (behind more) q,
+          stopped-long Answers front most longest (Some ((p.input ++ more) ++ rest)) (Some (more ++ rest)) (Some rest) (Some []) (Some p.output) old new a b
+              (past more rest) (q.0, q.1, q.2, IsOpen-later longest a b more rest q.0 q.3, q.4, q.5, q.6, q.7),
         );
       }
 
@@ -266,12 +303,13 @@ module _ {X : Type 0} (Answers : X → List ℕ → List ℕ → X → Type 0) (
       served-much n is more gave q = record {
         input = p.input ++ more;
         output = p.output;
-        reads = gave-more more gave;
+        told = false;
+        reads = (refl, gave-more more gave);
         writes = p.took;
-        served = (
+        served = λ rest none. (
           is,
-          stopped-much Answers front most longest (Some (p.input ++ more)) (Some more) (Some []) (Some []) (Some p.output) old new a b
-              (behind more) q,
+          stopped-much Answers front most longest (Some ((p.input ++ more) ++ rest)) (Some (more ++ rest)) (Some rest) (Some []) (Some p.output) old new a b
+              (past more rest) (q.0, q.1, q.2, IsOpen-later longest a b more rest q.0 q.3, q.4, q.5),
         );
       }
 
@@ -281,8 +319,9 @@ module _ {X : Type 0} (Answers : X → List ℕ → List ℕ → X → Type 0) (
       served-open more gave q = record {
         input = p.input ++ more;
         output = p.output;
-        reads = inl (gave-more more gave);
+        told = false;
+        reads = gave-more more gave;
         writes = inr (refl, p.took);
-        served = cut-open Answers Lost front most longest (Some (p.input ++ more)) (Some more) (Some []) (Some []) (Some p.output) old new a b
-            (behind more) q;
+        served = λ rest none. cut-open Answers Lost front most longest (Some ((p.input ++ more) ++ rest)) (Some (more ++ rest)) (Some rest) (Some []) (Some p.output) old new a b
+            (past more rest) (q.0, IsOpen-later longest a b more rest q.0 q.1);
       }

@@ -1,6 +1,6 @@
 -- Which calls were made of the ends of a session, and what they gave and took. The ends need not tell their bytes.
 use Rattle.std.specs.Prelude.{ℕ, ◌≡◌, ◌<◌, ◌≤◌, ◌⊎◌, List, [], ◌++◌, length, take, IfOk, IsErrOf, OnOk, Ok, Err}
-use Rattle.std.specs.Prelude.{None, Result, Some}
+use Rattle.std.specs.Prelude.{Bool, None, Result, Some, false, true}
 use Rattle.std.specs.List.{FoldsTo, concat}
 use Rattle.std.specs.Io.{ReadsAtMost, WritesAtMost}
 use Rattle.std.specs.Io.KnownBytes.{ReadConsumes, WriteAppends}
@@ -88,15 +88,20 @@ module _ {S : Type 0} (source : SourceGhosts S) where
     pub calls : EndsLine old input new result
     pub next : IsNext longest a b (Some input) (Some []) result
 
-  -- How the calls of a session ended: where all was answered, the last told of the end; at a fault the last failed; at
-  -- a limit each gave some bytes. Where the writing or memory ended the session, the last may have told of the end.
-  abbrev pub EndsReading : S → List ℕ → S → SessionEnd → Type 0
-  EndsReading old bytes new end.Done = GaveAll old bytes new
-  EndsReading old bytes new end.ReadFault = GaveAndFailed old bytes new
-  EndsReading old bytes new (end.LineTooLong k) = Gave old bytes new
-  EndsReading old bytes new (end.TooMuchInput k) = Gave old bytes new
-  EndsReading old bytes new end.WriteFault = Gave old bytes new ⊎ GaveAll old bytes new
-  EndsReading old bytes new end.OutOfMemory = Gave old bytes new ⊎ GaveAll old bytes new
+  -- calls gave these bytes; and where the end was told, the last told of it
+  abbrev pub GaveUpTo : Bool → S → List ℕ → S → Type 0
+  GaveUpTo true old bytes new = GaveAll old bytes new
+  GaveUpTo false old bytes new = Gave old bytes new
+
+  -- How the calls of a session ended, and whether the end was told: where all was answered, it was; at a fault the last
+  -- call failed; at a limit each gave some bytes. Where the writing or memory ended the session, it may have been told.
+  abbrev pub EndsReading : Bool → S → List ℕ → S → SessionEnd → Type 0
+  EndsReading told old bytes new end.Done = (told ≡ true) × GaveAll old bytes new
+  EndsReading told old bytes new end.ReadFault = (told ≡ false) × GaveAndFailed old bytes new
+  EndsReading told old bytes new (end.LineTooLong k) = (told ≡ false) × Gave old bytes new
+  EndsReading told old bytes new (end.TooMuchInput k) = (told ≡ false) × Gave old bytes new
+  EndsReading told old bytes new end.WriteFault = GaveUpTo told old bytes new
+  EndsReading told old bytes new end.OutOfMemory = GaveUpTo told old bytes new
 
 -- ---- a sink
 
@@ -164,12 +169,15 @@ module _ {X : Type 0} (Answers : X → List ℕ → List ℕ → X → Type 0) (
       (part : List ℕ) × TookUpTo sink before part error after
       × PartReplied Answers (lost_at Lost error) (Some []) (Some part) old line new
 
-  -- Calls of `read` gave the input, calls of `write` took the output, and no other call was made of either end. The
-  -- session is that of these bytes: it is what it is with ends that tell this input and this output.
+  -- Calls of `read` gave the input, and calls of `write` took the output. The session is that of these bytes, whatever
+  -- may come behind the input; that is nothing, where the end was told.
   pub record IsServedBy {S K : Type 0} (front : List ℕ) (most longest : ℕ) (source : SourceGhosts S)
       (sink : SinkGhosts K) (read read_now : S) (wrote wrote_now : K) (old new : X) (how : SessionEnd) : Type 0 where
     pub input : List ℕ
     pub output : List ℕ
-    pub reads : EndsReading source read input read_now how
+    pub told : Bool
+    pub reads : EndsReading source told read input read_now how
     pub writes : EndsWriting sink wrote output wrote_now how
-    pub served : IsServed Answers Lost front most longest (Some input) (Some []) (Some []) (Some output) old new how
+    pub served : (more : List ℕ) → (told ≡ true → more ≡ [])
+        → IsServed Answers Lost front most longest (Some (input ++ more)) (Some more) (Some []) (Some output)
+        old new how
