@@ -158,7 +158,7 @@ module _ {X : Type 0} {F : X → Type 0} {S K : Type 0} (m : Meanings X F) (s : 
 module _ {K : Type 0} (sink : SinkGhosts K) (before after : K) (bytes : List ℕ) where
   pub written_whole : (result : ToolStatus) → DocumentEnds sink before after bytes result → result ≡ Done
       → Appends (sink.taken before) (sink.taken after) bytes
-  written_whole result ends is = subst (DocumentEnds sink before after bytes) is ends
+  written_whole result ends is = (subst (DocumentEnds sink before after bytes) is ends).0
 
 -- nothing is a part of any bytes
 pub keeps_all : (known : Option (List ℕ)) → Appends known known []
@@ -243,6 +243,12 @@ module _ {X : Type 0} {F : X → Type 0} (m : Meanings X F) (s : Service X F) wh
           };
     }
 
+-- an API serves what it was made of, at the version that is asked for
+pub service_as : {X : Type 0} {F : X → Type 0} (config : ToolConfig) {tags made_tags : Configuration}
+    {endpoints made : List (ApiEndpoint X F)} {read asked : Parts} → made_tags ≡ tags → made ≡ endpoints → read ≡ asked
+    → service config made_tags made read ≡ service config tags endpoints asked
+service_as config same_tags same_endpoints once = rw (same_tags, same_endpoints, once) refl
+
 -- What an API tells of its document and of its answers holds of the endpoints that it was made of.
 module _ {X : Type 0} {F : X → Type 0} (m : Meanings X F) (config : ToolConfig) {tags made_tags : Configuration}
     {endpoints made : List (ApiEndpoint X F)} (version : Parts) (same_tags : made_tags ≡ tags)
@@ -258,7 +264,7 @@ module _ {X : Type 0} {F : X → Type 0} (m : Meanings X F) (config : ToolConfig
   mine = service config made_tags made version
 
   same : mine ≡ service config tags endpoints version
-  same = rw (same_tags, same_endpoints) refl
+  same = service_as config same_tags same_endpoints refl
 
   pub documented_as : IsDocumented m (service config tags endpoints version)
   documented_as =

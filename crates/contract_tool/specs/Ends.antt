@@ -4,10 +4,12 @@ use Rattle.std.specs.Io.KnownBytes.{Appends}
 use Rattle.std.specs.declared.alloc.Global.{Global}
 use Rattle.std.specs.declared.string.String.{String}
 use Rattle.schema_values.specs.Causes.{HasRisen}
+use Rattle.line_session.specs.Calls.{IsServedBy, Took, TookPart}
 use Rattle.line_session.specs.Lines.{HasLongLine, IsTooMuch, PassesNoLimit}
 use Rattle.line_session.specs.Parts.{AppendsPart}
 use Rattle.line_session.specs.Status.{IsServed, MeetsLimits}
 use Rattle.line_session.specs.declared.ends.Sink.{Ghosts as SinkGhosts}
+use Rattle.line_session.specs.declared.ends.SinkError.TheVariants as sink_error
 use Rattle.line_session.specs.declared.ends.Source.{Ghosts as SourceGhosts}
 use Rattle.line_session.specs.declared.serving.SessionEnd.{SessionEnd}
 use Rattle.line_session.specs.declared.serving.SessionEnd.TheVariants as end
@@ -43,13 +45,17 @@ OnlyWrites before after = (after.source ≡ before.source) × (after.store ≡ b
 
 module _ {X : Type 0} {F : X → Type 0} {S K : Type 0} (m : Meanings X F) (s : Service X F)
     (source : SourceGhosts S) (sink : SinkGhosts K) (before after : Outside S K) where
-  -- The document and the replies to lines were written, and it ended so. Where the source tells its bytes, they meet
-  -- the limits as this end says.
+  -- The document and the replies to lines were written, and it ended so: by the bytes that source and sink tell, and
+  -- by those that the calls of them gave and took. Where the source tells its bytes, they meet the limits as this end
+  -- says.
   pub record IsServedSo (how : SessionEnd) : Type 0 where
     pub served : IsServed (LineAnswers m s) (LineIsLost m s) (preamble_of m s)
         s.config.most_input s.config.longest_line
         (source.left before.source) (source.left after.source)
         (sink.taken before.sink) (sink.taken after.sink) before.store after.store how
+    pub calls : IsServedBy (LineAnswers m s) (LineIsLost m s) (preamble_of m s)
+        s.config.most_input s.config.longest_line source sink
+        before.source after.source before.sink after.sink before.store after.store how
     pub limits : (all : List ℕ) → source.left before.source ≡ Some all
         → MeetsLimits s.config.most_input s.config.longest_line all how
 
@@ -68,13 +74,16 @@ module _ {X : Type 0} {F : X → Type 0} {S K : Type 0} (m : Meanings X F) (s : 
 
 -- ---- a document alone
 
--- What each status says of a document of these bytes: it was written whole, or a part of it from the front.
+-- What each status says of a document of these bytes: it was written whole, or a part of it from the front, by the
+-- bytes that the sink tells, and by those that the calls of it took.
 abbrev pub DocumentEnds : {K : Type 0} → SinkGhosts K → K → K → List ℕ → ToolStatus → Type 0
-DocumentEnds sink before after bytes status.Done = Appends (sink.taken before) (sink.taken after) bytes
+DocumentEnds sink before after bytes status.Done =
+    Appends (sink.taken before) (sink.taken after) bytes × Took sink before bytes after
 DocumentEnds sink before after bytes status.WriteFault =
     HasRisen (sink.faults before) (sink.faults after) × AppendsPart (sink.taken before) (sink.taken after) bytes
+    × TookPart sink before bytes sink_error.Failed after
 DocumentEnds sink before after bytes status.OutOfMemory =
-    AppendsPart (sink.taken before) (sink.taken after) bytes
+    AppendsPart (sink.taken before) (sink.taken after) bytes × TookPart sink before bytes sink_error.OutOfMemory after
 DocumentEnds sink before after bytes _ = ⊥
 
 -- ---- a run

@@ -3,6 +3,7 @@ ghost use Rattle.std.specs.Prelude.{◌≡◌, IfOk};
 ghost use Rattle.contract_tool.specs.Codes.{code_of};
 
 use api_descriptions::ApiDescriptionRegisterError;
+use line_session::SessionEnd;
 use request_parts::ServerConfig;
 use schema_values::Text;
 use std::alloc::{AllocError, Global};
@@ -61,6 +62,24 @@ pub enum ToolStatus {
     OutOfMemory,
     /// The input has this many bytes at least, one more than may be.
     TooMuchInput(u64),
+}
+
+impl From<SessionEnd> for ToolStatus {
+    ghost use Rattle.std.specs.Prelude.{◌≡◌};
+    ghost use Rattle.contract_tool.specs.Sessions.{status_of};
+
+    ghost from_gives = { λ end status. status ≡ status_of end };
+
+    fn from(end: SessionEnd) -> ToolStatus {
+        match end {
+            SessionEnd::Done => ToolStatus::Done,
+            SessionEnd::ReadFault => ToolStatus::ReadFault,
+            SessionEnd::WriteFault => ToolStatus::WriteFault,
+            SessionEnd::LineTooLong(bytes) => ToolStatus::LineTooLong(bytes),
+            SessionEnd::TooMuchInput(bytes) => ToolStatus::TooMuchInput(bytes),
+            SessionEnd::OutOfMemory => ToolStatus::OutOfMemory,
+        }
+    }
 }
 
 impl ToolStatus {

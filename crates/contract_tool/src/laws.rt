@@ -3,8 +3,8 @@ ghost use Rattle.std.specs.Prelude.{ℕ};
 ghost use Rattle.http_bodies.specs.Bodies.{BodyState};
 ghost use Rattle.contract_tool.specs.ResponseBodies.{FailsWithin, HasMoreFrames, IsReadWhole};
 
-/// No two of these are true of one body under one budget: it is read whole; a call fails; it has more frames than the
-/// budget. So each is told exactly where it has its cause.
+/// No two of these are true of one body under one budget: it is read whole; a call fails; it has more frames than
+/// the budget. So each is told exactly where it has its cause.
 pub fn one_reading_alone()
     ensures whole { (budget : ℕ) (body : BodyState) → IsReadWhole budget body
         → ¬ FailsWithin budget body × ¬ HasMoreFrames budget body }

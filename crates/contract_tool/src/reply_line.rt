@@ -8,8 +8,8 @@ use api_descriptions::{Exchange, ExchangeError};
 use schema_values::List;
 use std::alloc::{AllocError, Global};
 
-/// The line that tells the outcome of a request; want of memory is told by none. The body of a response is read whole,
-/// in at most `budget` frames.
+/// The line that tells the outcome of a request; want of memory is told by none. The body of a response is read
+/// whole, in at most `budget` frames.
 pub(crate) fn reply_line(
     alloc: Global,
     outcome: Result<Exchange, ExchangeError>,

@@ -8,13 +8,13 @@ ghost use Rattle.api_descriptions.specs.Ready.{IsReady};
 ghost use Rattle.contract_tool.specs.declared.config.ToolStatus.{ToolStatus as StatusValue};
 ghost use Rattle.contract_tool.specs.Ends.{CallsFor, DocumentEnds, EndsBy, SessionEnds, outside};
 ghost use Rattle.contract_tool.specs.LineAnswers.{LineAnswers, service};
-ghost use Rattle.contract_tool.specs.Sessions.{preamble_of, status_of};
+ghost use Rattle.contract_tool.specs.Sessions.{preamble_of};
 
 use crate::answering::LineAnswerer;
 use crate::config::{ToolConfig, ToolStatus};
-use api_descriptions::{ApiDescription, WriteError};
+use api_descriptions::ApiDescription;
 use api_respond::RouteHandler;
-use line_session::{SessionEnd, Sink, Source, serve};
+use line_session::{Sink, SinkError, Source, serve, write_all};
 use request_lines::RequestForm;
 use schema_values::List;
 use semver::Version;
@@ -56,7 +56,7 @@ pub(crate) fn run_session<S: Source, K: Sink>(
     ensures read_risen { S.faults source.old < S.faults source.new → result ≡ ToolStatus.ReadFault }
     ensures write_risen { K.faults sink.old < K.faults sink.new → result ≡ ToolStatus.WriteFault }
 {
-    let Ok(front) = preamble(alloc, api, config, version) else {
+    let Ok(preamble) = preamble_text(alloc, api, config, version) else {
         return ToolStatus::OutOfMemory;
     };
     let Ok(form) = RequestForm::new(alloc) else {
@@ -70,12 +70,20 @@ pub(crate) fn run_session<S: Source, K: Sink>(
         handlers: PhantomData,
     };
     let (most, longest) = (config.most_input, config.longest_line);
-    let front = front.as_slice();
-    status_of(serve(alloc, &answerer, store, front, most, longest, source, sink))
+    ToolStatus::from(serve(
+        alloc,
+        &answerer,
+        store,
+        preamble.as_slice(),
+        most,
+        longest,
+        source,
+        sink,
+    ))
 }
 
 // The pretty text of the document, and a newline.
-fn preamble(
+fn preamble_text(
     alloc: Global,
     api: &ApiDescription,
     config: &ToolConfig,
@@ -97,42 +105,29 @@ fn copy_version(version: &Version) -> Result<Version, AllocError>
     version.clone()
 }
 
-fn status_of(end: SessionEnd) -> ToolStatus
-    ensures { result ≡ status_of end }
-{
-    match end {
-        SessionEnd::Done => ToolStatus::Done,
-        SessionEnd::ReadFault => ToolStatus::ReadFault,
-        SessionEnd::WriteFault => ToolStatus::WriteFault,
-        SessionEnd::LineTooLong(bytes) => ToolStatus::LineTooLong(bytes),
-        SessionEnd::TooMuchInput(bytes) => ToolStatus::TooMuchInput(bytes),
-        SessionEnd::OutOfMemory => ToolStatus::OutOfMemory,
-    }
-}
-
 /// Writes the document of a version alone.
 pub(crate) fn write_document<K: Sink>(
     alloc: Global,
     api: &ApiDescription,
-    version: Version,
+    version: &Version,
     config: &ToolConfig,
     sink: &mut K,
 ) -> ToolStatus
     requires { IsReady (boxed ⟦<dyn RouteHandler as RouteHandler>⟧) api.now }
     ensures ends { DocumentEnds K.Sink sink.old sink.new
         (preamble_of (boxed ⟦<dyn RouteHandler as RouteHandler>⟧)
-        (service config.now api.now.tags api.now.endpoints.items (parts_of version))) result }
+        (service config.now api.now.tags api.now.endpoints.items (parts_of version.now))) result }
     ensures complete { ¬ HasRisen (K.faults sink.old) (K.faults sink.new)
         → EndsBy ToolStatus.Done result }
     ensures later { K.faults sink.old ≤ K.faults sink.new }
     ensures risen { K.faults sink.old < K.faults sink.new → result ≡ ToolStatus.WriteFault }
 {
-    let Ok(definition) = api.openapi(alloc, config.title.as_str(), version) else {
+    let Ok(preamble) = preamble_text(alloc, api, config, version) else {
         return ToolStatus::OutOfMemory;
     };
-    match definition.write(alloc, sink) {
+    match write_all(sink, preamble.as_slice()) {
         Ok(()) => ToolStatus::Done,
-        Err(WriteError::WriteFault) => ToolStatus::WriteFault,
-        Err(WriteError::OutOfMemory) => ToolStatus::OutOfMemory,
+        Err(SinkError::Failed) => ToolStatus::WriteFault,
+        Err(SinkError::OutOfMemory) => ToolStatus::OutOfMemory,
     }
 }

@@ -4,7 +4,8 @@ ghost use Rattle.schema_values.specs.Causes.{HasRisen};
 ghost use Rattle.semver.specs.Parse.{Parts};
 ghost use Rattle.api_endpoints.specs.Endpoints.{boxed};
 ghost use Rattle.contract_tool.specs.declared.config.ToolStatus.{ToolStatus as StatusValue};
-ghost use Rattle.contract_tool.specs.Ends.{CallsFor, EndsBy, EndsByRefusal, IsEnded, OnlyWrites, given, outside};
+ghost use Rattle.contract_tool.specs.Ends.{CallsFor, EndsBy, EndsByRefusal, IsEnded, OnlyWrites};
+ghost use Rattle.contract_tool.specs.Ends.{given, outside};
 ghost use Rattle.contract_tool.specs.LineAnswers.{service};
 ghost use Rattle.contract_tool.specs.Sessions.{AreAcceptedUnder, IsDocumentWritten, IsSession};
 ghost use Rattle.contract_tool.specs.Words.{AskForDocument, AskForSession, IsCommand};
@@ -18,9 +19,9 @@ use line_session::{Sink, Source};
 use std::alloc::Global;
 use tree_store::Store;
 
-/// Runs a command: reads the words of a command line, registers the endpoints in order, and then does what the words
-/// ask for. `session V` writes the document of version V and a newline, and then a reply line for each input line;
-/// `document V` writes the document and a newline, and reads nothing.
+/// Runs a command: reads the words of a command line, registers the endpoints in order, and then does what the
+/// words ask for. `session V` writes the document of version V and a newline, and then a reply line for each input
+/// line; `document V` writes the document and a newline, and reads nothing.
 pub fn run<S: Source, K: Sink>(
     alloc: Global,
     words: &[String],
@@ -47,7 +48,8 @@ pub fn run<S: Source, K: Sink>(
         → (earlier : ListOf ℕ) → K.taken sink.old ≡ Some earlier
         → IsDocumentWritten (boxed ⟦<dyn RouteHandler as RouteHandler>⟧)
         (service config.now tags endpoints.items version) earlier (K.taken sink.new) }
-    // What each status says.
+    // What each status says, by the bytes that the source and the sink tell, and by the calls that were made of
+    // them.
     ensures ended { IsEnded (boxed ⟦<dyn RouteHandler as RouteHandler>⟧)
         (given words.now config.now tags endpoints.items) S.Source K.Sink
         (outside source.old sink.old store.old) (outside source.new sink.new store.new) result }
@@ -94,6 +96,6 @@ pub fn run<S: Source, K: Sink>(
         Command::Session(version) => {
             run_session(alloc, &api, &version, store, config, source, sink)
         }
-        Command::Document(version) => write_document(alloc, &api, version, config, sink),
+        Command::Document(version) => write_document(alloc, &api, &version, config, sink),
     }
 }

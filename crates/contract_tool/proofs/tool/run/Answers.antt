@@ -6,7 +6,7 @@ use Rattle.contract_tool.specs.LineAnswers.{LineAnswers, service}
 use Rattle.contract_tool.specs.Sessions.{IsDocumented, IsOpened, preamble_of}
 use Rattle.contract_tool.specs.Words.{IsCommandOf}
 use Rattle.contract_tool.proofs.RunLemmas.{appended, asked_once, command_is, documented_as, no_usage}
-use Rattle.contract_tool.proofs.RunLemmas.{not_both, opened_as, written_whole}
+use Rattle.contract_tool.proofs.RunLemmas.{not_both, opened_as, service_as, written_whole}
 use Rattle.contract_tool.proofs.tool.run.Goals as goal
 
 -- ---- no command
@@ -43,24 +43,21 @@ pub returns-in-Session-clause-session : goal.returns-in-Session-clause-session
 returns-in-Session-clause-session g c is version asked all earlier left taken =
     let words = c.args.words.now in
     let config = c.args.config.now in
-    let at = parts_of c.in-Session.version in
-    let here = subst (IsCommandOf words) c.in-Session.is c.in-Ok.ensures.command in
     let made = c.in-Ok-of_endpoints.ensures in
     let laws = c.agrees.ensures in
+    let at = parts_of c.in-Session.version in
+    let here = subst (IsCommandOf words) c.in-Session.is c.in-Ok.ensures.command in
     let once = (asked_once (codes "session") (codes "session") words at version here asked).0 in
-    let same : service config c.in-Ok-of_endpoints.api.tags c.in-Ok-of_endpoints.api.endpoints.items at
-    ≡ service config c.args.tags c.args.endpoints.items version = rw (made.tags, made.endpoints, once) refl in
     record {
-      opened = subst (λ v. IsOpened (λ e. goal.RouteHandler-dyn g (e.handler.vtable, e.handler.value))
-          (service config c.args.tags c.args.endpoints.items v)) once
-          (opened_as (λ e. goal.RouteHandler-dyn g (e.handler.vtable, e.handler.value)) config at
+      opened = opened_as (λ e. goal.RouteHandler-dyn g (e.handler.vtable, e.handler.value)) config version
           made.tags made.endpoints made.accepted laws.sound laws.lists laws.written laws.agreed
-          laws.followed laws.denoted laws.told);
+          laws.followed laws.denoted laws.told;
       answered = subst (λ s. IsAnswered
           (LineAnswers (λ e. goal.RouteHandler-dyn g (e.handler.vtable, e.handler.value)) s)
           (preamble_of (λ e. goal.RouteHandler-dyn g (e.handler.vtable, e.handler.value)) s) all earlier
           (g.S.Source.left c.run_session.new.source) (g.K.Sink.taken c.run_session.new.sink)
-          c.args.store.now c.run_session.new.store) same (c.run_session.ensures.session is all earlier left taken);
+          c.args.store.now c.run_session.new.store) (service_as config made.tags made.endpoints once)
+          (c.run_session.ensures.session is all earlier left taken);
     }
 
 pub returns-in-Session-clause-document : goal.returns-in-Session-clause-document
@@ -74,8 +71,6 @@ returns-in-Session-clause-ended g c =
     let at = parts_of c.in-Session.version in
     let made = c.in-Ok-of_endpoints.ensures in
     let laws = c.agrees.ensures in
-    let same : service config c.in-Ok-of_endpoints.api.tags c.in-Ok-of_endpoints.api.endpoints.items at
-    ≡ service config c.args.tags c.args.endpoints.items at = rw (made.tags, made.endpoints) refl in
     inr (inl (record {
       version = at;
       asked = subst (IsCommandOf c.args.words.now) c.in-Session.is c.in-Ok.ensures.command;
@@ -84,8 +79,8 @@ returns-in-Session-clause-ended g c =
           made.accepted laws.sound laws.lists laws.written laws.agreed laws.followed laws.denoted laws.told;
       ends = subst (λ s. SessionEnds (λ e. goal.RouteHandler-dyn g (e.handler.vtable, e.handler.value)) s
           g.S.Source g.K.Sink (outside c.args.source.now c.args.sink.now c.args.store.now)
-          (outside c.run_session.new.source c.run_session.new.sink c.run_session.new.store) c.run_session.result) same
-          c.run_session.ensures.ends;
+          (outside c.run_session.new.source c.run_session.new.sink c.run_session.new.store) c.run_session.result)
+          (service_as config made.tags made.endpoints refl) c.run_session.ensures.ends;
     }))
 
 pub returns-in-Session-clause-usage : goal.returns-in-Session-clause-usage
@@ -116,25 +111,21 @@ pub returns-clause-document : goal.returns-clause-document
 returns-clause-document g c is version asked earlier taken =
     let words = c.args.words.now in
     let config = c.args.config.now in
-    let at = parts_of c.in-Document.version in
-    let here = subst (IsCommandOf words) c.in-Document.is c.in-Ok.ensures.command in
     let made = c.in-Ok-of_endpoints.ensures in
     let laws = c.agrees.ensures in
+    let at = parts_of c.in-Document.version in
+    let here = subst (IsCommandOf words) c.in-Document.is c.in-Ok.ensures.command in
     let once = (asked_once (codes "document") (codes "document") words at version here asked).0 in
-    let same : service config c.in-Ok-of_endpoints.api.tags c.in-Ok-of_endpoints.api.endpoints.items at
-    ≡ service config c.args.tags c.args.endpoints.items version = rw (made.tags, made.endpoints, once) refl in
     record {
-      documented = subst (λ v. IsDocumented (λ e. goal.RouteHandler-dyn g (e.handler.vtable, e.handler.value))
-          (service config c.args.tags c.args.endpoints.items v)) once
-          (documented_as (λ e. goal.RouteHandler-dyn g (e.handler.vtable, e.handler.value)) config at
-          made.tags made.endpoints made.accepted laws.sound laws.lists laws.written laws.agreed);
+      documented = documented_as (λ e. goal.RouteHandler-dyn g (e.handler.vtable, e.handler.value)) config version
+          made.tags made.endpoints made.accepted laws.sound laws.lists laws.written laws.agreed;
       document = appended (g.K.Sink.taken c.write_document.new.sink) earlier
           (preamble_of (λ e. goal.RouteHandler-dyn g (e.handler.vtable, e.handler.value))
           (service config c.args.tags c.args.endpoints.items version)) (g.K.Sink.taken c.args.sink.now) taken
           (written_whole g.K.Sink c.args.sink.now c.write_document.new.sink _ c.write_document.result
           (subst (λ s. DocumentEnds g.K.Sink c.args.sink.now c.write_document.new.sink
           (preamble_of (λ e. goal.RouteHandler-dyn g (e.handler.vtable, e.handler.value)) s) c.write_document.result)
-          same c.write_document.ensures.ends) is);
+          (service_as config made.tags made.endpoints once) c.write_document.ensures.ends) is);
     }
 
 pub returns-clause-ended : goal.returns-clause-ended
@@ -143,8 +134,6 @@ returns-clause-ended g c =
     let at = parts_of c.in-Document.version in
     let made = c.in-Ok-of_endpoints.ensures in
     let laws = c.agrees.ensures in
-    let same : service config c.in-Ok-of_endpoints.api.tags c.in-Ok-of_endpoints.api.endpoints.items at
-    ≡ service config c.args.tags c.args.endpoints.items at = rw (made.tags, made.endpoints) refl in
     inr (inr (record {
       version = at;
       asked = subst (IsCommandOf c.args.words.now) c.in-Document.is c.in-Ok.ensures.command;
@@ -152,6 +141,6 @@ returns-clause-ended g c =
           made.endpoints made.accepted laws.sound laws.lists laws.written laws.agreed;
       ends = subst (λ s. DocumentEnds g.K.Sink c.args.sink.now c.write_document.new.sink
           (preamble_of (λ e. goal.RouteHandler-dyn g (e.handler.vtable, e.handler.value)) s) c.write_document.result)
-          same c.write_document.ensures.ends;
+          (service_as config made.tags made.endpoints refl) c.write_document.ensures.ends;
       unread = (refl, refl);
     }))

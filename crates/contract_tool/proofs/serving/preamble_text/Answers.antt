@@ -3,7 +3,7 @@ use Rattle.std.specs.Str.{encode_utf8_all}
 use Rattle.semver.specs.Parse.{Parts}
 use Rattle.contract_tool.specs.LineAnswers.{service}
 use Rattle.contract_tool.specs.Sessions.{preamble_of}
-use Rattle.contract_tool.proofs.serving.preamble.Goals as goal
+use Rattle.contract_tool.proofs.serving.preamble_text.Goals as goal
 
 pub text-requires : goal.text-requires
 text-requires g c = record { ready = rw c.in_ok-definition.ensures.api c.requires }
