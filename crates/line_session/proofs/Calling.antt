@@ -1,5 +1,6 @@
 -- What the calls of a source and a sink gave and took, from call to call.
-use Rattle.std.proofs.Common.{◌≡◌, ◌≢◌, ℕ, ◌+◌, ◌-◌, ◌<◌, List, [], ◌∷◌, ◌++◌, length, take, drop, refl, sym, ap, ◌∙◌, subst, arith, append-nil, length-append, Some, None, Ok, Err, Result}
+use Rattle.std.proofs.Common.{◌≡◌, ◌≢◌, ℕ, ◌+◌, ◌-◌, ◌<◌, List, [], ◌∷◌, ◌++◌, length, take, drop, refl, sym, ap, ◌∙◌}
+use Rattle.std.proofs.Common.{subst, arith, append-nil, length-append, Some, None, Ok, Err, Result}
 use Rattle.std.proofs.Math.Seq.{take-add}
 use Rattle.std.proofs.lemmas.List.Folds.{concat-append}
 use Rattle.std.specs.List.{FoldsTo, concat}
@@ -14,7 +15,8 @@ use Rattle.line_session.proofs.Handling.{Handles-one, Handles-trans, IsLine-more
 use Rattle.line_session.proofs.Pieces.{rest-whole}
 
 module _ {X : Type 0} (Call : X → List ℕ → X → Type 0) where
-  pieces-then : (a b c : X) (xs ys : List (List ℕ)) → FoldsTo Call a xs b → FoldsTo Call b ys c → FoldsTo Call a (xs ++ ys) c
+  pieces-then : (a b c : X) (xs ys : List (List ℕ)) → FoldsTo Call a xs b → FoldsTo Call b ys c
+      → FoldsTo Call a (xs ++ ys) c
   pieces-then a b c [] ys p q = subst (λ (x : X). FoldsTo Call x ys c) (sym p) q
   pieces-then a b c (x ∷ xs) ys p q = (p.0, p.1, pieces-then p.0 b c xs ys p.2 q)
 
@@ -24,11 +26,13 @@ module _ {X : Type 0} (Call : X → List ℕ → X → Type 0) where
   pub ByCalls-one : (a b : X) (piece : List ℕ) → Call a piece b → ByCalls Call a piece b
   ByCalls-one a b piece p = record { pieces = piece ∷ []; calls = (b, p, refl); whole = append-nil piece }
 
-  pub ByCalls-then : (a b c : X) (xs ys : List ℕ) → ByCalls Call a xs b → ByCalls Call b ys c → ByCalls Call a (xs ++ ys) c
+  pub ByCalls-then : (a b c : X) (xs ys : List ℕ) → ByCalls Call a xs b → ByCalls Call b ys c
+      → ByCalls Call a (xs ++ ys) c
   ByCalls-then a b c xs ys p q = record {
     pieces = p.pieces ++ q.pieces;
     calls = pieces-then a b c p.pieces q.pieces p.calls q.calls;
-    whole = concat-append p.pieces q.pieces ∙ ap (λ (l : List ℕ). l ++ concat q.pieces) p.whole ∙ ap (λ (l : List ℕ). xs ++ l) q.whole;
+    whole = concat-append p.pieces q.pieces ∙ ap
+        (λ (l : List ℕ). l ++ concat q.pieces) p.whole ∙ ap (λ (l : List ℕ). xs ++ l) q.whole;
   }
 
   -- a call took n bytes behind the first `at`
@@ -47,7 +51,8 @@ written-part sink bytes old new result error is part = subst (IsWrittenBy sink b
 
 -- ---- bytes that come later
 
-pub Handles-later : (a b : Reading) (xs ys bytes : List ℕ) → Handles a b (Some xs) (Some []) bytes → Handles a b (Some (xs ++ ys)) (Some ys) bytes
+pub Handles-later : (a b : Reading) (xs ys bytes : List ℕ) → Handles a b (Some xs) (Some []) bytes
+    → Handles a b (Some (xs ++ ys)) (Some ys) bytes
 Handles-later a b xs ys bytes p = record {
   input = p.input;
   consumed = ap (λ (l : List ℕ). l ++ ys) (p.consumed ∙ append-nil p.input);
@@ -55,13 +60,15 @@ Handles-later a b xs ys bytes p = record {
   budget = p.budget;
 }
 
-pub IsOpen-later : (longest : ℕ) (a b : Reading) (xs ys line : List ℕ) → IsOpen longest a b (Some xs) (Some []) line → IsOpen longest a b (Some (xs ++ ys)) (Some ys) line
+pub IsOpen-later : (longest : ℕ) (a b : Reading) (xs ys line : List ℕ) → IsOpen longest a b (Some xs) (Some []) line
+    → IsOpen longest a b (Some (xs ++ ys)) (Some ys) line
 IsOpen-later longest a b xs ys line p = record { fits = p.fits; handled = Handles-later a b xs ys line p.handled }
 
 -- ---- a line
 
 -- calls gave some bytes, of which an open line was handled
-pub record IsOpenBy {S : Type 0} (source : SourceGhosts S) (longest : ℕ) (a b : Reading) (old new : S) (line : List ℕ) : Type 0 where
+pub record IsOpenBy {S : Type 0} (source : SourceGhosts S) (longest : ℕ) (a b : Reading) (old new : S)
+    (line : List ℕ) : Type 0 where
   pub input : List ℕ
   pub calls : Gave source old input new
   pub opened : IsOpen longest a b (Some input) (Some []) line
@@ -72,11 +79,14 @@ pub IsOpenBy-none : {S : Type 0} (source : SourceGhosts S) (longest : ℕ) (a : 
 IsOpenBy-none source longest a s line p = record { input = []; calls = ByCalls-none (GivesPiece source) s; opened = p }
 
 module _ {S : Type 0} (source : SourceGhosts S) (longest : ℕ) (a b c : Reading) (s t u : S) (line : List ℕ) where
-  opens : (p : IsOpenBy source longest a b s t line) (more : List ℕ) → Handles b c (Some more) (Some []) [] → IsOpen longest a c (Some (p.input ++ more)) (Some []) line
-  opens p more h = IsOpen-peeked longest a b c (Some (p.input ++ more)) (Some more) (Some []) line (IsOpen-later longest a b p.input more line p.opened) h
+  opens : (p : IsOpenBy source longest a b s t line) (more : List ℕ) → Handles b c (Some more) (Some []) []
+      → IsOpen longest a c (Some (p.input ++ more)) (Some []) line
+  opens p more h = IsOpen-peeked longest a b c (Some (p.input ++ more)) (Some more) (Some []) line
+      (IsOpen-later longest a b p.input more line p.opened) h
 
   -- a look at the next byte, which is there
-  pub opens-some : (byte : ℕ) → IsOpenBy source longest a b s t line → PeeksBy source b c t u (Ok (Some byte)) → IsOpenBy source longest a c s u line
+  pub opens-some : (byte : ℕ) → IsOpenBy source longest a b s t line → PeeksBy source b c t u (Ok (Some byte))
+      → IsOpenBy source longest a c s u line
   opens-some byte p q = record {
     input = p.input ++ q.input;
     calls = ByCalls-then (GivesPiece source) s t u p.input q.input p.calls q.calls;
@@ -97,19 +107,33 @@ module _ {S : Type 0} (source : SourceGhosts S) (longest : ℕ) (a b c : Reading
       → (input : List ℕ) × GaveAndFailed source s input u × IsOpen longest a c (Some input) (Some []) line
   opens-failed failed p q = (
     p.input ++ q.input,
-    (q.calls.0, q.calls.1, q.calls.2, ByCalls-then (GivesPiece source) s t q.calls.0 p.input q.input p.calls q.calls.3, q.calls.4),
+    (
+      q.calls.0,
+      q.calls.1,
+      q.calls.2,
+      ByCalls-then (GivesPiece source) s t q.calls.0 p.input q.input p.calls
+          q.calls.3,
+      q.calls.4,
+    ),
     opens p q.input q.handles,
   )
 
 -- a byte was handled that ends no line and makes none too long
-pub IsOpenBy-more : {S : Type 0} (source : SourceGhosts S) (longest : ℕ) (a b c : Reading) (s t : S) (line : List ℕ) (byte : ℕ)
-    → IsOpenBy source longest a b s t line → b.pending ≡ byte ∷ drop 1 b.pending → c.pending ≡ drop 1 b.pending → c.budget + 1 ≡ b.budget
+pub IsOpenBy-more : {S : Type 0} (source : SourceGhosts S) (longest : ℕ) (a b c : Reading) (s t : S) (line : List ℕ)
+    (byte : ℕ)
+    → IsOpenBy source longest a b s t line → b.pending ≡ byte ∷ drop 1 b.pending → c.pending ≡ drop 1 b.pending
+    → c.budget + 1 ≡ b.budget
     → byte ≢ 10 → length line < longest → IsOpenBy source longest a c s t (line ++ byte ∷ [])
 IsOpenBy-more source longest a b c s t line byte p first rest budget n short = record {
   input = p.input;
   calls = p.calls;
   opened = record {
-    fits = record { line_only = IsLine-more line byte p.opened.fits.line_only n; short = omega (arith, length-append line (byte ∷ [])) };
-    handled = Handles-trans a b c (Some p.input) (Some []) (Some []) line (byte ∷ []) p.opened.handled (Handles-one b c (Some []) byte first rest budget);
+    fits = record {
+      line_only = IsLine-more line byte p.opened.fits.line_only n;
+      short = omega
+          (arith, length-append line (byte ∷ []));
+    };
+    handled = Handles-trans a b c (Some p.input) (Some []) (Some []) line (byte ∷ []) p.opened.handled
+        (Handles-one b c (Some []) byte first rest budget);
   };
 }

@@ -8,4 +8,3 @@ pub mod ServedBy
 pub mod LineLemmas
 pub mod Limits
 pub mod Whole
-pub mod CallerLemmas

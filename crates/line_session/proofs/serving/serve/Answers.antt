@@ -12,7 +12,8 @@ returns-in_default-clause-calls g c = served-none _ _ _ _ _ _ _ _ _ _
 
 pub returns-clause-session : goal.returns-clause-session
 returns-clause-session g c is all before left taken =
-    answered _ _ _ _ _ _ _ _ _ _ all before (served-at _ _ _ _ _ _ _ _ _ _ _ _ _ c.serve_lines.ensures.served is) left taken
+    answered _ _ _ _ _ _ _ _ _ _ all before (served-at _ _ _ _ _ _ _ _ _ _ _ _ _ c.serve_lines.ensures.served is)
+    left taken
 
 pub returns-clause-limits : goal.returns-clause-limits
 returns-clause-limits g c all e = limits _ _ _ _ _ _ _ _ _ _ _ _ all c.serve_lines.ensures.served e

@@ -9,7 +9,8 @@ pub returns-clause-calls : goal.returns-clause-calls
 returns-clause-calls g c =
     let bytes = take c.in_ok-count.count c.read.new.buf in
     let short = c.in_ok-count.ensures.bound.0 in
-    let room : length c.read.new.buf ≡ 4096 = omega (arith, c.self.invariant.2, c.deref_mut.ensures.len, c.read.auto.buf) in
+    let room : length c.read.new.buf ≡ 4096 = omega
+    (arith, c.self.invariant.2, c.deref_mut.ensures.len, c.read.auto.buf) in
     record {
       input = bytes;
       calls = ByCalls-one (GivesPiece g.S.Source) _ _ _ (record {
