@@ -1,9 +1,9 @@
-use Rattle.std.proofs.Common.{◌≡◌, ◌∙◌, Err, ap, codes, inl, inr, refl, subst, sym}
+use Rattle.std.proofs.Common.{◌∙◌, Err, ap, codes, inl, inr, refl, subst, sym}
 use Rattle.line_session.specs.Session.{IsAnswered}
 use Rattle.semver.specs.Identifiers.{parts_of}
 use Rattle.contract_tool.specs.Ends.{DocumentEnds, SessionEnds, outside}
 use Rattle.contract_tool.specs.LineAnswers.{LineAnswers, service}
-use Rattle.contract_tool.specs.Sessions.{IsDocumented, IsOpened, preamble_of}
+use Rattle.contract_tool.specs.Sessions.{preamble_of}
 use Rattle.contract_tool.specs.Words.{IsCommandOf}
 use Rattle.contract_tool.proofs.RunLemmas.{appended, asked_once, command_is, documented_as, no_usage}
 use Rattle.contract_tool.proofs.RunLemmas.{not_both, opened_as, service_as, written_whole}
