@@ -3,7 +3,6 @@ use Rattle.std.proofs.Common.{◌≡◌, ◌<◌, List, [], ◌∷◌, ◌++◌,
 use Rattle.std.proofs.lemmas.List.{map-append, take-append-drop}
 use Rattle.std.proofs.Math.Seq.{drop-cons}
 use Rattle.tag_config.specs.Configurations.{Configuration}
-use Rattle.api_declarations.specs.Values.{DeclarationValue}
 use Rattle.api_registration.specs.Registering.{MayRegister, RefusedBy}
 use Rattle.api_registration.specs.declared.error.ApiDescriptionRegisterError.{ApiDescriptionRegisterError}
 use Rattle.api_endpoints.specs.Endpoints.{Meanings, declaration_of, declarations_of}

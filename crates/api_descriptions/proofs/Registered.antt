@@ -8,7 +8,7 @@ use Rattle.handler_shapes.specs.ShapeLengths.{ShapeHasShortLengths}
 use Rattle.tag_config.specs.Configurations.{Configuration}
 use Rattle.api_declarations.specs.Values.{DeclarationValue}
 use Rattle.api_registration.specs.EndpointIndexes.{IsIndexed}
-use Rattle.api_registration.specs.Registering.{MayRegister, RefusedBy}
+use Rattle.api_registration.specs.Registering.{MayRegister}
 use Rattle.api_registration.specs.declared.cause.RegisterCause.TheVariants as cause
 use Rattle.api_registration.specs.declared.error.ApiDescriptionRegisterError.{ApiDescriptionRegisterError}
 use Rattle.api_endpoints.specs.Endpoints.{Meanings, declaration_of, declarations_of}
@@ -89,14 +89,6 @@ module _ {X : Type 0} {F : X → Type 0} (m : Meanings X F) where
 
   module _ (old new : ApiDescription X F) (ready : IsReady m old)
       (indexed : IsIndexed (declarations_of m new.endpoints.items) new.index) where
-    -- the same endpoints
-    pub ready_kept : new.endpoints.items ≡ old.endpoints.items → IsReady m new
-    ready_kept same = record {
-      registered = subst (λ (es : List (ApiEndpoint X F)). AreRegistered (declarations_of m es)) (sym same)
-          ready.registered;
-      indexed = indexed;
-    }
-
     -- one more that may be registered behind them
     pub ready_push : (tags : Configuration) (e : ApiEndpoint X F) → new.endpoints.items ≡ old.endpoints.items ++ e ∷ []
         → MayRegister tags (declarations_of m old.endpoints.items) (declaration_of m e)
