@@ -1,4 +1,5 @@
--- What the shapes of the operations owe.
+-- What the shapes of the operations owe. `shape_of` is a table by operation, which unfolds only of a known one: hence
+-- the cases, though what is shown is the same of each.
 use Rattle.std.proofs.Common.{refl}
 use Rattle.api_respond.specs.Replies.{HasHttpErrors, IsFreeformWithoutCode}
 use Rattle.sample_types.specs.declared.operation.Operation.{Operation}

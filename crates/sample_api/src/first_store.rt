@@ -2,12 +2,14 @@
 ghost use Rattle.std.specs.Prelude.{◌≡◌, codes, true, IfOk, IsTrue, OnOk};
 ghost use Rattle.schema_values.specs.Ascii.{all_ascii};
 ghost use Rattle.tree_store.specs.Tables.{changed, pairs_with};
+ghost use Rattle.sample_types.specs.Labels.{is_label};
 ghost use Rattle.sample_api.specs.FirstStore.{first_tables, numbered};
 
-use schema_values::{List, Text};
+use api_types::ApiType;
+use sample_types::{Point, PointLabel};
+use schema_values::Text;
 use std::alloc::{AllocError, Global};
 use tree_store::Store;
-use typed_values::Tree;
 
 /// The points `p1` to `p4`, each with its number, and on. Fails only for want of memory.
 pub fn points_store(alloc: Global) -> Result<Store, AllocError>
@@ -23,14 +25,17 @@ pub fn points_store(alloc: Global) -> Result<Store, AllocError>
 
 // Stores a point that is on under its label.
 fn put(alloc: Global, store: &mut Store, label: &str, n: u8) -> Result<(), AllocError>
-    requires { IsTrue (all_ascii label.now) }
+    requires ascii { IsTrue (all_ascii label.now) }
+    requires label { IsTrue (is_label label.now) }
     ensures { OnOk result (store.new
         ≡ changed (codes "points") (pairs_with label.now (numbered label.now n)) store.old) }
 {
-    let mut fields = List::new(alloc);
-    fields.push(Tree::Text(Text::from_ascii(alloc, label)?))?;
-    fields.push(Tree::Int(i128::from(n)))?;
-    fields.push(Tree::Bool(true))?;
-    store.insert("points", label, Tree::Fields(fields))?;
+    let text = Text::from_ascii(alloc, label)?;
+    let point = Point {
+        label: PointLabel::new(text).unwrap(),
+        n: i32::from(n),
+        on: true,
+    };
+    store.insert("points", label, point.to_tree(alloc)?)?;
     Ok(())
 }

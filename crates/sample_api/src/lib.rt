@@ -17,3 +17,4 @@ pub use endpoint::{SampleEndpoint, endpoints};
 pub use first_store::points_store;
 pub use limits::{FRAME_BUDGET, LONGEST_LINE, MOST_INPUT, TITLE, server_config};
 pub use sample_handler::SampleHandler;
+pub use sample_types::Operation;

@@ -64,7 +64,7 @@ impl RouteHandler for SampleHandler {
         store: &mut Store,
         args: &mut ArgList,
     ) -> Result<Reply, AllocError> {
-        answer(self.operation, alloc, store, args.as_slice())
+        answer(alloc, self.operation, store, args.as_slice())
     }
 
     fn refuse(&self, _alloc: Global, error: HttpError) -> Result<ErrorReply, AllocError> {
@@ -74,8 +74,8 @@ impl RouteHandler for SampleHandler {
 
 // Answers arguments, which fit the slots of an operation.
 fn answer(
-    operation: Operation,
     alloc: Global,
+    operation: Operation,
     store: &mut Store,
     args: &[Arg],
 ) -> Result<Reply, AllocError>

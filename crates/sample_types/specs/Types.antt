@@ -9,15 +9,13 @@ use Rattle.descriptors.specs.declared.table.Definition.{Definition}
 use Rattle.descriptors.specs.declared.tree.Tree.{Tree}
 use Rattle.descriptors.specs.declared.tree.Tree.TheVariants as trees
 use Rattle.descriptors.specs.Definitions.{definition_with}
+use Rattle.http_status.specs.ErrorBodies.{any_text}
 use Rattle.api_types.specs.Heads.{nullable, required}
 use Rattle.api_types.specs.Structs.{Part, fields_in}
 use Rattle.api_types.specs.StructTypes.{field_with}
 use Rattle.sample_types.specs.Labels.{label_desc}
 
--- a text of any length, and whole numbers of a kind
-abbrev pub any_text : Desc
-any_text = descs.Text None None None
-
+-- whole numbers of a kind
 abbrev pub number_of : IntKind → Desc
 number_of kind = descs.Int kind None None
 

@@ -1,5 +1,5 @@
 //! Labels of points.
-ghost use Rattle.std.specs.Prelude.{◌≡◌, [], codes, IsTrue};
+ghost use Rattle.std.specs.Prelude.{◌≡◌, [], codes, if◌then◌else◌, Err, IsTrue, Ok};
 ghost use Rattle.descriptors.specs.declared.tree.Tree.TheVariants as trees;
 ghost use Rattle.api_types.specs.Types.{FitsOne};
 ghost use Rattle.sample_types.specs.Labels.{is_label, label_desc};
@@ -28,6 +28,17 @@ impl Model for PointLabel {
 }
 
 impl PointLabel {
+    /// The label of a text. An empty one is handed back. It takes no memory.
+    pub fn new(text: Text) -> Result<PointLabel, Text>
+        ensures { result ≡ (if is_label text then Ok text else Err text) }
+    {
+        if text.is_empty() {
+            Err(text)
+        } else {
+            Ok(PointLabel { text })
+        }
+    }
+
     /// The text of the label.
     pub fn text(&self) -> &Text
         ensures is { result.now ≡ self.now }

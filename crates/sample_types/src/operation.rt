@@ -11,7 +11,7 @@ use handler_shapes::HandlerShape;
 use std::alloc::{AllocError, Global};
 
 /// An operation of the sample.
-#[derive(Clone, Copy)]
+#[derive(Clone, Copy, Debug, PartialEq, Eq)]
 pub enum Operation {
     /// Stores a point.
     PointCreate,

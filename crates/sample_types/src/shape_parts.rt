@@ -105,7 +105,7 @@ fn add<T: ApiType>(alloc: Global, table: &mut DescTable) -> Result<(), AllocErro
 }
 
 /// A shape whose errors are those of the library.
-pub(crate) fn shape_of(
+pub(crate) fn shape_with(
     alloc: Global,
     table: DescTable,
     slots: List<Slot>,

@@ -7,7 +7,9 @@ ghost use Rattle.sample_types.specs.Types.{label_path_desc, probe_header_desc, p
 
 use crate::point::{LabelPath, Point};
 use crate::probe::{Probe, ProbeHeader, ProbeQuery};
-use crate::shape_parts::{body_slot, body_table, empty, error_table, json_of, only_slot, shape_of};
+use crate::shape_parts::{
+    body_slot, body_table, empty, error_table, json_of, only_slot, shape_with,
+};
 use api_types::ApiType;
 use handler_shapes::{HandlerShape, Slot};
 use http::StatusCode;
@@ -22,7 +24,7 @@ pub(crate) fn point_create_shape(alloc: Global) -> Result<HandlerShape, AllocErr
     let table = body_table::<Point>(alloc)?;
     let slots = body_slot::<Point>(alloc)?;
     let response = json_of::<Point>(alloc, StatusCode::CREATED, "successful creation")?;
-    shape_of(alloc, table, slots, response)
+    shape_with(alloc, table, slots, response)
 }
 
 /// The shape of `point_probe`: a path, a query and headers are taken, and what they say is given.
@@ -32,7 +34,7 @@ pub(crate) fn point_probe_shape(alloc: Global) -> Result<HandlerShape, AllocErro
     let table = error_table(alloc)?;
     let slots = probe_slots(alloc)?;
     let response = json_of::<Probe>(alloc, StatusCode::OK, "successful operation")?;
-    shape_of(alloc, table, slots, response)
+    shape_with(alloc, table, slots, response)
 }
 
 fn probe_slots(alloc: Global) -> Result<List<Slot>, AllocError>
@@ -53,7 +55,7 @@ pub(crate) fn point_drop_shape(alloc: Global) -> Result<HandlerShape, AllocError
     let table = error_table(alloc)?;
     let slots = only_slot(alloc, Slot::Path(LabelPath::descriptor(alloc)?))?;
     let response = empty(alloc, StatusCode::NO_CONTENT, "successful deletion")?;
-    shape_of(alloc, table, slots, response)
+    shape_with(alloc, table, slots, response)
 }
 
 /// The shape of `raw_size`: the bytes of a body are taken, and a number is given.
@@ -63,7 +65,7 @@ pub(crate) fn raw_size_shape(alloc: Global) -> Result<HandlerShape, AllocError>
     let table = error_table(alloc)?;
     let slots = only_slot(alloc, Slot::RawBody)?;
     let response = json_of::<u64>(alloc, StatusCode::OK, "successful operation")?;
-    shape_of(alloc, table, slots, response)
+    shape_with(alloc, table, slots, response)
 }
 
 /// The shape of `folder_count`: a folder is taken, and a number is given.
@@ -73,7 +75,7 @@ pub(crate) fn folder_count_shape(alloc: Global) -> Result<HandlerShape, AllocErr
     let table = body_table::<Folder>(alloc)?;
     let slots = body_slot::<Folder>(alloc)?;
     let response = json_of::<u32>(alloc, StatusCode::OK, "successful operation")?;
-    shape_of(alloc, table, slots, response)
+    shape_with(alloc, table, slots, response)
 }
 
 /// The shape of `inner`: nothing is taken, and a truth value is given.
@@ -82,5 +84,5 @@ pub(crate) fn inner_shape(alloc: Global) -> Result<HandlerShape, AllocError>
 {
     let table = error_table(alloc)?;
     let response = json_of::<bool>(alloc, StatusCode::OK, "successful operation")?;
-    shape_of(alloc, table, List::new(alloc), response)
+    shape_with(alloc, table, List::new(alloc), response)
 }
