@@ -31,6 +31,7 @@ pub fn read_limits(reader: &mut Reader, case: &Json) -> Limits {
 
 fn limits_of(reader: &mut Reader, noted: &Json) -> Limits {
     let body = server_config().default_request_body_max_bytes;
+    // Each has 32 bits: a cast that loses some is refused.
     Limits {
         body: read_number_or(reader, noted, "body", body as u32),
         frames: read_number_or(reader, noted, "frames", FRAME_BUDGET as u32),
