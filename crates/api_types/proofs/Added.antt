@@ -1,5 +1,5 @@
 -- Definitions that are added in two calls.
-use Rattle.std.proofs.Common.{◌≡◌, List, [], ◌∷◌, ◌++◌, Option, Some, None, ℕ, refl, sym, ◌∙◌, ap, subst, inl, inr, arith, Result, Ok, Err}
+use Rattle.std.proofs.Common.{◌≡◌, List, [], ◌∷◌, ◌++◌, Option, Some, None, ℕ, refl, sym, ◌∙◌, ap, subst, inl, inr, Result, Ok, Err}
 use Rattle.std.proofs.lemmas.List.{append_assoc}
 use Rattle.std.proofs.lemmas.List.Elements.{Contains-append_cases}
 use Rattle.std.specs.Prelude.{IsErrAnd}
@@ -30,9 +30,6 @@ still_holds table a b held d c = stays_behind table b d.name d (held d c)
 
 holds_both : (table a b : List Definition) → HoldsAll table a → HoldsAll table b → HoldsAll table (a ++ b)
 holds_both table a b one other d c = elim (Contains-append_cases a b d c) [ inl left ↦ one d left | inr right ↦ other d right ]
-
-holds_none : (table : List Definition) → HoldsAll table []
-holds_none table d c = absurd (omega (arith, c.1))
 
 refused_first : (table a b : List Definition) (error : AddError) → AreRefused table a error → AreRefused table (a ++ b) error
 refused_first table a b OutOfMemory refused = tt
@@ -67,10 +64,6 @@ refused_then table a b (Clash name) held (e, named, first) = (
 pub told : {T : Type 0} (result : Result T AddError) (error : AddError) (table ds new : List Definition) → IsErrAnd result (λ e. e ≡ error) → AreRefused table ds error → AddsAll result table ds new
 told (Ok value) error table ds new is refused = absurd is
 told (Err e) error table ds new is refused = record { added = tt; held = tt; refused = subst (AreRefused table ds) (sym is) refused }
-
--- no definition is added
-pub adds_no : {T : Type 0} (value : T) (table : List Definition) → AddsAll (Ok value) table [] table
-adds_no value table = record { added = refl; held = holds_none table; refused = tt }
 
 -- two calls in turn, the first of which added all
 pub adds_both : {T : Type 0} (table a b middle new : List Definition) (value : T) → middle ≡ with_all table a → HoldsAll middle a

@@ -121,7 +121,7 @@ impl RouteHandler for NotedHandler {
         &self.shape
     }
 
-    #[tactic(auto, using(typed_extractors::proofs::Arguments::all_untouched))]
+    #[tactic(auto, using(handler_shapes::proofs::CallerLemmas::all_untouched))]
     fn handle(
         &self,
         alloc: Global,

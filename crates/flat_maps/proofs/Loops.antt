@@ -1,5 +1,5 @@
 -- What a loop has decoded, before what is left.
-use Rattle.std.proofs.Common.{◌≡◌, ℕ, Bool, true, false, Some, None, cond, ◌+◌, ◌<◌, ◌≤◌, List, [], ◌∷◌, ◌++◌, refl, sym, ◌∙◌, ap, length, drop, get_or}
+use Rattle.std.proofs.Common.{◌≡◌, ℕ, None, ◌+◌, ◌<◌, ◌≤◌, List, [], ◌∷◌, ◌++◌, refl, sym, ◌∙◌, ap, length, drop, get_or}
 use Rattle.std.proofs.lemmas.List.{drop_more}
 use Rattle.std.proofs.Math.ListN.{drop_of_length-le}
 use Rattle.std.specs.declared.result.Result.{Result}
@@ -12,7 +12,7 @@ use Rattle.typed_values.specs.declared.fault.Stop.TheVariants as stop
 use Rattle.typed_values.specs.Answer.{Tells, trouble}
 use Rattle.typed_values.specs.Denotes.{Told, and_rest, and_then, all_told}
 use Rattle.typed_values.specs.Faults.{Trouble}
-use Rattle.flat_maps.specs.Pairs.{is_doubled, first_doubled}
+use Rattle.flat_maps.specs.Pairs.{first_doubled}
 
 -- the trees so far, before those of the rest
 abbrev pub after : List Tree → Result (List Tree) Trouble → Result (List Tree) Trouble
@@ -54,16 +54,6 @@ module _ {X : Type 0} (f : ℕ → X → Told) (whole : Result (List Tree) Troub
 
   pub all_end : length xs ≤ i → whole ≡ Ok ts
   all_end h = e ∙ ap (λ (r : List X). after ts (all_told f i r)) (drop_of_length-le xs h) ∙ after_all ts
-
-module _ (pairs : List NamedText) (fs : List Field) (i : ℕ) (f : Field) (low : i < length fs) (is : f ≡ get_or fs i f) where
-  one_more : (b : Bool) → is_doubled pairs f.name ≡ b → first_doubled pairs (drop i fs) ≡ cond b (Some f.name) (first_doubled pairs (drop (i + 1) fs))
-  one_more b e = ap (first_doubled pairs) (drop_more fs i f low ∙ ap (λ (y : Field). y ∷ drop (i + 1) fs) (sym is)) ∙ ap (λ (b : Bool). cond b (Some f.name) (first_doubled pairs (drop (i + 1) fs))) e
-
-  pub doubled_here : is_doubled pairs f.name ≡ true → first_doubled pairs (drop i fs) ≡ Some f.name
-  doubled_here e = one_more true e
-
-  pub doubled_later : is_doubled pairs f.name ≡ false → first_doubled pairs (drop i fs) ≡ first_doubled pairs (drop (i + 1) fs)
-  doubled_later e = one_more false e
 
 pub none_left : (pairs : List NamedText) (fs : List Field) (i : ℕ) → length fs ≤ i → first_doubled pairs (drop i fs) ≡ None
 none_left pairs fs i h = ap (first_doubled pairs) (drop_of_length-le fs h)

@@ -122,7 +122,7 @@ impl RouteHandler for NotedHandler<'_> {
         self.shape
     }
 
-    #[tactic(auto, using(typed_extractors::proofs::Arguments::all_untouched))]
+    #[tactic(auto, using(handler_shapes::proofs::CallerLemmas::all_untouched))]
     fn handle(
         &self,
         alloc: Global,

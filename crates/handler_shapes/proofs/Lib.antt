@@ -1,1 +1,2 @@
 pub mod ShortSlots
+pub mod CallerLemmas

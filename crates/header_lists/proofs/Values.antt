@@ -251,6 +251,3 @@ module _ (name : List ℕ) (lines added : List Line) where
 module _ (name : List ℕ) (lines : List Line) (line : Line) where
   pub last_of-here : is_line_of name line ≡ true → last_of name (lines ++ line ∷ []) ≡ Some line.1
   last_of-here here = append-last line.0 name line.1 lines here
-
-  pub last_of-other : is_line_of name line ≡ false → last_of name (lines ++ line ∷ []) ≡ last_of name lines
-  last_of-other other = ap last_in (append-others line.0 name line.1 lines other)

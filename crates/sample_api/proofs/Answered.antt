@@ -3,9 +3,8 @@ use Rattle.std.proofs.Common.{◌≡◌, List, [], ◌∷◌, refl}
 use Rattle.std.specs.Prelude.{Result, Ok, Err, IfOk}
 use Rattle.std.specs.declared.alloc.AllocError.{AllocError}
 use Rattle.descriptors.specs.declared.table.Definition.{Definition}
-use Rattle.handler_shapes.specs.Arguments.{ArgStays, ArgsFit, ArgsStay}
+use Rattle.handler_shapes.specs.Arguments.{ArgsFit}
 use Rattle.handler_shapes.specs.declared.arguments.Arg.{Arg}
-use Rattle.handler_shapes.specs.declared.arguments.Arg.TheVariants as arguments
 use Rattle.tree_store.specs.Tables.{Tables}
 use Rattle.api_respond.specs.declared.reply.Reply.{Reply}
 
@@ -20,13 +19,3 @@ at_store Allowed args (Err error) all store = tt
 pub no_arguments : (table : List Definition) (args : List Arg) → ArgsFit table [] args → args ≡ []
 no_arguments table [] fit = refl
 no_arguments table (arg ∷ args) fit = absurd fit
-
-stays : (arg : Arg) → ArgStays arg arg
-stays (arguments.Tree tree) = refl
-stays (arguments.Raw bytes) = refl
-stays (arguments.Stream body) = tt
-
--- arguments stay themselves
-pub all_stay : (args : List Arg) → ArgsStay args args
-all_stay [] = tt
-all_stay (arg ∷ args) = (stays arg, all_stay args)

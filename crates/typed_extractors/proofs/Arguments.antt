@@ -1,12 +1,11 @@
 -- Arguments that are taken one by one.
-use Rattle.std.proofs.Common.{◌≡◌, List, [], ◌∷◌, ◌++◌, refl, subst}
+use Rattle.std.proofs.Common.{◌≡◌, List, ◌∷◌, ◌++◌, subst}
 use Rattle.std.proofs.lemmas.List.Elements.{All-head, All-tail}
 use Rattle.descriptors.specs.declared.table.Definition.{Definition}
 use Rattle.api_types.specs.Types.{HoldsAll}
-use Rattle.handler_shapes.specs.Arguments.{ArgsFit, ArgStays, ArgsStay}
+use Rattle.handler_shapes.specs.Arguments.{ArgsFit}
 use Rattle.handler_shapes.specs.ShapeChecks.{ShapePasses, SlotPasses, SlotsPass}
 use Rattle.handler_shapes.specs.declared.arguments.Arg.{Arg}
-use Rattle.handler_shapes.specs.declared.arguments.Arg.TheVariants.{Tree as OfTree, Raw, Stream}
 use Rattle.handler_shapes.specs.declared.shape.HandlerShape.{HandlerShape}
 use Rattle.handler_shapes.specs.declared.slot.Slot.{Slot}
 use Rattle.typed_extractors.specs.SlotAdditions.{HaveTables}
@@ -51,13 +50,3 @@ shape_taken shape slots ds selectors args same held tables passes fit = record {
   slots_pass = subst (λ (xs : List Slot). SlotsPass shape.table xs) same passes.slots;
   fit = subst (λ (xs : List Slot). ArgsFit shape.table xs args) same fit;
 }
-
--- an argument that is not touched stays
-pub untouched : (arg : Arg) → ArgStays arg arg
-untouched (OfTree tree) = refl
-untouched (Raw bytes) = refl
-untouched (Stream body) = tt
-
-pub all_untouched : (args : List Arg) → ArgsStay args args
-all_untouched [] = tt
-all_untouched (arg ∷ args) = (untouched arg, all_untouched args)

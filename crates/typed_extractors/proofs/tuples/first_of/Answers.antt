@@ -1,5 +1,6 @@
 use Rattle.std.proofs.Common.{◌≡◌, ◌∷◌}
-use Rattle.typed_extractors.proofs.Arguments.{all_untouched, first_taken, others_taken}
+use Rattle.handler_shapes.proofs.CallerLemmas.{all_untouched}
+use Rattle.typed_extractors.proofs.Arguments.{first_taken, others_taken}
 use Rattle.typed_extractors.proofs.tuples.first_of.Goals as goal
 
 pub from_arg-requires : goal.from_arg-requires

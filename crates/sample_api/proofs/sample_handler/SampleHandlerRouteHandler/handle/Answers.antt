@@ -1,5 +1,5 @@
 use Rattle.std.proofs.Common.{sym}
-use Rattle.sample_api.proofs.Answered.{all_stay}
+use Rattle.handler_shapes.proofs.CallerLemmas.{all_untouched}
 use Rattle.sample_api.proofs.sample_handler.SampleHandlerRouteHandler.handle.Goals as goal
 
 pub answer-requires-clause-passes : goal.answer-requires-clause-passes
@@ -15,4 +15,4 @@ pub returns-clause-fits : goal.returns-clause-fits
 returns-clause-fits c = rw c.args.self.now.of_operation c.answer.ensures.fits
 
 pub returns-clause-keeps : goal.returns-clause-keeps
-returns-clause-keeps c = all_stay c.args.args.now
+returns-clause-keeps c = all_untouched c.args.args.now
