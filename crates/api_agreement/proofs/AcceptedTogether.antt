@@ -15,7 +15,7 @@ use Rattle.typed_values.proofs.CallerLemmas.{entry_inside}
 use Rattle.handler_shapes.specs.ShapeChecks.{ShapePasses}
 use Rattle.handler_shapes.specs.ShapeLengths.{ShapeHasShortLengths}
 use Rattle.api_versions.specs.Overlaps.{Overlaps}
-use Rattle.api_declarations.specs.Serving.{holds}
+use Rattle.api_declarations.specs.Serving.{holds, is_listed}
 use Rattle.api_declarations.specs.Values.{DeclarationValue}
 use Rattle.api_declarations.proofs.CallerLemmas.{held}
 use Rattle.endpoint_parameters.proofs.CallerLemmas.{none_holds}
@@ -25,7 +25,7 @@ use Rattle.api_registration.specs.Clashes.{DefinesOtherwise, DiffersIn}
 use Rattle.api_registration.proofs.CallerLemmas.{apart_behind, each_accepted, may_passes, pairs_accepted}
 use Rattle.api_documents.specs.Accepted.{HasListedMethod, MayBeListed, TablesAgree}
 use Rattle.api_documents.specs.ErrorNames.{same_code}
-use Rattle.api_documents.specs.Listed.{is_listed, listed, path_of}
+use Rattle.api_documents.specs.Listed.{listed, path_of}
 use Rattle.api_documents.proofs.CallerLemmas.{chosen, same_code-is, same_code-refl}
 use Rattle.api_agreement.proofs.Elements.{is_there}
 

@@ -4,7 +4,7 @@ use Rattle.std.proofs.Common.{is_ok, codes, refl, sym, ◌∙◌, ap, arith}
 use Rattle.std.proofs.Math.Bool.{and-true}
 use Rattle.std.specs.declared.result.Result.TheVariants.{Ok, Err}
 use Rattle.request_words.specs.declared.pairs.NamedText.{NamedText}
-use Rattle.request_words.specs.Pairs.{are_some, last_text, last_value, values_of}
+use Rattle.request_words.specs.Pairs.{are_some, is_doubled, last_text, last_value, values_of}
 use Rattle.openapi_values.specs.Pages.{has_token}
 use Rattle.descriptors.specs.declared.desc.Desc.{Desc, Int, Struct as StructOf}
 use Rattle.descriptors.specs.declared.desc.Desc.TheOpen.{Desc-F}
@@ -17,7 +17,7 @@ use Rattle.typed_values.specs.Guarded.{IsGuarded}
 use Rattle.typed_values.proofs.CallerLemmas.{ok_just}
 use Rattle.flat_maps.specs.declared.repeats.Repeats.TheVariants.{Refuse}
 use Rattle.flat_maps.specs.Flat.{fields_told, flat_fields, flat_told, looked_up, resolved, under_struct}
-use Rattle.flat_maps.specs.Pairs.{is_doubled, last_values, pairs_fields, pairs_told}
+use Rattle.flat_maps.specs.Pairs.{last_values, pairs_fields, pairs_told}
 use Rattle.flat_maps.specs.Texts.{number_of_text, text_told}
 use Rattle.flat_maps.proofs.CallerLemmas.{ok_doubled, ok_fields, ok_given, resolved_row, text_row}
 use Rattle.written_texts.specs.PageParameters.{limit_field}

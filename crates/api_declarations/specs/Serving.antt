@@ -33,3 +33,7 @@ pub record Serves (version : Parts) (method template : List ℕ) (d : Declaratio
 -- the first thing whose declaration serves a method and a template at a version
 abbrev pub endpoint_for : {A : Type 0} → (A → DeclarationValue) → Parts → List ℕ → List ℕ → List A → Option A
 endpoint_for declared version method template = find (λ e. serves version method template (declared e))
+
+-- whether the document of a version lists an endpoint: it is visible, and its range holds the version
+abbrev pub is_listed : Parts → DeclarationValue → Bool
+is_listed version d = d.visible && holds d.versions version

@@ -1,8 +1,8 @@
-//! Whether an endpoint serves a request.
+//! Whether an endpoint serves a request, and whether a document lists it.
 ghost use Rattle.std.specs.Prelude.{◌≡◌, ◌↔◌, IsTrue};
 ghost use Rattle.semver.specs.Identifiers.{parts_of};
 ghost use Rattle.api_versions.specs.Shown.{range_of};
-ghost use Rattle.api_declarations.specs.Serving.{Serves, holds, serves};
+ghost use Rattle.api_declarations.specs.Serving.{Serves, holds, is_listed, serves};
 
 use crate::declaration::Declaration;
 use api_versions::ApiEndpointVersions;
@@ -27,5 +27,12 @@ impl Declaration<'_> {
             ↔ Serves (parts_of version.now) method.now template.now self.now }
     {
         self.method == method && same_template(self.path, template) && holds(self.versions, version)
+    }
+
+    /// Whether the document of a version lists the endpoint: it is visible, and its range holds the version.
+    pub fn is_listed(&self, version: &Version) -> bool
+        ensures { result ≡ is_listed (parts_of version.now) self.now }
+    {
+        self.visible && holds(self.versions, version)
     }
 }

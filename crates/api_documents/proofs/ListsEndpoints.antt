@@ -16,7 +16,7 @@ use Rattle.semver.specs.Parse.{Parts}
 use Rattle.api_declarations.specs.Values.{DeclarationValue}
 use Rattle.api_documents.specs.Accepted.{AreApart, MayBeListed}
 use Rattle.api_documents.specs.Documents.{document_json_of, document_of, errors_of}
-use Rattle.api_documents.specs.Listed.{endpoint_of, is_listed, listed, path_of, paths_in_order, stands_at}
+use Rattle.api_documents.specs.Listed.{endpoint_of, listed, path_of, paths_in_order, stands_at}
 use Rattle.api_documents.specs.Lists.{IsListed, Lists, ListsWritten}
 use Rattle.api_documents.specs.Operations.{operation_of, path_item_of}
 use Rattle.api_documents.specs.Tags.{Configured}

@@ -15,7 +15,8 @@ use Rattle.path_templates.specs.Places.{IsIndexOf, first_at, places_at, places_f
 use Rattle.path_templates.proofs.CallerLemmas.{index-keyless, index-push}
 use Rattle.path_templates.specs.declared.place_index.PlaceIndex.{PlaceIndex}
 use Rattle.api_declarations.specs.Values.{DeclarationValue}
-use Rattle.api_documents.specs.Listed.{endpoint_of, is_listed, listed, path_of}
+use Rattle.api_declarations.specs.Serving.{is_listed}
+use Rattle.api_documents.specs.Listed.{endpoint_of, listed, path_of}
 use Rattle.api_documents.specs.Ordered.{text_order, with_texts}
 use Rattle.api_documents.specs.Places.{has_method, path_keys}
 

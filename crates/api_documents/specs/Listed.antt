@@ -4,14 +4,10 @@ use Rattle.std.specs.Prelude.{ℕ, Bool, ◌&&◌, List, map, filter, find, Opti
 use Rattle.std.specs.List.{flat_map, filter_map}
 use Rattle.semver.specs.Parse.{Parts}
 use Rattle.openapi_values.specs.Admits.{methods}
-use Rattle.api_declarations.specs.Serving.{holds}
+use Rattle.api_declarations.specs.Serving.{is_listed}
 use Rattle.path_templates.specs.Templates.{trimmed}
 use Rattle.api_declarations.specs.Values.{DeclarationValue}
 use Rattle.api_documents.specs.Ordered.{in_text_order}
-
--- whether the document of a version lists an endpoint: it is visible, and its range holds the version
-abbrev pub is_listed : Parts → DeclarationValue → Bool
-is_listed version d = d.visible && holds d.versions version
 
 -- the endpoints that the document of a version lists, in the order in which they were declared
 abbrev pub listed : Parts → List DeclarationValue → List DeclarationValue

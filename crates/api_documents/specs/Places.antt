@@ -8,7 +8,8 @@ use Rattle.semver.specs.Parse.{Parts}
 use Rattle.path_templates.specs.Places.{first_at}
 use Rattle.api_declarations.specs.Values.{DeclarationValue}
 use Rattle.api_documents.specs.ErrorNames.{NamedErrorValue}
-use Rattle.api_documents.specs.Listed.{is_listed, method_names, path_of}
+use Rattle.api_declarations.specs.Serving.{is_listed}
+use Rattle.api_documents.specs.Listed.{method_names, path_of}
 use Rattle.api_documents.specs.Operations.{operation_of, path_item_by}
 
 -- the key of an endpoint by which it is looked up: its path, where it is listed

@@ -11,7 +11,6 @@ ghost use Rattle.api_documents.specs.Ordered.{by_name, with_entry};
 
 use crate::bodies::content;
 use crate::error_names::NamedError;
-use crate::listed::is_listed;
 use crate::reached::reached;
 use api_declarations::Declaration;
 use handler_shapes::HandlerShape;
@@ -100,7 +99,7 @@ fn schemas(
 {
     let mut schemas = BTreeMap::new(alloc);
     for declaration in declarations {
-        if is_listed(declaration, version) {
+        if declaration.is_listed(version) {
             add_schemas(alloc, &mut schemas, declaration)?;
         }
     }

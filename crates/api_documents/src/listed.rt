@@ -2,10 +2,10 @@
 ghost use Rattle.std.specs.Prelude.{◌≡◌, IfOk, None, map, option_map, slice_get};
 ghost use Rattle.semver.specs.Identifiers.{parts_of};
 ghost use Rattle.path_templates.specs.Places.{IsIndexOf, first_at, found_or};
-ghost use Rattle.api_documents.specs.Listed.{is_listed, listed, path_of, paths_in_order};
+ghost use Rattle.api_documents.specs.Listed.{listed, path_of, paths_in_order};
 ghost use Rattle.api_documents.specs.Places.{has_method, path_keys};
 
-use api_declarations::{Declaration, holds};
+use api_declarations::Declaration;
 use path_templates::{PlaceIndex, without_trailing_slash};
 use schema_values::{List, Text};
 use semver::Version;
@@ -19,14 +19,6 @@ pub(crate) struct ListedPaths {
     pub paths: List<Text>,
     /// The places of the listed endpoints, by their paths.
     pub index: PlaceIndex,
-}
-
-/// Whether the document of a version lists an endpoint: it is visible, and its range holds the
-/// version.
-pub(crate) fn is_listed(declaration: &Declaration<'_>, version: &Version) -> bool
-    ensures { result ≡ is_listed (parts_of version.now) declaration.now }
-{
-    declaration.visible && holds(declaration.versions, version)
 }
 
 /// The paths of the endpoints that are listed, and their places.
@@ -43,7 +35,7 @@ pub(crate) fn listed_paths(
     let mut paths = BTreeSet::new(alloc);
     let mut index = PlaceIndex::new(alloc);
     for (place, declaration) in declarations.iter().enumerate() {
-        if is_listed(declaration, version) {
+        if declaration.is_listed(version) {
             index.add(alloc, path_of(alloc, declaration)?, place)?;
             paths.insert(path_of(alloc, declaration)?)?;
         }

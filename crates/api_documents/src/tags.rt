@@ -6,7 +6,6 @@ ghost use Rattle.api_documents.specs.Listed.{listed};
 ghost use Rattle.api_documents.specs.Ordered.{in_text_order, with_texts};
 ghost use Rattle.api_documents.specs.Tags.{external_docs, tag_names, tag_with, tags_of};
 
-use crate::listed::is_listed;
 use api_declarations::Declaration;
 use openapi_values::{ExternalDocs, TagObject};
 use schema_values::{List, Text, copy_text};
@@ -44,7 +43,7 @@ fn tag_names(
 {
     let mut names = configured_names(alloc, configured)?;
     for declaration in declarations {
-        if is_listed(declaration, version) {
+        if declaration.is_listed(version) {
             add_names(alloc, &mut names, declaration.tags.as_slice())?;
         }
     }

@@ -11,7 +11,7 @@ use Rattle.schema_values.specs.declared.json_value.Json.{Json}
 use Rattle.schema_values.specs.Reading.{Reads}
 use Rattle.schema_values.specs.Sound.{IsSound}
 use Rattle.request_words.specs.declared.pairs.NamedText.{NamedText}
-use Rattle.request_words.specs.Pairs.{last_value}
+use Rattle.request_words.specs.Pairs.{is_doubled, last_value}
 use Rattle.descriptors.specs.declared.desc.Desc.{Desc}
 use Rattle.descriptors.specs.declared.desc.IntKind.TheVariants.{U32}
 use Rattle.descriptors.specs.declared.table.Definition.{Definition}
@@ -26,7 +26,7 @@ use Rattle.typed_values.specs.Denotes.{Told, just, if_holds, refused, told}
 use Rattle.typed_values.specs.Fits.{Fits}
 use Rattle.typed_values.proofs.CallerLemmas.{denoted_fits}
 use Rattle.flat_maps.specs.declared.repeats.Repeats.TheVariants.{Last}
-use Rattle.flat_maps.specs.Pairs.{is_doubled, pairs_told}
+use Rattle.flat_maps.specs.Pairs.{pairs_told}
 use Rattle.flat_maps.specs.Texts.{kind_name, number_in, number_of_text, number_or_fault}
 use Rattle.flat_maps.proofs.CallerLemmas.{pairs_fit}
 use Rattle.handler_shapes.specs.declared.arguments.Arg.{Arg}

@@ -11,7 +11,7 @@ use Rattle.schema_values.specs.declared.json_value.Json.{Json, out-Json}
 use Rattle.schema_values.specs.declared.json_value.Json.TheOpen.{Json-F}
 use Rattle.schema_values.specs.Get.{get_of}
 use Rattle.request_words.specs.declared.pairs.NamedText.{NamedText}
-use Rattle.request_words.specs.Pairs.{last_value}
+use Rattle.request_words.specs.Pairs.{is_doubled, last_value}
 use Rattle.descriptors.specs.declared.desc.Desc.{Desc}
 use Rattle.descriptors.specs.declared.desc.IntKind.TheVariants.{U32}
 use Rattle.descriptors.specs.declared.table.Definition.{Definition}
@@ -21,7 +21,7 @@ use Rattle.typed_values.specs.declared.fault.FaultKind.TheVariants.{Doubled, Bad
 use Rattle.typed_values.specs.declared.fault.Place.TheVariants.{Name}
 use Rattle.typed_values.specs.Denotes.{Told, below, just, refused, told}
 use Rattle.flat_maps.specs.declared.repeats.Repeats.TheVariants.{Last}
-use Rattle.flat_maps.specs.Pairs.{is_doubled, pairs_told}
+use Rattle.flat_maps.specs.Pairs.{pairs_told}
 use Rattle.flat_maps.specs.Texts.{number_of_text}
 use Rattle.page_tokens.specs.declared.token_error.TokenError.{TokenError}
 use Rattle.page_tokens.specs.declared.token_error.TokenError.TheVariants as errors

@@ -14,7 +14,8 @@ use Rattle.typed_values.specs.Denotes.{Told, below, by_presence, if_present, all
 use Rattle.typed_values.specs.Faults.{Trouble}
 use Rattle.typed_values.proofs.CallerLemmas.{ok_below, ok_just, ok_all}
 use Rattle.flat_maps.specs.Flat.{fields_told}
-use Rattle.flat_maps.specs.Pairs.{is_doubled, first_doubled, unless_doubled}
+use Rattle.request_words.specs.Pairs.{is_doubled}
+use Rattle.flat_maps.specs.Pairs.{first_doubled, unless_doubled}
 
 ok_present : (p : Presence) (told : Told) → is_ok (if_present p told) ≡ is_ok told
 ok_present Required told = refl

@@ -1,10 +1,10 @@
 -- Which struct pairs denote (URL Standard, section 5.1), by a rule on names that stand more than once. The rule is this
 -- project's own: OpenAPI 3.0.3 says of no parameter what its name standing twice in a query means.
-use Rattle.std.specs.Prelude.{◌≡◌, ℕ, Bool, true, false, List, [], ◌∷◌, Option, Some, None, option_map, if◌then◌else◌}
+use Rattle.std.specs.Prelude.{◌≡◌, ℕ, List, [], ◌∷◌, Option, Some, None, option_map, if◌then◌else◌}
 use Rattle.std.specs.declared.result.Result.TheVariants.{Ok}
 use Rattle.schema_values.specs.declared.variables.VariableValue.TheVariants.{String}
 use Rattle.request_words.specs.declared.pairs.NamedText.{NamedText}
-use Rattle.request_words.specs.Pairs.{values_of, last_value}
+use Rattle.request_words.specs.Pairs.{is_doubled, last_value}
 use Rattle.descriptors.specs.declared.desc.Desc.{Desc}
 use Rattle.descriptors.specs.declared.desc.Field.{Field}
 use Rattle.descriptors.specs.declared.table.Definition.{Definition}
@@ -20,16 +20,6 @@ use Rattle.flat_maps.specs.Flat.{resolved, fields_told, flat_fields, looked_up, 
 -- the last value of each name
 abbrev pub last_values : List NamedText → Names
 last_values pairs name = option_map String (last_value name pairs)
-
--- more than one
-abbrev pub are_several : List (List ℕ) → Bool
-are_several [] = false
-are_several (text ∷ []) = false
-are_several (text ∷ other ∷ texts) = true
-
--- whether a name stands more than once
-abbrev pub is_doubled : List NamedText → List ℕ → Bool
-is_doubled pairs name = are_several (values_of name pairs)
 
 -- the first field whose name stands more than once
 abbrev pub first_doubled : List NamedText → List Field → Option (List ℕ)

@@ -8,7 +8,7 @@ ghost use Rattle.typed_values.specs.Checks.{TablePasses, DescPasses};
 ghost use Rattle.typed_values.specs.Fits.{Fits};
 ghost use Rattle.flat_maps.specs.Flat.{FlatDenotes};
 ghost use Rattle.flat_maps.specs.Pairs.{PairsDenote, StandOnce, pairs_fields, pairs_told};
-ghost use Rattle.flat_maps.specs.Pairs.{first_doubled, is_doubled, last_values};
+ghost use Rattle.flat_maps.specs.Pairs.{first_doubled, last_values};
 
 use crate::fields::decode_fields;
 use crate::given::{Given, LookUp};
@@ -105,15 +105,9 @@ fn find_doubled<'f>(sorted: &SortedPairs<'_>, fields: &'f [Field]) -> Option<&'f
     ensures { option_map (λ name. name.now) result ≡ first_doubled sorted.now.pairs.now fields.now }
 {
     for field in fields {
-        if is_doubled(sorted, &field.name) {
+        if sorted.is_doubled(&field.name) {
             return Some(&field.name);
         }
     }
     None
-}
-
-fn is_doubled(sorted: &SortedPairs<'_>, name: &Text) -> bool
-    ensures { result ≡ is_doubled sorted.now.pairs.now name.now }
-{
-    sorted.named(name).len() > 1
 }

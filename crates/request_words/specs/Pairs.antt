@@ -47,3 +47,13 @@ are_some (text ∷ texts) = true
 -- whether a pair has a name
 abbrev pub has_pair : List NamedText → List ℕ → Bool
 has_pair pairs name = are_some (values_of name pairs)
+
+-- more than one
+abbrev pub are_several : List (List ℕ) → Bool
+are_several [] = false
+are_several (text ∷ []) = false
+are_several (text ∷ other ∷ texts) = true
+
+-- whether a name stands more than once
+abbrev pub is_doubled : List NamedText → List ℕ → Bool
+is_doubled pairs name = are_several (values_of name pairs)

@@ -7,7 +7,7 @@ ghost use Rattle.std.specs.Ordering.{nat_cmp};
 ghost use Rattle.std.proofs.Props.{props};
 ghost use Rattle.schema_values.specs.Order.{sorted_by};
 ghost use Rattle.request_words.specs.NameOrder.{is_not_after};
-ghost use Rattle.request_words.specs.Pairs.{pair_name, values_of, last_value, has_pair};
+ghost use Rattle.request_words.specs.Pairs.{pair_name, values_of, last_value, has_pair, is_doubled};
 
 use crate::pairs::NamedText;
 use schema_values::{HasName, Text, in_order};
@@ -73,5 +73,12 @@ impl<'a> SortedPairs<'a> {
         ensures { result ≡ has_pair self.now.pairs.now name.now }
     {
         !self.named(name).is_empty()
+    }
+
+    /// Whether a name stands more than once.
+    pub fn is_doubled(&self, name: &Text) -> bool
+        ensures { result ≡ is_doubled self.now.pairs.now name.now }
+    {
+        self.named(name).len() > 1
     }
 }

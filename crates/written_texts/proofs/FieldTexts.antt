@@ -6,7 +6,7 @@ use Rattle.std.specs.declared.result.Result.{Result}
 use Rattle.std.specs.declared.result.Result.TheVariants.{Ok, Err}
 use Rattle.schema_values.proofs.CallerLemmas.{contains_first, contains_later}
 use Rattle.request_words.specs.declared.pairs.NamedText.{NamedText}
-use Rattle.request_words.specs.Pairs.{has_pair}
+use Rattle.request_words.specs.Pairs.{has_pair, is_doubled}
 use Rattle.descriptors.specs.declared.desc.Field.{Field}
 use Rattle.descriptors.specs.declared.desc.Presence.{Presence}
 use Rattle.descriptors.specs.declared.desc.Presence.TheVariants.{Required, Nullable, Skipped, Default}
@@ -16,7 +16,7 @@ use Rattle.typed_values.specs.Denotes.{Told, below, if_absent, if_present, by_pr
 use Rattle.typed_values.specs.Faults.{Trouble}
 use Rattle.typed_values.proofs.CallerLemmas.{ok_below, ok_just, ok_all}
 use Rattle.flat_maps.specs.Flat.{fields_told}
-use Rattle.flat_maps.specs.Pairs.{is_doubled, first_doubled, unless_doubled}
+use Rattle.flat_maps.specs.Pairs.{first_doubled, unless_doubled}
 use Rattle.written_texts.specs.FieldParameters.{is_required}
 
 ok_absent : (p : Presence) (name : List ℕ) → is_ok (if_absent p name) ≡ not (is_required p)

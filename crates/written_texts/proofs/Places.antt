@@ -11,7 +11,7 @@ use Rattle.schema_values.specs.declared.variables.VariableValue.TheVariants.{Str
 use Rattle.request_words.specs.declared.pairs.NamedText.{NamedText}
 use Rattle.request_words.specs.declared.request.HeaderLine.{HeaderLine}
 use Rattle.request_words.specs.HeaderLines.{last_line, all_shown}
-use Rattle.request_words.specs.Pairs.{values_of, last_text}
+use Rattle.request_words.specs.Pairs.{are_several, is_doubled, last_text, values_of}
 use Rattle.openapi_values.specs.Options.{is_some_and}
 use Rattle.openapi_values.specs.RequestParameters.{values_hold, variable_holds, header_holds, stands_or_not, shown_admitted}
 use Rattle.descriptors.specs.declared.desc.Desc.{Desc}
@@ -25,7 +25,7 @@ use Rattle.typed_values.specs.Denotes.{if_holds, room}
 use Rattle.flat_maps.specs.declared.repeats.Repeats.TheVariants.{Refuse}
 use Rattle.flat_maps.specs.Flat.{resolved_at, resolved, texts_told, given_told, fields_told, looked_up}
 use Rattle.flat_maps.specs.Maps.{map_values}
-use Rattle.flat_maps.specs.Pairs.{last_values, are_several, is_doubled, pairs_fields}
+use Rattle.flat_maps.specs.Pairs.{last_values, pairs_fields}
 use Rattle.flat_maps.specs.Texts.{text_told}
 use Rattle.written_texts.specs.FieldParameters.{is_required, AllRequired}
 use Rattle.header_texts.specs.HeaderTexts.{line_told, header_told}

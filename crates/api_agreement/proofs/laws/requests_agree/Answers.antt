@@ -4,7 +4,8 @@ use Rattle.openapi_values.specs.Document.{open_api_json}
 use Rattle.handler_shapes.specs.ShapeChecks.{ShapePasses}
 use Rattle.api_declarations.proofs.CallerLemmas.{held}
 use Rattle.api_documents.specs.Documents.{document_of, errors_of}
-use Rattle.api_documents.specs.Listed.{is_listed, listed, path_of}
+use Rattle.api_declarations.specs.Serving.{is_listed}
+use Rattle.api_documents.specs.Listed.{listed, path_of}
 use Rattle.api_documents.specs.Operations.{operation_of}
 use Rattle.api_documents.proofs.CallerLemmas.{kept}
 use Rattle.api_agreement.proofs.RequestsAgree.{agrees}

@@ -1,7 +1,8 @@
 use Rattle.std.proofs.Common.{◌≡◌, ℕ, ◌+◌, true, false, List, map, take, drop, refl, sym, ◌∙◌, ap, subst}
 use Rattle.semver.specs.Identifiers.{parts_of}
 use Rattle.path_templates.specs.Places.{IsIndexOf, places_at, with_place}
-use Rattle.api_documents.specs.Listed.{is_listed, listed, path_of}
+use Rattle.api_declarations.specs.Serving.{is_listed}
+use Rattle.api_documents.specs.Listed.{listed, path_of}
 use Rattle.api_documents.specs.Ordered.{with_texts}
 use Rattle.api_documents.specs.Places.{path_keys}
 use Rattle.api_documents.proofs.PlacesFound.{index_added, index_kept, paths_added, paths_kept}
