@@ -9,7 +9,7 @@ ghost use Rattle.semver.specs.Identifiers.{parts_of};
 ghost use Rattle.api_endpoints.specs.Endpoints.{boxed};
 ghost use Rattle.api_descriptions.specs.Information.{info_of};
 ghost use Rattle.api_descriptions.specs.Ready.{IsReady};
-ghost use Rattle.api_descriptions.specs.Written.{document_at, document_text};
+ghost use Rattle.api_descriptions.specs.Written.{WritesBy, document_at, document_text};
 
 use crate::description::ApiDescription;
 use api_agreement::accepted_are_listed;
@@ -135,6 +135,10 @@ impl OpenApiDefinition<'_> {
             → HasRisen (K.faults sink.old) (K.faults sink.new) }
         ensures counts { ¬ IsErrOf result WriteError.WriteFault
             → K.faults sink.new ≡ K.faults sink.old }
+        ensures calls { WritesBy K.Sink (encode_utf8_all (document_text
+            (boxed ⟦<dyn RouteHandler as RouteHandler>⟧) self.now.api.now.tags
+            self.now.api.now.endpoints.items self.now.info (parts_of self.now.version)))
+            sink.old sink.new result }
     {
         let text = self.text(alloc)?;
         match write_all(sink, text.as_bytes()) {
