@@ -37,11 +37,11 @@ use Rattle.endpoint_parameters.specs.Parameters.{parameters_of_slot}
 use Rattle.endpoint_parameters.specs.ParameterTypes.{IsScalarOrRest, MayBeAbsent}
 use Rattle.endpoint_parameters.proofs.CallerLemmas.{none_holds}
 use Rattle.api_registration.specs.declared.cause.RegisterCause.TheVariants as cause
-use Rattle.api_registration.specs.Paths.{path_wildcard}
+use Rattle.endpoint_checks.specs.Paths.{path_wildcard}
 use Rattle.api_registration.specs.Registering.{MayRegister}
-use Rattle.api_registration.specs.Slots.{IsReadAs, TakesReadBody, has_query_beside_pages, is_page_name}
-use Rattle.api_registration.specs.Slots.{takes_page_name, takes_pages, takes_query}
-use Rattle.api_registration.specs.Types.{IsOpenStruct}
+use Rattle.endpoint_checks.specs.Slots.{IsReadAs, TakesReadBody, has_query_beside_pages, is_page_name}
+use Rattle.endpoint_checks.specs.Slots.{takes_page_name, takes_pages, takes_query}
+use Rattle.endpoint_checks.specs.Types.{IsOpenStruct}
 use Rattle.api_agreement.specs.ShownSlots.{AreScanned, HasShownSlots, IsBodyType, IsOfPages, IsOfQuery, IsShown}
 use Rattle.api_agreement.specs.ShownSlots.{ReadApart}
 use Rattle.api_agreement.proofs.Elements.{fails_of, is_there, joined_of, made_of, neither}

@@ -21,7 +21,7 @@ use Rattle.api_declarations.proofs.CallerLemmas.{held}
 use Rattle.endpoint_parameters.proofs.CallerLemmas.{none_holds}
 use Rattle.api_registration.specs.declared.cause.RegisterCause.TheVariants as cause
 use Rattle.api_registration.specs.Accepted.{AreRegistered, MayStandBehind}
-use Rattle.api_registration.specs.Clashes.{DefinesOtherwise, DiffersIn}
+use Rattle.endpoint_checks.specs.Clashes.{DefinesOtherwise, DiffersIn}
 use Rattle.api_registration.proofs.CallerLemmas.{apart_behind, each_accepted, may_passes, pairs_accepted}
 use Rattle.api_documents.specs.Accepted.{HasListedMethod, MayBeListed, TablesAgree}
 use Rattle.api_documents.specs.ErrorNames.{same_code}

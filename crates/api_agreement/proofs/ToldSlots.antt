@@ -19,7 +19,7 @@ use Rattle.api_declarations.specs.Values.{DeclarationValue}
 use Rattle.endpoint_parameters.specs.Parameters.{fields_of_level, fields_of_resolved, fields_of_struct}
 use Rattle.api_registration.specs.declared.cause.RegisterCause.TheVariants as cause
 use Rattle.api_registration.specs.Accepted.{MayStandBehind}
-use Rattle.api_registration.specs.Types.{IsOpenStruct, TakesOpenStruct}
+use Rattle.endpoint_checks.specs.Types.{IsOpenStruct, TakesOpenStruct}
 use Rattle.endpoint_metadata.specs.Modes.{AskAlike, AskFor, PageNames, asked_names, first_asked}
 use Rattle.endpoint_metadata.specs.Structs.{IsStruct, fields_at, listed_fields}
 use Rattle.endpoint_metadata.specs.WellTyped.{AreWellTyped, TakesStruct}

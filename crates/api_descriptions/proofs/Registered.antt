@@ -7,7 +7,7 @@ use Rattle.handler_shapes.specs.ShapeChecks.{ShapePasses}
 use Rattle.handler_shapes.specs.ShapeLengths.{ShapeHasShortLengths}
 use Rattle.tag_config.specs.Configurations.{Configuration}
 use Rattle.api_declarations.specs.Values.{DeclarationValue}
-use Rattle.api_registration.specs.EndpointIndexes.{IsIndexed}
+use Rattle.endpoint_checks.specs.EndpointIndexes.{IsIndexed}
 use Rattle.api_registration.specs.Registering.{MayRegister}
 use Rattle.api_registration.specs.declared.cause.RegisterCause.TheVariants as cause
 use Rattle.api_registration.specs.declared.error.ApiDescriptionRegisterError.{ApiDescriptionRegisterError}

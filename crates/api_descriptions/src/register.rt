@@ -1,7 +1,7 @@
 //! Registering endpoints.
 ghost use Rattle.std.specs.Prelude.{◌≡◌, ◌++◌, ◌∷◌, [], IfNone, IfOk, IsOkUnless, MatchOption, OnErr, OnOk};
 ghost use Rattle.handler_shapes.specs.ShapeLengths.{ShapeHasShortLengths};
-ghost use Rattle.api_registration.specs.EndpointIndexes.{IsAsBefore, IsIndexed};
+ghost use Rattle.endpoint_checks.specs.EndpointIndexes.{IsAsBefore, IsIndexed};
 ghost use Rattle.api_registration.specs.Registering.{MayRegister, RefusedBy};
 ghost use Rattle.api_registration.specs.declared.error.ApiDescriptionRegisterError.{
   ApiDescriptionRegisterError as ErrorValue,

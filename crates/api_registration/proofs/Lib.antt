@@ -1,10 +1,4 @@
 pub mod FirstTold
-pub mod Configured
-pub mod Covering
-pub mod StandIns
-pub mod Indexed
-pub mod DefinitionClashes
-pub mod FoundByIndex
 pub mod Accepted
 pub mod ServedOnce
 pub mod CallerLemmas

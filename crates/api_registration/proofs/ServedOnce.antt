@@ -14,7 +14,7 @@ use Rattle.api_declarations.specs.Values.{DeclarationValue}
 use Rattle.api_declarations.proofs.CallerLemmas.{served}
 use Rattle.endpoint_parameters.proofs.CallerLemmas.{none_holds}
 use Rattle.api_registration.specs.Accepted.{MayStandBehind, WereAccepted}
-use Rattle.api_registration.specs.Clashes.{IsCalledBeside, ServesSame}
+use Rattle.endpoint_checks.specs.Clashes.{IsCalledBeside, ServesSame}
 use Rattle.api_registration.specs.declared.cause.RegisterCause.TheVariants as cause
 use Rattle.api_registration.proofs.Accepted.{behind_one}
 

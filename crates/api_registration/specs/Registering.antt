@@ -9,13 +9,13 @@ use Rattle.endpoint_parameters.specs.Parameters.{parameters}
 use Rattle.endpoint_parameters.specs.Told.{Says, SaysFirst, quoted}
 use Rattle.endpoint_parameters.specs.ParameterTypes.{MayBeAbsent, IsNoScalar, IsScalarOrRest, IsNoStringList}
 use Rattle.endpoint_parameters.specs.ParameterTypes.{IsInBoth, IsDoubled, IsNoHeaderName}
-use Rattle.api_registration.specs.Clashes.{ServesSame, DefinesOtherwise}
-use Rattle.api_registration.specs.Codes.{HasErrorAsSuccess, LacksErrorType}
-use Rattle.api_registration.specs.Paths.{HasBadTemplate, template_reason, HasBadMethod, HasVisibleWildcard}
-use Rattle.api_registration.specs.Paths.{path_wildcard, HasPathMismatch, mismatch_message, unconsumed, unspecified}
-use Rattle.api_registration.specs.Slots.{HasEarlyBody, HasBadForm, HasReadBodies, HasBadPagination}
-use Rattle.api_registration.specs.Tags.{LacksTag, LacksOnlyTag, HasUnknownTag}
-use Rattle.api_registration.specs.Types.{HasUnsupportedSchema, IsSupported}
+use Rattle.endpoint_checks.specs.Clashes.{ServesSame, DefinesOtherwise}
+use Rattle.endpoint_checks.specs.Codes.{HasErrorAsSuccess, LacksErrorType}
+use Rattle.endpoint_checks.specs.Paths.{HasBadTemplate, template_reason, HasBadMethod, HasVisibleWildcard}
+use Rattle.endpoint_checks.specs.Paths.{path_wildcard, HasPathMismatch, mismatch_message, unconsumed, unspecified}
+use Rattle.endpoint_checks.specs.Slots.{HasEarlyBody, HasBadForm, HasReadBodies, HasBadPagination}
+use Rattle.endpoint_checks.specs.Tags.{LacksTag, LacksOnlyTag, HasUnknownTag}
+use Rattle.endpoint_checks.specs.Types.{HasUnsupportedSchema, IsSupported}
 use Rattle.api_registration.specs.declared.cause.RegisterCause.{RegisterCause}
 use Rattle.api_registration.specs.declared.cause.RegisterCause.TheVariants as cause
 use Rattle.api_registration.specs.declared.error.ApiDescriptionRegisterError.{ApiDescriptionRegisterError}

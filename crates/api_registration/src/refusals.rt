@@ -7,22 +7,18 @@ ghost use Rattle.endpoint_parameters.specs.Parameters.{parameters};
 ghost use Rattle.endpoint_parameters.specs.Told.{IsTried, SaysFirst, quoted};
 ghost use Rattle.endpoint_parameters.specs.ParameterTypes.{IsNoScalar, IsNoStringList};
 ghost use Rattle.endpoint_parameters.specs.ParameterTypes.{IsScalarOrRest};
-ghost use Rattle.api_registration.specs.EndpointIndexes.{IsIndexed};
+ghost use Rattle.endpoint_checks.specs.EndpointIndexes.{IsIndexed};
 ghost use Rattle.api_registration.specs.Registering.{Clears, MayRegister, RefusedBy, Tells};
 
 use crate::cause::{CAUSES, RegisterCause};
-use crate::clashes::path_clash_told;
-use crate::codes::{bad_success_code_told, no_error_schema_told};
-use crate::definition_clashes::definition_clash_told;
 use crate::error::ApiDescriptionRegisterError;
-use crate::index::EndpointIndex;
-use crate::paths::{
-    bad_method_told, bad_template_told, mismatch_told, visible_wildcard_told, wildcard,
-};
-use crate::slots::{bad_form_told, bad_pagination_told, two_bodies_told};
-use crate::tags::{at_least_one_told, exactly_one_told, invalid_tag_told};
-use crate::types::unsupported_schema_told;
 use api_declarations::{Declaration, Declared};
+use endpoint_checks::{
+    EndpointIndex, at_least_one_told, bad_form_told, bad_method_told, bad_pagination_told,
+    bad_success_code_told, bad_template_told, definition_clash_told, exactly_one_told,
+    invalid_tag_told, mismatch_told, no_error_schema_told, path_clash_told, two_bodies_told,
+    unsupported_schema_told, visible_wildcard_told, wildcard,
+};
 use endpoint_parameters::{
     BadHeaderName, Doubled, InBoth, MayBeAbsent, NotScalar, NotStringList, Parameter, parameters,
     tell_first,

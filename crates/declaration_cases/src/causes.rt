@@ -1,6 +1,6 @@
 //! Which endpoints of a case may be registered, in order, and why others may not.
 ghost use Rattle.std.specs.Prelude.{map};
-ghost use Rattle.api_registration.specs.EndpointIndexes.{IsIndexed};
+ghost use Rattle.endpoint_checks.specs.EndpointIndexes.{IsIndexed};
 
 use crate::registered::register;
 use api_declarations::Declared;

@@ -3,7 +3,7 @@
 //! "license":{"name", "url"}}`.
 ghost use Rattle.std.specs.Prelude.{All, IsTrue, map};
 ghost use Rattle.handler_shapes.specs.ShapeChecks.{ShapePasses};
-ghost use Rattle.api_registration.specs.EndpointIndexes.{IsIndexed};
+ghost use Rattle.endpoint_checks.specs.EndpointIndexes.{IsIndexed};
 
 use crate::registered::register;
 use api_declarations::{Declaration, Declared};

@@ -1,7 +1,7 @@
 //! Endpoints that are registered one behind the other, as far as they may be, under the settings of
 //! tags of their case.
 ghost use Rattle.std.specs.Prelude.{OnOk, map};
-ghost use Rattle.api_registration.specs.EndpointIndexes.{IsIndexed};
+ghost use Rattle.endpoint_checks.specs.EndpointIndexes.{IsIndexed};
 
 use api_declarations::Declared;
 use api_registration::{ApiDescriptionRegisterError, EndpointIndex, first_cause};

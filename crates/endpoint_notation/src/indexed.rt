@@ -1,6 +1,6 @@
 //! Endpoints one behind the other, beside their index.
 ghost use Rattle.std.specs.Prelude.{OnOk, map};
-ghost use Rattle.api_registration.specs.EndpointIndexes.{IsIndexed};
+ghost use Rattle.endpoint_checks.specs.EndpointIndexes.{IsIndexed};
 
 use crate::endpoint::PlainEndpoint;
 use api_declarations::Declared;

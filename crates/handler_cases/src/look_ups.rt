@@ -1,6 +1,6 @@
 //! Which endpoint serves a template and a method at a version, by the index of the endpoints.
 ghost use Rattle.std.specs.Prelude.{OnOk, map};
-ghost use Rattle.api_registration.specs.EndpointIndexes.{IsIndexed};
+ghost use Rattle.endpoint_checks.specs.EndpointIndexes.{IsIndexed};
 
 use api_declarations::{Declared, endpoint_at};
 use api_registration::EndpointIndex;

@@ -1,5 +1,5 @@
 use Rattle.std.proofs.Common.{map}
-use Rattle.api_registration.specs.EndpointIndexes.{IsIndexed}
+use Rattle.endpoint_checks.specs.EndpointIndexes.{IsIndexed}
 use Rattle.endpoint_notation.specs.contracts.endpoint.PlainEndpointDeclared.TheImpl.{declared-value}
 use Rattle.declaration_cases.proofs.documents.register_all.Given as goal
 

@@ -1,7 +1,0 @@
-use Rattle.std.proofs.Common.{take}
-use Rattle.std.specs.Prelude.{All}
-use Rattle.api_registration.specs.Types.{TakesOpenStruct}
-use Rattle.api_registration.proofs.types.take_open_structs.Given as goal
-
-abbrev pub invariant-loop-slot : goal.invariant-loop-slot
-invariant-loop-slot l = All (TakesOpenStruct l.table) (take l.slot-index l.slots)
