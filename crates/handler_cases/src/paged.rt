@@ -5,7 +5,7 @@ use api_types::ApiType;
 use case_notation::{CaseError, Record};
 use endpoint_notation::arg_told;
 use handler_shapes::Arg;
-use page_tokens::{PaginationParams, WhichPage};
+use result_pages::{PaginationParams, WhichPage};
 use schema_values::Json;
 use std::alloc::{AllocError, Global};
 use std::num::NonZeroU32;

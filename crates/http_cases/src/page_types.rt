@@ -1,7 +1,7 @@
 //! Calls on the types of pages.
 use api_types::ApiType;
 use case_notation::{CaseError, Record, given_text, noted_desc, table_of, text_told};
-use page_tokens::{EmptyScanParams, PaginationOrder, ResultsPage};
+use result_pages::{EmptyScanParams, PaginationOrder, ResultsPage};
 use schema_values::Json;
 use std::alloc::Global;
 use typed_values::{AddError, Definition, Desc, DescTable};

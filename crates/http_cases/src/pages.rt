@@ -9,7 +9,8 @@ use case_notation::{
     tree_noted,
 };
 use http_status::HttpRefusal;
-use page_tokens::{ResultsPage, read_token};
+use page_tokens::read_token;
+use result_pages::ResultsPage;
 use schema_values::{Json, List, Text};
 use std::alloc::{AllocError, Global};
 use typed_values::{Desc, DescTable};

@@ -6,6 +6,3 @@ pub mod LevelsInOrder
 pub mod InOrder
 pub mod Held
 pub mod Again
-pub mod Orders
-pub mod Clashes
-pub mod NextPages

@@ -11,9 +11,9 @@ use Rattle.api_types.specs.Types.{FitsOne}
 use Rattle.handler_shapes.specs.declared.arguments.Arg.{Arg}
 use Rattle.handler_shapes.specs.declared.arguments.Arg.TheVariants.{Tree as OfTree, Raw, Stream}
 use Rattle.handler_shapes.specs.Arguments.{LimitFits}
-use Rattle.page_tokens.specs.declared.pagination_params.PaginationParams.{PaginationParams}
-use Rattle.page_tokens.specs.declared.pagination_params.WhichPage.{WhichPage}
-use Rattle.page_tokens.specs.declared.pagination_params.WhichPage.TheVariants.{First, Next}
+use Rattle.result_pages.specs.declared.pagination_params.PaginationParams.{PaginationParams}
+use Rattle.result_pages.specs.declared.pagination_params.WhichPage.{WhichPage}
+use Rattle.result_pages.specs.declared.pagination_params.WhichPage.TheVariants.{First, Next}
 
 -- ---- the trees of values
 

@@ -15,7 +15,7 @@ ghost use Rattle.typed_extractors.specs.PageTrees.{params_tree};
 use crate::common::{SharedExtractor, described};
 use api_types::ApiType;
 use handler_shapes::{Arg, Slot};
-use page_tokens::{PaginationParams, WhichPage};
+use result_pages::{PaginationParams, WhichPage};
 use std::alloc::{AllocError, Global};
 use std::marker::Model;
 use std::num::NonZeroU32;
@@ -29,7 +29,7 @@ pub struct PagedQuery<S, P> {
 }
 
 impl<S, P> Model for PagedQuery<S, P> {
-    ghost use Rattle.page_tokens.specs.declared.pagination_params.PaginationParams as declared;
+    ghost use Rattle.result_pages.specs.declared.pagination_params.PaginationParams as declared;
 
     ghost Value = { declared.PaginationParams S P };
 
