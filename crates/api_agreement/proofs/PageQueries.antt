@@ -18,7 +18,7 @@ use Rattle.typed_values.proofs.CallerLemmas.{ok_just}
 use Rattle.flat_maps.specs.declared.repeats.Repeats.TheVariants.{Refuse}
 use Rattle.flat_maps.specs.Flat.{fields_told, flat_fields, flat_told, looked_up, resolved, under_struct}
 use Rattle.flat_maps.specs.Pairs.{last_values, pairs_fields, pairs_told}
-use Rattle.flat_maps.specs.Texts.{number_of_text, text_told}
+use Rattle.scalar_texts.specs.Texts.{number_of_text, text_told}
 use Rattle.flat_maps.proofs.CallerLemmas.{ok_doubled, ok_fields, ok_given, resolved_row, text_row}
 use Rattle.written_texts.specs.PageParameters.{limit_field}
 use Rattle.api_extract.specs.PageQueries.{PageTypes, as_choice, behind_limit, doubled_limit, limit_told, limit_value}

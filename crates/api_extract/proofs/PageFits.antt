@@ -27,7 +27,7 @@ use Rattle.typed_values.specs.Fits.{Fits}
 use Rattle.typed_values.proofs.CallerLemmas.{denoted_fits}
 use Rattle.flat_maps.specs.declared.repeats.Repeats.TheVariants.{Last}
 use Rattle.flat_maps.specs.Pairs.{pairs_told}
-use Rattle.flat_maps.specs.Texts.{kind_name, number_in, number_of_text, number_or_fault}
+use Rattle.scalar_texts.specs.Texts.{kind_name, number_in, number_of_text, number_or_fault}
 use Rattle.flat_maps.proofs.CallerLemmas.{pairs_fit}
 use Rattle.handler_shapes.specs.declared.arguments.Arg.{Arg}
 use Rattle.handler_shapes.specs.declared.arguments.Arg.TheVariants.{Tree as OfTree}

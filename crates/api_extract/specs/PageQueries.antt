@@ -22,7 +22,7 @@ use Rattle.typed_values.specs.declared.fault.Place.TheVariants.{Name}
 use Rattle.typed_values.specs.Denotes.{Told, below, just, refused, told}
 use Rattle.flat_maps.specs.declared.repeats.Repeats.TheVariants.{Last}
 use Rattle.flat_maps.specs.Pairs.{pairs_told}
-use Rattle.flat_maps.specs.Texts.{number_of_text}
+use Rattle.scalar_texts.specs.Texts.{number_of_text}
 use Rattle.page_tokens.specs.declared.token_error.TokenError.{TokenError}
 use Rattle.page_tokens.specs.declared.token_error.TokenError.TheVariants as errors
 use Rattle.api_extract.specs.Readings.{value_read}

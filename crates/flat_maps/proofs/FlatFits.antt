@@ -33,11 +33,11 @@ use Rattle.typed_values.specs.Resting.{RestsBy, Rests}
 use Rattle.typed_values.proofs.CallerLemmas.{is_right, same_fits, fits_option, fits_list, fits_struct, fits_ref, skipped_row}
 use Rattle.flat_maps.specs.Flat.{resolved, told_item, texts_by, texts_told, given_told, fields_by, flat_fields, looked_up, fields_told, under_struct, flat_told}
 use Rattle.flat_maps.specs.Given.{Names}
-use Rattle.flat_maps.specs.Texts.{text_told}
+use Rattle.scalar_texts.specs.Texts.{text_told}
 use Rattle.flat_maps.proofs.ResolveSteps.{at_name, here}
-use Rattle.flat_maps.proofs.ScalarFits.{Gives, shown, just_gives}
-use Rattle.flat_maps.proofs.TextFits.{named_part, rests, text_gives}
-use Rattle.flat_maps.proofs.TextSteps.{text_row}
+use Rattle.scalar_texts.proofs.ScalarFits.{Gives, shown, just_gives}
+use Rattle.scalar_texts.proofs.TextFits.{named_part, rests, text_gives}
+use Rattle.scalar_texts.proofs.TextSteps.{text_row}
 
 below_ok : (place : Place) (o : Told) (t : Tree) → below place o ≡ Ok t → o ≡ Ok t
 below_ok place (Ok s) t e = e

@@ -1,13 +1,6 @@
-pub mod Steps
-pub mod TextSteps
 pub mod ResolveSteps
-pub mod Passing
-pub mod CutLemmas
-pub mod Listed
 pub mod Loops
 pub mod Arms
-pub mod ScalarFits
-pub mod TextFits
 pub mod FlatFits
 pub mod PairFits
 pub mod TextLoops

@@ -38,14 +38,14 @@ use Rattle.flat_maps.specs.Given.{Names}
 use Rattle.flat_maps.specs.MapErrors.{AnswersAs}
 use Rattle.flat_maps.specs.Maps.{map_values}
 use Rattle.flat_maps.specs.TextMaps.{TextEntry, entry_name, FieldText, WrittenTexts, text_alone, text_behind, optional_text, optional_behind, field_text, entries_with, before_rest, texts_written, in_name_order, map_by, map_behind, map_written}
-use Rattle.flat_maps.specs.Texts.{text_told}
+use Rattle.scalar_texts.specs.Texts.{text_told}
 use Rattle.flat_maps.specs.TextStructs.{IsText, IsOptionalText, IsNoneIfAbsent, IsTextField, of_text, of_option, IsTextStruct}
 use Rattle.flat_maps.proofs.Chosen.{skipped_text}
 use Rattle.flat_maps.proofs.EntryLookups.{under, lacks, under_first, under_later, under_none, under_sorted}
 use Rattle.flat_maps.proofs.FlatFits.{IsSameAs, same_as, field_part, required_desc, nullable_desc, skipped_desc, default_desc}
-use Rattle.flat_maps.proofs.TextFits.{rests, option_part}
+use Rattle.scalar_texts.proofs.TextFits.{rests, option_part}
 use Rattle.flat_maps.proofs.TextLoops.{without, written_distinct}
-use Rattle.flat_maps.proofs.TextSteps.{text_row}
+use Rattle.scalar_texts.proofs.TextSteps.{text_row}
 
 -- a text that stands in a tree
 record IsTextTree (t : Tree) (o : Option (List ℕ)) : Type 0 where

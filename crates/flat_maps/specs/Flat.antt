@@ -17,7 +17,7 @@ use Rattle.typed_values.specs.declared.fault.Place.TheVariants.{Item}
 use Rattle.typed_values.specs.Denotes.{Told, refused, below, by_presence, all_told, as_tree, items_told, room}
 use Rattle.typed_values.specs.Levels.{DescLevel}
 use Rattle.flat_maps.specs.Given.{Names}
-use Rattle.flat_maps.specs.Texts.{text_told}
+use Rattle.scalar_texts.specs.Texts.{text_told}
 
 -- a reference leads on, and any other descriptor is there
 abbrev pub resolved_by : List Definition → (Desc → Option Desc) → Desc → DescLevel → Option Desc

@@ -1,5 +1,3 @@
-pub mod Texts
-pub mod CutNumbers
 pub mod Given
 pub mod Lookups
 pub mod Flat

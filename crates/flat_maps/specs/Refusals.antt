@@ -13,7 +13,7 @@ use Rattle.descriptors.specs.declared.tree.Tree.{Tree}
 use Rattle.descriptors.specs.declared.tree.Tree.TheOpen.{Tree-F}
 use Rattle.typed_values.specs.Levels.{DescLevel, TreeOf}
 use Rattle.flat_maps.specs.Flat.{resolved}
-use Rattle.flat_maps.specs.Texts.{kind_name}
+use Rattle.scalar_texts.specs.Texts.{kind_name}
 
 -- a value of a type that is no text
 abbrev pub invalid_type : List ℕ → List ℕ

@@ -9,8 +9,8 @@ ghost use Rattle.flat_maps.specs.Flat.{IsNoneIfAbsent, fields_told, given_told, 
 ghost use Rattle.flat_maps.specs.Lookups.{given_of};
 
 use crate::given::{Given, LookUp, decode_given};
-use crate::scalars::in_some;
 use descriptors::{DescTable, Field, Presence, Tree};
+use scalar_texts::in_some;
 use schema_values::List;
 use std::alloc::Global;
 use typed_values::Stop;

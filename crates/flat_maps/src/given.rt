@@ -7,8 +7,8 @@ ghost use Rattle.flat_maps.specs.Flat.{given_told, resolved, texts_told, told_it
 ghost use Rattle.flat_maps.specs.Lookups.{given_of};
 
 use crate::resolve::resolve;
-use crate::texts::tree_of_text;
 use descriptors::{Desc, DescTable, Tree};
+use scalar_texts::tree_of_text;
 use schema_values::{List, Text};
 use std::alloc::{AllocError, Global};
 use typed_values::{FaultKind, Place, Stop, is_length_within};

@@ -9,10 +9,10 @@ ghost use Rattle.typed_values.specs.Checks.{TablePasses, DescPasses};
 ghost use Rattle.flat_maps.specs.MapErrors.{Refuses};
 ghost use Rattle.flat_maps.specs.Refusals as refusals;
 
-use crate::kinds::kind_name;
 use crate::map_error::MapError;
 use crate::resolve::resolve;
 use descriptors::{Desc, DescTable, IntKind, Tree, Variant};
+use scalar_texts::kind_name;
 use schema_values::Json;
 use std::alloc::Global;
 

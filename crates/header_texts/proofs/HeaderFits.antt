@@ -19,7 +19,7 @@ use Rattle.typed_values.specs.Denotes.{Told, below, if_present, by_presence, and
 use Rattle.typed_values.specs.Faults.{Trouble}
 use Rattle.typed_values.specs.Fits.{Fits}
 use Rattle.flat_maps.specs.Flat.{resolved, fields_told, flat_fields, given_told, looked_up, under_struct, FlatDenotes}
-use Rattle.flat_maps.specs.Texts.{text_told}
+use Rattle.scalar_texts.specs.Texts.{text_told}
 use Rattle.flat_maps.proofs.CallerLemmas.{flat_fits}
 use Rattle.header_texts.specs.HeaderTexts.{line_told, header_told, shown_names, HeadersDenote}
 

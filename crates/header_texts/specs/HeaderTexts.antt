@@ -14,7 +14,7 @@ use Rattle.typed_values.specs.declared.fault.FaultKind.TheVariants.{HeaderBytes}
 use Rattle.typed_values.specs.Denotes.{Told, if_holds}
 use Rattle.flat_maps.specs.Flat.{resolved, fields_told, flat_fields, under_struct}
 use Rattle.flat_maps.specs.Given.{Names}
-use Rattle.flat_maps.specs.Texts.{text_told}
+use Rattle.scalar_texts.specs.Texts.{text_told}
 
 -- what the value of a line denotes under a field's type: its bytes are the characters of a text, and each is a visible
 -- character, a space or a tab

@@ -21,8 +21,8 @@ use Rattle.typed_values.specs.Levels.{DescLevel}
 use Rattle.typed_values.specs.Resting.{RestsBy, Rests}
 use Rattle.typed_values.specs.SchemaTable.{Drawn, Remarks, annotations, described, drawn, drawn_json, enumerated, choices_of, is_described, plain, reference, schema_json_described}
 use Rattle.typed_values.proofs.CallerLemmas.{ok_just, names_apart, IsNeeded, needed_part, option_needed, reference_reached, reference_needed, is_right}
-use Rattle.flat_maps.specs.Texts.{text_told, name_of_text}
-use Rattle.flat_maps.proofs.TextSteps.{text_row}
+use Rattle.scalar_texts.specs.Texts.{text_told, name_of_text}
+use Rattle.scalar_texts.proofs.TextSteps.{text_row}
 use Rattle.written_schemas.specs.Reached.{DefinesReached}
 use Rattle.written_schemas.proofs.Costs.{cost_after, cost_by, cost}
 use Rattle.written_schemas.proofs.Enumerations.{enumerated_is}

@@ -32,8 +32,8 @@ use Rattle.typed_values.proofs.CallerLemmas.{ok_just}
 use Rattle.flat_maps.specs.declared.repeats.Repeats.TheVariants.{Refuse}
 use Rattle.flat_maps.specs.Flat.{resolved_at, resolved_by, resolved, under_struct, flat_fields, flat_told, FlatDenotes}
 use Rattle.flat_maps.specs.Pairs.{last_values, pairs_fields, pairs_told}
-use Rattle.flat_maps.specs.Texts.{text_told}
-use Rattle.flat_maps.proofs.TextSteps.{text_row}
+use Rattle.scalar_texts.specs.Texts.{text_told}
+use Rattle.scalar_texts.proofs.TextSteps.{text_row}
 use Rattle.written_schemas.proofs.Forms.{drawn_row}
 use Rattle.written_schemas.proofs.Sorted.{all_sorted, any_sorted}
 use Rattle.written_texts.specs.FieldParameters.{parameter_of}

@@ -26,7 +26,7 @@ use Rattle.flat_maps.specs.declared.repeats.Repeats.TheVariants.{Refuse}
 use Rattle.flat_maps.specs.Flat.{resolved_at, resolved, texts_told, given_told, fields_told, looked_up}
 use Rattle.flat_maps.specs.Maps.{map_values}
 use Rattle.flat_maps.specs.Pairs.{last_values, pairs_fields}
-use Rattle.flat_maps.specs.Texts.{text_told}
+use Rattle.scalar_texts.specs.Texts.{text_told}
 use Rattle.written_texts.specs.FieldParameters.{is_required, AllRequired}
 use Rattle.header_texts.specs.HeaderTexts.{line_told, header_told}
 use Rattle.handler_shapes.specs.ScalarTypes.{IsScalarType, a_truth, a_character, a_number, a_text, a_name, an_option, a_reference}

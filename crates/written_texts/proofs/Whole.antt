@@ -14,8 +14,8 @@ use Rattle.typed_values.specs.Parts.{the_whole, of_whole as part_of_whole}
 use Rattle.typed_values.specs.Schemas.{in_header, in_query}
 use Rattle.typed_values.specs.SchemaTable.{Remarks, drawn, drawn_json, defaulted, described, schema_json, schema_json_titled, schema_json_described}
 use Rattle.typed_values.proofs.CallerLemmas.{ok_just, of_whole, option_needed, guarded_rests}
-use Rattle.flat_maps.specs.Texts.{text_told}
-use Rattle.flat_maps.proofs.TextSteps.{text_row}
+use Rattle.scalar_texts.specs.Texts.{text_told}
+use Rattle.scalar_texts.proofs.TextSteps.{text_row}
 use Rattle.written_schemas.specs.Written.{IsWritten}
 use Rattle.written_schemas.proofs.Notes.{noted}
 use Rattle.written_schemas.proofs.Rooms.{cost_bounded}

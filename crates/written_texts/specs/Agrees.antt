@@ -5,7 +5,7 @@ use Rattle.openapi_values.specs.TextAdmits.{TextAdmits}
 use Rattle.descriptors.specs.declared.desc.Desc.{Desc}
 use Rattle.descriptors.specs.declared.table.Definition.{Definition}
 use Rattle.descriptors.specs.declared.tree.Tree.{Tree}
-use Rattle.flat_maps.specs.Texts.{TextDenotes}
+use Rattle.scalar_texts.specs.Texts.{TextDenotes}
 
 -- a schema admits exactly the texts that denote a tree, of any characters and of numbers of any size
 abbrev pub AdmitsTexts : Json → Json → List Definition → Desc → Type 0

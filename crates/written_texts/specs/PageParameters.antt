@@ -19,7 +19,7 @@ use Rattle.descriptors.specs.Definitions.{field_name}
 use Rattle.typed_values.specs.Schemas.{in_query}
 use Rattle.flat_maps.specs.declared.repeats.Repeats.TheVariants.{Refuse}
 use Rattle.flat_maps.specs.Pairs.{PairsDenote}
-use Rattle.flat_maps.specs.Texts.{number_in}
+use Rattle.scalar_texts.specs.Texts.{number_in}
 use Rattle.written_texts.specs.FieldParameters.{is_required, parameter_of, AllHold}
 
 -- a field as it is listed in a query, but not required

@@ -6,7 +6,7 @@ ghost use Rattle.descriptors.specs.declared.tree.Tree.{Tree};
 ghost use Rattle.typed_values.specs.Answer.{Tells, IfFault, IsFaultOf};
 ghost use Rattle.typed_values.specs.Checks.{TablePasses, DescPasses};
 ghost use Rattle.typed_values.specs.Fits.{Fits};
-ghost use Rattle.flat_maps.specs.Texts.{TextDenotes, text_told};
+ghost use Rattle.scalar_texts.specs.Texts.{TextDenotes, text_told};
 
 use crate::numbers::number_of_text;
 use crate::scalars::{character_of_text, in_some, name_of_text, truth_of_text, words_of_text};

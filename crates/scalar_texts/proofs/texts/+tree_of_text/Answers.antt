@@ -3,11 +3,11 @@ use Rattle.std.specs.Str.{chars}
 use Rattle.descriptors.specs.declared.desc.Desc.{out-Desc}
 use Rattle.descriptors.specs.declared.desc.Desc.TheVariants as desc
 use Rattle.typed_values.specs.Denotes.{at_definition}
-use Rattle.flat_maps.specs.Texts.{text_told}
-use Rattle.flat_maps.proofs.Passing.{option_passes, definition_passes, few_names}
-use Rattle.flat_maps.proofs.Steps.{fewer_inside, fewer_behind}
-use Rattle.flat_maps.proofs.TextSteps.{text_row, no_text}
-use Rattle.flat_maps.proofs.texts.+tree_of_text.Goals as goal
+use Rattle.scalar_texts.specs.Texts.{text_told}
+use Rattle.scalar_texts.proofs.Passing.{option_passes, definition_passes, few_names}
+use Rattle.scalar_texts.proofs.Steps.{fewer_inside, fewer_behind}
+use Rattle.scalar_texts.proofs.TextSteps.{text_row, no_text}
+use Rattle.scalar_texts.proofs.texts.+tree_of_text.Goals as goal
 
 pub name_of_text-requires : goal.name_of_text-requires
 name_of_text-requires t c = rw c.as_slice.ensures (few_names c.args.table.now c.requires.1.1.0 c.args.desc.now c.requires.1.1.1 c.in-Enumeration.names c.in-Enumeration.is)

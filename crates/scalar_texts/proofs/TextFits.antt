@@ -18,9 +18,9 @@ use Rattle.typed_values.specs.Levels.{DescLevel}
 use Rattle.typed_values.specs.Parts.{the_whole, in_option, StandsIn, IsPart, of_whole, of_table}
 use Rattle.typed_values.specs.Resting.{RestsBy, Rests}
 use Rattle.typed_values.proofs.CallerLemmas.{guarded_rests, fits_bool, fits_char, fits_int, fits_text, fits_enumeration, fits_option, fits_ref, nought_row}
-use Rattle.flat_maps.specs.Texts.{text_told, TextDenotes}
-use Rattle.flat_maps.proofs.ScalarFits.{Gives, truth_gives, number_gives, words_give, character_gives, name_gives, just_gives}
-use Rattle.flat_maps.proofs.TextSteps.{text_row}
+use Rattle.scalar_texts.specs.Texts.{text_told, TextDenotes}
+use Rattle.scalar_texts.proofs.ScalarFits.{Gives, truth_gives, number_gives, words_give, character_gives, name_gives, just_gives}
+use Rattle.scalar_texts.proofs.TextSteps.{text_row}
 
 -- what a part is made of, or what it refers to, is a part
 pub option_part : {table : List Definition} {whole d : Desc} (x : Desc) → IsPart table whole d → out-Desc d ≡ Desc-F.Option x → IsPart table whole x

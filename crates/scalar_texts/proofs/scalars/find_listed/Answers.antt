@@ -1,8 +1,8 @@
 use Rattle.std.proofs.Common.{refl, sym, ◌∙◌, arith}
 use Rattle.std.specs.Str.{chars}
 use Rattle.descriptors.specs.Definitions.{listed_name}
-use Rattle.flat_maps.proofs.Listed.{found_here, found_behind}
-use Rattle.flat_maps.proofs.scalars.find_listed.Goals as goal
+use Rattle.scalar_texts.proofs.Listed.{found_here, found_behind}
+use Rattle.scalar_texts.proofs.scalars.find_listed.Goals as goal
 
 pub returns-then-equals_str : goal.returns-then-equals_str
 returns-then-equals_str c =

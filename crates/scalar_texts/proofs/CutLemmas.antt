@@ -14,8 +14,8 @@ use Rattle.typed_values.specs.Bounds.{least_of, greatest_of, is_at_least, is_at_
 use Rattle.typed_values.specs.Denotes.{Told, if_holds}
 use Rattle.request_words.specs.CutNumbers.{cut}
 use Rattle.request_words.specs.Numbers.{digits_number, has_minus, without_sign, signed}
-use Rattle.flat_maps.specs.CutNumbers.{cut_in}
-use Rattle.flat_maps.specs.Texts.{has_no_sign, kind_name, number_or_fault, number_of_text}
+use Rattle.scalar_texts.specs.CutNumbers.{cut_in}
+use Rattle.scalar_texts.specs.Texts.{has_no_sign, kind_name, number_or_fault, number_of_text}
 
 too_large : (g c : ℕ) → g < c → int_le (pos c) (pos g) ≡ false
 too_large g c h = false_from_ne_true _ (λ e. let under = leb-true c g e in omega (arith, h, under))

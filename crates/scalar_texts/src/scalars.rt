@@ -7,7 +7,7 @@ ghost use Rattle.descriptors.specs.Definitions.{listed_name};
 ghost use Rattle.typed_values.specs.declared.fault.FaultKind.TheVariants.{BadText};
 ghost use Rattle.typed_values.specs.Answer.{Tells};
 ghost use Rattle.typed_values.specs.Denotes.{Told, refused, just, named_from};
-ghost use Rattle.flat_maps.specs.Texts as texts;
+ghost use Rattle.scalar_texts.specs.Texts as texts;
 
 use descriptors::{Named, Tree};
 use request_words::is_str_word;
@@ -98,7 +98,7 @@ fn find_listed<'a>(names: &'a [Named], text: &str) -> Option<(usize, &'a Named)>
 }
 
 /// What an answer gives under an option: a fault stays as it is.
-pub(crate) fn in_some(alloc: Global, answer: Result<Tree, Stop>) -> Result<Tree, Stop>
+pub fn in_some(alloc: Global, answer: Result<Tree, Stop>) -> Result<Tree, Stop>
     ensures { (told : Told) → Tells answer told → Tells result (just told) }
 {
     Ok(Tree::Some(Boxed::new(alloc, answer?)?))

@@ -14,8 +14,8 @@ use Rattle.typed_values.specs.Denotes.{Told, just, at_definition, refused}
 use Rattle.typed_values.specs.Guarded.{IsGuarded}
 use Rattle.typed_values.specs.Levels.{DescLevel}
 use Rattle.typed_values.specs.Resting.{RestsBy}
-use Rattle.flat_maps.specs.Texts.{text_by, text_at, text_told}
-use Rattle.flat_maps.proofs.Steps.{row}
+use Rattle.scalar_texts.specs.Texts.{text_by, text_at, text_told}
+use Rattle.scalar_texts.proofs.Steps.{row}
 
 module _ (table : List Definition) (text : List ℕ) where
   abbrev by : (Desc → Told) → Desc → DescLevel → Told

@@ -3,7 +3,7 @@ use Rattle.std.specs.Prelude.{ℤ, ℕ, List, Option, None, ◌&&◌, if◌then�
 use Rattle.request_words.specs.CutNumbers.{cut_number_of}
 use Rattle.request_words.specs.Numbers.{has_minus}
 use Rattle.descriptors.specs.declared.desc.IntKind.{IntKind}
-use Rattle.flat_maps.specs.Texts.{has_no_sign}
+use Rattle.scalar_texts.specs.Texts.{has_no_sign}
 
 -- none where a minus stands before a number of a kind that has no sign
 abbrev pub cut_in : IntKind → List ℕ → Option ℤ

@@ -1,8 +1,8 @@
 use Rattle.std.proofs.Common.{sym, arith}
 use Rattle.std.specs.Str.{chars}
 use Rattle.descriptors.specs.Definitions.{listed_name}
-use Rattle.flat_maps.proofs.Listed.{place_below}
-use Rattle.flat_maps.proofs.scalars.name_of_text.Goals as goal
+use Rattle.scalar_texts.proofs.Listed.{place_below}
+use Rattle.scalar_texts.proofs.scalars.name_of_text.Goals as goal
 
 pub overflow_cast-result : goal.overflow_cast-result
 overflow_cast-result c =

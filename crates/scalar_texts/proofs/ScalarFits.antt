@@ -14,8 +14,8 @@ use Rattle.typed_values.specs.Denotes.{Told, refused, if_holds, just, where_foun
 use Rattle.typed_values.specs.Fits.{truth_fits, number_fits, words_fit, character_fits, name_fits, option_fits}
 use Rattle.typed_values.specs.Levels.{TreeOf}
 use Rattle.typed_values.proofs.CallerLemmas.{place_row}
-use Rattle.flat_maps.specs.Texts.{truth_of_text, kind_name, number_in, number_or_fault, number_of_text, words_of_text, character_of_text, name_of_text}
-use Rattle.flat_maps.proofs.Listed.{place_below}
+use Rattle.scalar_texts.specs.Texts.{truth_of_text, kind_name, number_in, number_or_fault, number_of_text, words_of_text, character_of_text, name_of_text}
+use Rattle.scalar_texts.proofs.Listed.{place_below}
 
 -- each tree that is told passes
 abbrev pub Gives : Told → (Tree → Bool) → Type 0

@@ -1,12 +1,12 @@
 // The kinds of whole numbers, as texts of faults name them.
 ghost use Rattle.std.specs.Prelude.{◌≡◌, IsTrue};
 ghost use Rattle.schema_values.specs.Ascii.{all_ascii};
-ghost use Rattle.flat_maps.specs.Texts as texts;
+ghost use Rattle.scalar_texts.specs.Texts as texts;
 
 use descriptors::IntKind;
 
 /// The name of a kind of numbers.
-pub(crate) fn kind_name(kind: IntKind) -> &'static str
+pub fn kind_name(kind: IntKind) -> &'static str
     ensures name { result.now ≡ texts.kind_name kind }
     ensures ascii { IsTrue (all_ascii result.now) }
 {

@@ -2,8 +2,8 @@
 ghost use Rattle.std.specs.Prelude.{◌≡◌, Some};
 ghost use Rattle.std.specs.Str.{chars};
 ghost use Rattle.typed_values.specs.Answer.{Tells};
-ghost use Rattle.flat_maps.specs.CutNumbers.{cut_in};
-ghost use Rattle.flat_maps.specs.Texts as texts;
+ghost use Rattle.scalar_texts.specs.CutNumbers.{cut_in};
+ghost use Rattle.scalar_texts.specs.Texts as texts;
 
 use crate::kinds::{has_no_sign, kind_name};
 use crate::scalars::bad_text;
