@@ -16,11 +16,11 @@ use Rattle.api_documents.specs.Lists.{IsListed}
 use Rattle.api_agreement.specs.Agreement.{Agrees}
 use Rattle.api_endpoints.specs.Endpoints.{Meanings, declaration_of, declarations_of}
 use Rattle.api_endpoints.specs.declared.endpoint.ApiEndpoint.{ApiEndpoint}
-use Rattle.api_exchanges.specs.Denoting.{IsDenoting, IsValid, WasHandled}
-use Rattle.api_exchanges.specs.Exchanges.{Answers, AreServable, Asked, IsHandled, limit_of, named_by, sent_by}
-use Rattle.api_exchanges.specs.declared.outcome.Exchange.{Exchange}
-use Rattle.api_exchanges.specs.declared.outcome.Exchange.TheVariants.{Handled}
-use Rattle.api_exchanges.specs.declared.outcome.ExchangeError.{ExchangeError}
+use Rattle.endpoint_answers.specs.Denoting.{IsDenoting, IsValid, WasHandled}
+use Rattle.endpoint_answers.specs.Exchanges.{Answers, AreServable, Asked, IsHandled, limit_of, named_by, sent_by}
+use Rattle.endpoint_answers.specs.declared.outcome.Exchange.{Exchange}
+use Rattle.endpoint_answers.specs.declared.outcome.Exchange.TheVariants.{Handled}
+use Rattle.endpoint_answers.specs.declared.outcome.ExchangeError.{ExchangeError}
 use Rattle.api_exchanges.proofs.CallerLemmas.{AnswersHaveCauses, handled_as_denoted}
 use Rattle.api_descriptions.specs.Agreement.{FollowsDocument, IsAnsweredBy, IsValidFor}
 

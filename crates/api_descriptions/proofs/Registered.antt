@@ -13,7 +13,7 @@ use Rattle.api_registration.specs.declared.cause.RegisterCause.TheVariants as ca
 use Rattle.api_registration.specs.declared.error.ApiDescriptionRegisterError.{ApiDescriptionRegisterError}
 use Rattle.api_endpoints.specs.Endpoints.{Meanings, declaration_of, declarations_of}
 use Rattle.api_endpoints.specs.declared.endpoint.ApiEndpoint.{ApiEndpoint}
-use Rattle.api_exchanges.specs.Exchanges.{AreServable, IsServable}
+use Rattle.endpoint_answers.specs.Exchanges.{AreServable, IsServable}
 use Rattle.api_registration.specs.Accepted.{AreAccepted, AreRegistered, MayStandBehind}
 use Rattle.api_descriptions.specs.Ready.{IsReady}
 use Rattle.api_descriptions.specs.Refusals.{IsFirstRefused}

@@ -13,11 +13,11 @@ use Rattle.api_documents.specs.Lists.{IsListed}
 use Rattle.api_agreement.specs.Agreement.{IsAdmitted, SendsNoToken}
 use Rattle.api_endpoints.specs.Endpoints.{Meanings, declaration_of, declarations_of}
 use Rattle.api_endpoints.specs.declared.endpoint.ApiEndpoint.{ApiEndpoint}
-use Rattle.api_exchanges.specs.Denoting.{IsDenoting, IsOutcomeCutShort, IsValid, WasHandled}
-use Rattle.api_exchanges.specs.Exchanges.{Asked, IsHandled, named_by, sent_by}
-use Rattle.api_exchanges.specs.declared.outcome.Exchange.{Exchange}
-use Rattle.api_exchanges.specs.declared.outcome.Exchange.TheVariants.{Handled}
-use Rattle.api_exchanges.specs.declared.outcome.ExchangeError.{ExchangeError}
+use Rattle.endpoint_answers.specs.Denoting.{IsDenoting, IsOutcomeCutShort, IsValid, WasHandled}
+use Rattle.endpoint_answers.specs.Exchanges.{Asked, IsHandled, named_by, sent_by}
+use Rattle.endpoint_answers.specs.declared.outcome.Exchange.{Exchange}
+use Rattle.endpoint_answers.specs.declared.outcome.Exchange.TheVariants.{Handled}
+use Rattle.endpoint_answers.specs.declared.outcome.ExchangeError.{ExchangeError}
 
 -- The request names the endpoint of which this is said. Where it is handled, the response encodes a reply that the
 -- endpoint's handler allows on the arguments that the request denotes.

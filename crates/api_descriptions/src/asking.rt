@@ -4,10 +4,10 @@ ghost use Rattle.http_bodies.specs.Bodies.{frames_of, never_failing, state_of};
 ghost use Rattle.http_bodies.specs.Sources.{GoesOn, HasFailed};
 ghost use Rattle.body_reading.specs.Whole.{TakesAtMost};
 ghost use Rattle.api_endpoints.specs.Endpoints.{boxed};
-ghost use Rattle.api_exchanges.specs.BodyReads.{ReadsBodyFor};
-ghost use Rattle.api_exchanges.specs.Denoting.{IsFault, IsHandledAsDenoted, IsHandledOrRefused};
-ghost use Rattle.api_exchanges.specs.Denoting.{IsOutcomeCutShort, WasHandled};
-ghost use Rattle.api_exchanges.specs.Exchanges.{Answers, TakesBody, asked, called};
+ghost use Rattle.endpoint_answers.specs.BodyReads.{ReadsBodyFor};
+ghost use Rattle.endpoint_answers.specs.Denoting.{IsFault, IsHandledAsDenoted, IsHandledOrRefused};
+ghost use Rattle.endpoint_answers.specs.Denoting.{IsOutcomeCutShort, WasHandled};
+ghost use Rattle.endpoint_answers.specs.Exchanges.{Answers, TakesBody, asked, called};
 ghost use Rattle.api_exchanges.specs.SourceExchanges.{AnswersFrom, StreamsBody};
 ghost use Rattle.api_descriptions.specs.Ready.{IsReady};
 

@@ -11,12 +11,12 @@ ghost use Rattle.api_documents.specs.Listed.{listed};
 ghost use Rattle.api_documents.specs.Lists.{IsListed, Lists, ListsWritten};
 ghost use Rattle.api_descriptions.specs.Agreement.{FollowsDocument};
 ghost use Rattle.api_endpoints.specs.Endpoints.{boxed, declarations_of};
-ghost use Rattle.api_exchanges.specs.Denoting.{IsHandledAsDenoted, IsHandledOrRefused};
-ghost use Rattle.api_exchanges.specs.Exchanges.{Answers, Asked};
+ghost use Rattle.endpoint_answers.specs.Denoting.{IsHandledAsDenoted, IsHandledOrRefused};
+ghost use Rattle.endpoint_answers.specs.Exchanges.{Answers, Asked};
 ghost use Rattle.api_descriptions.specs.Ready.{IsReady};
 ghost use Rattle.api_descriptions.specs.Written.{document_at};
-ghost use Rattle.api_exchanges.specs.declared.outcome.Exchange.{Exchange as ExchangeValue};
-ghost use Rattle.api_exchanges.specs.declared.outcome.ExchangeError.{ExchangeError as ErrorValue};
+ghost use Rattle.endpoint_answers.specs.declared.outcome.Exchange.{Exchange as ExchangeValue};
+ghost use Rattle.endpoint_answers.specs.declared.outcome.ExchangeError.{ExchangeError as ErrorValue};
 
 use crate::description::ApiDescription;
 use api_agreement::{accepted_agree, accepted_are_listed, accepted_may_be_listed};

@@ -7,18 +7,12 @@ use Rattle.api_extract.specs.Denotes.{GivenArgs}
 use Rattle.api_extract.specs.Extraction.{AsksForBody, ReadsFor}
 use Rattle.api_endpoints.specs.Endpoints.{Meanings, shape_at}
 use Rattle.api_endpoints.specs.declared.endpoint.ApiEndpoint.{ApiEndpoint}
-use Rattle.api_exchanges.specs.BodyReads.{BodyReadFor, ReadsBodyFor, TellsAsGiven}
-use Rattle.api_exchanges.specs.Exchanges.{Call, IsUnreached, Reaches, limit_at}
-use Rattle.api_exchanges.specs.declared.outcome.Exchange.{Exchange}
-use Rattle.api_exchanges.specs.declared.outcome.ExchangeError.{ExchangeError}
-use Rattle.api_exchanges.specs.declared.outcome.ExchangeError.TheVariants as failed
+use Rattle.endpoint_answers.specs.BodyReads.{BodyReadFor, ReadsBodyFor, TellsAsGiven}
+use Rattle.endpoint_answers.specs.Exchanges.{Call, IsUnreached, Reaches, limit_at}
+use Rattle.endpoint_answers.specs.declared.outcome.Exchange.{Exchange}
+use Rattle.endpoint_answers.specs.declared.outcome.ExchangeError.{ExchangeError}
+use Rattle.endpoint_answers.specs.declared.outcome.ExchangeError.TheVariants as failed
 use Rattle.api_exchanges.proofs.Reached.{reached_once}
-
--- what is told of frames as something is given is told as what equals it is given
-pub reads_by : (given other : GivenArgs) → given ≡ other → (limit budget : ℕ) (old new : Option (List Frame))
-    → ReadsFor limit budget old new given → ReadsFor limit budget old new other
-reads_by given other is limit budget old new reads =
-    subst (λ (r : GivenArgs). ReadsFor limit budget old new r) is reads
 
 module _ {X : Type 0} {F : X → Type 0} (m : Meanings X F) (endpoints : List (ApiEndpoint X F)) (call : Call)
     (budget : ℕ) (old new : Option (List Frame)) where

@@ -7,13 +7,13 @@ use Rattle.handler_shapes.specs.declared.arguments.Arg.{Arg}
 use Rattle.api_extract.specs.declared.extract_error.ExtractError.{ExtractError}
 use Rattle.api_endpoints.specs.Endpoints.{Meanings, declaration_of, shape_at}
 use Rattle.api_endpoints.specs.declared.endpoint.ApiEndpoint.{ApiEndpoint}
-use Rattle.api_exchanges.specs.Denoting.{IsOutcomeCutShort, IsDenoting, IsHandledAsDenoted, IsValid, WasHandled}
-use Rattle.api_exchanges.specs.Exchanges.{Answers, AreServable, Asked, HasVariables, IsGivenArgs, IsServable}
-use Rattle.api_exchanges.specs.Exchanges.{given_at, named_by, terms_at}
-use Rattle.api_exchanges.specs.declared.outcome.Exchange.{Exchange}
-use Rattle.api_exchanges.specs.declared.outcome.Exchange.TheVariants.{Handled, Refused}
-use Rattle.api_exchanges.specs.declared.outcome.ExchangeError.{ExchangeError}
-use Rattle.api_exchanges.specs.declared.outcome.ExchangeError.TheVariants as failed
+use Rattle.endpoint_answers.specs.Denoting.{IsOutcomeCutShort, IsDenoting, IsHandledAsDenoted, IsValid, WasHandled}
+use Rattle.endpoint_answers.specs.Exchanges.{Answers, AreServable, Asked, HasVariables, IsGivenArgs, IsServable}
+use Rattle.endpoint_answers.specs.Exchanges.{given_at, named_by, terms_at}
+use Rattle.endpoint_answers.specs.declared.outcome.Exchange.{Exchange}
+use Rattle.endpoint_answers.specs.declared.outcome.Exchange.TheVariants.{Handled, Refused}
+use Rattle.endpoint_answers.specs.declared.outcome.ExchangeError.{ExchangeError}
+use Rattle.endpoint_answers.specs.declared.outcome.ExchangeError.TheVariants as failed
 use Rattle.api_exchanges.proofs.Causes.{AnswersHaveCauses}
 use Rattle.api_exchanges.proofs.Reached.{found_all, none_named}
 

@@ -15,8 +15,8 @@ use Rattle.api_extract.specs.declared.extract_error.ExtractError.{ExtractError}
 use Rattle.api_extract.specs.declared.extract_error.ExtractError.TheVariants as errors
 use Rattle.api_extract.specs.Denotes.{GivenArgs, terms}
 use Rattle.api_extract.specs.Extraction.{AsksForBody, ComesFrom, IsOfReading, shared_told, takes_stream}
-use Rattle.api_exchanges.specs.Answering.{IsGivenBy}
-use Rattle.api_exchanges.specs.Exchanges.{Call, asked}
+use Rattle.endpoint_answers.specs.Answering.{IsGivenBy}
+use Rattle.endpoint_answers.specs.Exchanges.{Call, asked}
 use Rattle.api_exchanges.proofs.Causes.{AnswersHaveCauses, caused_by}
 
 -- What came of a source, as a body: it can fail where a call on the source failed.

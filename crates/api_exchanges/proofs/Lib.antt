@@ -1,7 +1,5 @@
 pub mod Causes
-mod Rows
 mod Reached
-mod Replied
 mod Given
 mod BodyReads
 pub mod Denoted

@@ -15,11 +15,11 @@ use Rattle.api_extract.specs.Extraction.{shared_told}
 use Rattle.api_declarations.proofs.CallerLemmas.{served}
 use Rattle.api_endpoints.specs.Endpoints.{Meanings, declaration_of, shape_at}
 use Rattle.api_endpoints.specs.declared.endpoint.ApiEndpoint.{ApiEndpoint}
-use Rattle.api_exchanges.specs.Exchanges.{Answers, Asked, EndpointAnswers, HasId, IsUnreached, Reaches}
-use Rattle.api_exchanges.specs.Exchanges.{ServesRequest, TakesBody, named_by}
-use Rattle.api_exchanges.specs.declared.outcome.Exchange.{Exchange}
-use Rattle.api_exchanges.specs.declared.outcome.ExchangeError.{ExchangeError}
-use Rattle.api_exchanges.specs.declared.outcome.ExchangeError.TheVariants as failed
+use Rattle.endpoint_answers.specs.Exchanges.{Answers, Asked, EndpointAnswers, HasId, IsUnreached, Reaches}
+use Rattle.endpoint_answers.specs.Exchanges.{ServesRequest, TakesBody, named_by}
+use Rattle.endpoint_answers.specs.declared.outcome.Exchange.{Exchange}
+use Rattle.endpoint_answers.specs.declared.outcome.ExchangeError.{ExchangeError}
+use Rattle.endpoint_answers.specs.declared.outcome.ExchangeError.TheVariants as failed
 
 -- what holds of each thing holds of the one that is found
 pub found_all : {A : Type 0} (Holds : A → Type 0) (test : A → Bool) (xs : List A) (x : A)

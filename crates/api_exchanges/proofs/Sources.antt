@@ -14,14 +14,14 @@ use Rattle.api_extract.specs.Denotes.{GivenArgs}
 use Rattle.api_extract.specs.Extraction.{takes_stream}
 use Rattle.api_endpoints.specs.Endpoints.{Meanings, shape_at}
 use Rattle.api_endpoints.specs.declared.endpoint.ApiEndpoint.{ApiEndpoint}
-use Rattle.api_exchanges.specs.Answering.{IsGiven}
-use Rattle.api_exchanges.specs.Denoting.{IsFault, WasHandled}
-use Rattle.api_exchanges.specs.Exchanges.{AreServable, Asked, Call, EndpointAnswers, IsUnreached, Reaches, asked}
-use Rattle.api_exchanges.specs.Exchanges.{limit_at}
+use Rattle.endpoint_answers.specs.Answering.{IsGiven}
+use Rattle.endpoint_answers.specs.Denoting.{IsFault, WasHandled}
+use Rattle.endpoint_answers.specs.Exchanges.{AreServable, Asked, Call, EndpointAnswers, IsUnreached, Reaches, asked}
+use Rattle.endpoint_answers.specs.Exchanges.{limit_at}
 use Rattle.api_exchanges.specs.SourceExchanges.{AnswersFrom, StreamsBody}
-use Rattle.api_exchanges.specs.declared.outcome.Exchange.{Exchange}
-use Rattle.api_exchanges.specs.declared.outcome.ExchangeError.{ExchangeError}
-use Rattle.api_exchanges.specs.declared.outcome.ExchangeError.TheVariants as failed
+use Rattle.endpoint_answers.specs.declared.outcome.Exchange.{Exchange}
+use Rattle.endpoint_answers.specs.declared.outcome.ExchangeError.{ExchangeError}
+use Rattle.endpoint_answers.specs.declared.outcome.ExchangeError.TheVariants as failed
 use Rattle.api_exchanges.proofs.Causes.{AnswersHaveCauses}
 use Rattle.api_exchanges.proofs.Denoted.{handled_as_denoted}
 use Rattle.api_exchanges.proofs.Given.{IsGivenFrom}

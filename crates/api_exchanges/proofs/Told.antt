@@ -12,11 +12,11 @@ use Rattle.body_reading.proofs.CallerLemmas.{cause_whole, whole_read}
 use Rattle.tree_store.specs.Tables.{Tables}
 use Rattle.api_endpoints.specs.Endpoints.{Meanings, declaration_of}
 use Rattle.api_endpoints.specs.declared.endpoint.ApiEndpoint.{ApiEndpoint}
-use Rattle.api_exchanges.specs.Denoting.{IsHandledOrRefused, IsOutcomeCutShort, IsValid}
-use Rattle.api_exchanges.specs.Exchanges.{Answers, Asked, HasLargeBody, HasManyFrames, HasVariables, limit_at, named_by}
-use Rattle.api_exchanges.specs.declared.outcome.Exchange.{Exchange}
-use Rattle.api_exchanges.specs.declared.outcome.ExchangeError.{ExchangeError}
-use Rattle.api_exchanges.specs.declared.outcome.ExchangeError.TheVariants as failed
+use Rattle.endpoint_answers.specs.Denoting.{IsHandledOrRefused, IsOutcomeCutShort, IsValid}
+use Rattle.endpoint_answers.specs.Exchanges.{Answers, Asked, HasLargeBody, HasManyFrames, HasVariables, limit_at, named_by}
+use Rattle.endpoint_answers.specs.declared.outcome.Exchange.{Exchange}
+use Rattle.endpoint_answers.specs.declared.outcome.ExchangeError.{ExchangeError}
+use Rattle.endpoint_answers.specs.declared.outcome.ExchangeError.TheVariants as failed
 use Rattle.api_exchanges.proofs.Reached.{none_named}
 
 -- frames within a budget, whose content is within a limit, have no cause for an error

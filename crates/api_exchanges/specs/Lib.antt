@@ -1,5 +1,1 @@
-pub mod Exchanges
-pub mod BodyReads
-pub mod Answering
-pub mod Denoting
 pub mod SourceExchanges

@@ -10,10 +10,10 @@ use Rattle.request_parts.specs.Requests.{Request}
 use Rattle.api_extract.specs.Extraction.{takes_stream}
 use Rattle.api_endpoints.specs.Endpoints.{Meanings, shape_at}
 use Rattle.api_endpoints.specs.declared.endpoint.ApiEndpoint.{ApiEndpoint}
-use Rattle.api_exchanges.specs.Denoting.{IsHandledAsDenoted, IsHandledOrRefused, WasHandled}
-use Rattle.api_exchanges.specs.Exchanges.{Answers, Call, Reaches, asked}
-use Rattle.api_exchanges.specs.declared.outcome.Exchange.{Exchange}
-use Rattle.api_exchanges.specs.declared.outcome.ExchangeError.{ExchangeError}
+use Rattle.endpoint_answers.specs.Denoting.{IsHandledAsDenoted, IsHandledOrRefused, WasHandled}
+use Rattle.endpoint_answers.specs.Exchanges.{Answers, Call, Reaches, asked}
+use Rattle.endpoint_answers.specs.declared.outcome.Exchange.{Exchange}
+use Rattle.endpoint_answers.specs.declared.outcome.ExchangeError.{ExchangeError}
 
 -- the endpoint that a request reaches takes the body as a stream
 abbrev pub StreamsBody : {X : Type 0} {F : X → Type 0} → Meanings X F → List (ApiEndpoint X F) → Request → Type 0

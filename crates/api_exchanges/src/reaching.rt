@@ -1,12 +1,12 @@
 //! Which endpoint a request reaches.
 ghost use Rattle.std.specs.Prelude.{◌≡◌, IfErr, IfOk, IfSome, OnOk, option_map};
 ghost use Rattle.api_endpoints.specs.Endpoints.{boxed};
-ghost use Rattle.api_exchanges.specs.Exchanges.{AreIndexed, HasId, IsUnreached, Reaches, named_by};
+ghost use Rattle.endpoint_answers.specs.Exchanges.{AreIndexed, HasId, IsUnreached, Reaches, named_by};
 
-use crate::outcome::ExchangeError;
 use api_declarations::{endpoint_at, endpoint_for};
 use api_endpoints::ApiEndpoint;
 use api_respond::RouteHandler;
+use endpoint_answers::ExchangeError;
 use http_status::{RequestId, RequestIdError};
 use path_templates::PlaceIndex;
 use request_parts::RequestParts;

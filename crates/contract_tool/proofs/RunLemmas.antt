@@ -29,11 +29,11 @@ use Rattle.api_documents.specs.Operations.{operation_of}
 use Rattle.api_agreement.specs.Agreement.{Agrees}
 use Rattle.api_endpoints.specs.declared.endpoint.ApiEndpoint.{ApiEndpoint}
 use Rattle.api_endpoints.specs.Endpoints.{Meanings, declarations_of}
-use Rattle.api_exchanges.specs.Denoting.{IsHandledAsDenoted, IsHandledOrRefused, IsOutcomeCutShort}
-use Rattle.api_exchanges.specs.Exchanges.{Answers, Asked}
-use Rattle.api_exchanges.specs.declared.outcome.Exchange.{Exchange}
-use Rattle.api_exchanges.specs.declared.outcome.ExchangeError.{ExchangeError}
-use Rattle.api_exchanges.specs.declared.outcome.ExchangeError.TheVariants as failed
+use Rattle.endpoint_answers.specs.Denoting.{IsHandledAsDenoted, IsHandledOrRefused, IsOutcomeCutShort}
+use Rattle.endpoint_answers.specs.Exchanges.{Answers, Asked}
+use Rattle.endpoint_answers.specs.declared.outcome.Exchange.{Exchange}
+use Rattle.endpoint_answers.specs.declared.outcome.ExchangeError.{ExchangeError}
+use Rattle.endpoint_answers.specs.declared.outcome.ExchangeError.TheVariants as failed
 use Rattle.api_descriptions.specs.Agreement.{FollowsDocument, IsValidFor}
 use Rattle.api_descriptions.specs.Written.{document_at}
 use Rattle.contract_tool.specs.declared.config.ToolConfig.{ToolConfig}

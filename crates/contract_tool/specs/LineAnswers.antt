@@ -10,9 +10,9 @@ use Rattle.request_parts.specs.Requests.{Request}
 use Rattle.request_lines.specs.RequestLines.{AsksFor, IsBadLine}
 use Rattle.api_endpoints.specs.declared.endpoint.ApiEndpoint.{ApiEndpoint}
 use Rattle.api_endpoints.specs.Endpoints.{Meanings}
-use Rattle.api_exchanges.specs.declared.outcome.Exchange.{Exchange}
-use Rattle.api_exchanges.specs.declared.outcome.ExchangeError.{ExchangeError}
-use Rattle.api_exchanges.specs.Exchanges.{Answers, Asked, asked, called}
+use Rattle.endpoint_answers.specs.declared.outcome.Exchange.{Exchange}
+use Rattle.endpoint_answers.specs.declared.outcome.ExchangeError.{ExchangeError}
+use Rattle.endpoint_answers.specs.Exchanges.{Answers, Asked, asked, called}
 use Rattle.contract_tool.specs.declared.config.ToolConfig.{ToolConfig}
 use Rattle.contract_tool.specs.ReplyLines.{Tells, bytes_of_line, outcome_alone}
 

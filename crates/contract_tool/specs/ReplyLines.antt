@@ -13,10 +13,10 @@ use Rattle.http_bodies.specs.Bodies.{frames_of}
 use Rattle.http_bodies.specs.Frames.{all_data}
 use Rattle.http_status.specs.declared.response.Response.{Response}
 use Rattle.contract_tool.specs.ResponseBodies.{FailsWithin, HasMoreFrames, IsReadWhole}
-use Rattle.api_exchanges.specs.declared.outcome.Exchange.{Exchange}
-use Rattle.api_exchanges.specs.declared.outcome.Exchange.TheVariants.{Handled, Refused}
-use Rattle.api_exchanges.specs.declared.outcome.ExchangeError.{ExchangeError}
-use Rattle.api_exchanges.specs.declared.outcome.ExchangeError.TheVariants as failed
+use Rattle.endpoint_answers.specs.declared.outcome.Exchange.{Exchange}
+use Rattle.endpoint_answers.specs.declared.outcome.Exchange.TheVariants.{Handled, Refused}
+use Rattle.endpoint_answers.specs.declared.outcome.ExchangeError.{ExchangeError}
+use Rattle.endpoint_answers.specs.declared.outcome.ExchangeError.TheVariants as failed
 
 -- the line's bytes are the compact JSON of a value
 abbrev pub bytes_of_line : Json → List ℕ

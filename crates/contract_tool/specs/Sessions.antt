@@ -21,10 +21,10 @@ use Rattle.api_documents.specs.Lists.{IsListed, Lists, ListsWritten}
 use Rattle.api_agreement.specs.Agreement.{Agrees, SendsNoToken}
 use Rattle.api_endpoints.specs.declared.endpoint.ApiEndpoint.{ApiEndpoint}
 use Rattle.api_endpoints.specs.Endpoints.{Meanings, declaration_of, declarations_of}
-use Rattle.api_exchanges.specs.Denoting.{IsDenoting, IsValid, WasHandled}
-use Rattle.api_exchanges.specs.Exchanges.{Asked, named_by, sent_by}
-use Rattle.api_exchanges.specs.declared.outcome.Exchange.{Exchange}
-use Rattle.api_exchanges.specs.declared.outcome.ExchangeError.{ExchangeError}
+use Rattle.endpoint_answers.specs.Denoting.{IsDenoting, IsValid, WasHandled}
+use Rattle.endpoint_answers.specs.Exchanges.{Asked, named_by, sent_by}
+use Rattle.endpoint_answers.specs.declared.outcome.Exchange.{Exchange}
+use Rattle.endpoint_answers.specs.declared.outcome.ExchangeError.{ExchangeError}
 use Rattle.api_descriptions.specs.Agreement.{IsHandledAsAdmitted}
 use Rattle.api_descriptions.specs.Information.{info_of}
 use Rattle.api_descriptions.specs.Written.{document_at, document_text}

@@ -3,9 +3,9 @@ ghost use Rattle.std.specs.Prelude.{◌≡◌, ◌⊎◌, ◌-◌, ◌^◌, ◌<
 ghost use Rattle.schema_values.specs.declared.json_value.Json.{Json as JsonValue};
 ghost use Rattle.semver.specs.Identifiers.{parts_of};
 ghost use Rattle.api_endpoints.specs.Endpoints.{boxed};
-ghost use Rattle.api_exchanges.specs.Exchanges.{Answers};
-ghost use Rattle.api_exchanges.specs.declared.outcome.Exchange.{Exchange as ExchangeValue};
-ghost use Rattle.api_exchanges.specs.declared.outcome.ExchangeError.{ExchangeError as ErrorValue};
+ghost use Rattle.endpoint_answers.specs.Exchanges.{Answers};
+ghost use Rattle.endpoint_answers.specs.declared.outcome.Exchange.{Exchange as ExchangeValue};
+ghost use Rattle.endpoint_answers.specs.declared.outcome.ExchangeError.{ExchangeError as ErrorValue};
 ghost use Rattle.api_descriptions.specs.Ready.{IsReady};
 ghost use Rattle.contract_tool.specs.LineAnswers.{LineAnswers, LineIsLost, asked_with, service};
 ghost use Rattle.contract_tool.specs.ReplyLines.{Tells, bytes_of_line};

@@ -1,6 +1,6 @@
 use Rattle.std.proofs.Common.{ap, ◌∙◌}
 use Rattle.request_parts.specs.Requests.{Request}
-use Rattle.api_exchanges.specs.Exchanges.{named_by}
+use Rattle.endpoint_answers.specs.Exchanges.{named_by}
 use Rattle.api_exchanges.proofs.reaching.named_by.Goals as goal
 
 pub endpoint_at-requires : goal.endpoint_at-requires

@@ -8,8 +8,8 @@ use Rattle.handler_shapes.specs.BodySlots.{BodyComesLast}
 use Rattle.api_extract.specs.Denotes.{terms}
 use Rattle.api_extract.specs.Extraction.{takes_stream}
 use Rattle.api_endpoints.specs.Endpoints.{shape_at}
-use Rattle.api_exchanges.specs.Answering.{IsGivenBy}
-use Rattle.api_exchanges.specs.Exchanges.{IsServable, asked, called}
+use Rattle.endpoint_answers.specs.Answering.{IsGivenBy}
+use Rattle.endpoint_answers.specs.Exchanges.{IsServable, asked, called}
 use Rattle.api_exchanges.proofs.BodyReads.{reached_reads, unreached_reads}
 use Rattle.api_exchanges.proofs.Causes.{caused_by}
 use Rattle.api_exchanges.proofs.Denoted.{handled_as_denoted}

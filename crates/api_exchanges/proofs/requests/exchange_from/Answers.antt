@@ -3,7 +3,7 @@ use Rattle.std.proofs.lemmas.Result.{err_from_is_err_and}
 use Rattle.std.specs.declared.result.Result.TheVariants.{Err}
 use Rattle.handler_shapes.specs.BodySlots.{BodyComesLast}
 use Rattle.api_endpoints.specs.Endpoints.{shape_at}
-use Rattle.api_exchanges.specs.Exchanges.{IsServable, called}
+use Rattle.endpoint_answers.specs.Exchanges.{IsServable, called}
 use Rattle.api_exchanges.proofs.BodyReads.{reached_reads, unreached_reads}
 use Rattle.api_exchanges.proofs.Given.{given_from}
 use Rattle.api_exchanges.proofs.Reached.{found_all, unless_asked}

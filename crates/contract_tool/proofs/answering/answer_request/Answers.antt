@@ -1,7 +1,7 @@
 use Rattle.std.proofs.Common.{◌∙◌, ap, subst}
 use Rattle.std.proofs.lemmas.Result.{IfOk-weaker}
 use Rattle.http_bodies.specs.Bodies.{BodyState, never_failing}
-use Rattle.api_exchanges.specs.Exchanges.{Answers, asked, called}
+use Rattle.endpoint_answers.specs.Exchanges.{Answers, asked, called}
 use Rattle.contract_tool.proofs.answering.answer_request.Goals as goal
 
 pub returns-clause-err : goal.returns-clause-err

@@ -1,5 +1,5 @@
 use Rattle.std.proofs.Common.{sym, subst}
-use Rattle.api_exchanges.specs.Exchanges.{AreServable}
+use Rattle.endpoint_answers.specs.Exchanges.{AreServable}
 use Rattle.api_descriptions.proofs.Registered.{registered_serve}
 use Rattle.api_descriptions.proofs.description.ApiDescription.exchange_from.Goals as goal
 

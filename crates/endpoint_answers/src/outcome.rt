@@ -48,7 +48,7 @@ pub enum ExchangeError {
 
 impl From<AllocError> for ExchangeError {
     ghost use Rattle.std.specs.Prelude.{◌≡◌};
-    ghost use Rattle.api_exchanges.specs.declared.outcome.ExchangeError.TheVariants.{OutOfMemory};
+    ghost use Rattle.endpoint_answers.specs.declared.outcome.ExchangeError.TheVariants.{OutOfMemory};
 
     ghost from_gives = { λ _ error. error ≡ OutOfMemory };
 

@@ -8,10 +8,10 @@ use Rattle.api_extract.specs.Denotes.{GivenArgs}
 use Rattle.api_extract.specs.Extraction.{AsksForBody, IsReadToEnd, ReadsFor}
 use Rattle.api_endpoints.specs.Endpoints.{Meanings, shape_at}
 use Rattle.api_endpoints.specs.declared.endpoint.ApiEndpoint.{ApiEndpoint}
-use Rattle.api_exchanges.specs.Exchanges.{Call, Reaches, limit_at}
-use Rattle.api_exchanges.specs.declared.outcome.Exchange.{Exchange}
-use Rattle.api_exchanges.specs.declared.outcome.ExchangeError.{ExchangeError}
-use Rattle.api_exchanges.specs.declared.outcome.ExchangeError.TheVariants as failed
+use Rattle.endpoint_answers.specs.Exchanges.{Call, Reaches, limit_at}
+use Rattle.endpoint_answers.specs.declared.outcome.Exchange.{Exchange}
+use Rattle.endpoint_answers.specs.declared.outcome.ExchangeError.{ExchangeError}
+use Rattle.endpoint_answers.specs.declared.outcome.ExchangeError.TheVariants as failed
 
 -- A body was read to its end where the request was handled or refused. A size and a number of frames have their causes
 -- in the frames that came, and the rest was thrown away within the budget; before a fault at most one frame more than

@@ -7,12 +7,12 @@ use Rattle.http_status.specs.Errors.{bad_request}
 use Rattle.request_parts.specs.declared.config.ServerConfig.{ServerConfig}
 use Rattle.api_extract.specs.declared.extract_error.ExtractError.{ExtractError}
 use Rattle.api_extract.specs.declared.extract_error.ExtractError.TheVariants as errors
-use Rattle.api_exchanges.specs.Answering.{IsGiven}
-use Rattle.api_exchanges.specs.Exchanges.{limit_at}
-use Rattle.api_exchanges.specs.declared.outcome.ExchangeError.TheVariants.{OutOfMemory}
-use Rattle.api_exchanges.proofs.BodyReads.{reads_by}
-use Rattle.api_exchanges.proofs.Rows.{faulty_answers, large_answers, many_answers, refused_answers, refuses_by}
-use Rattle.api_exchanges.proofs.answering.refuse.Goals as goal
+use Rattle.endpoint_answers.specs.Answering.{IsGiven}
+use Rattle.endpoint_answers.specs.Exchanges.{limit_at}
+use Rattle.endpoint_answers.specs.declared.outcome.ExchangeError.TheVariants.{OutOfMemory}
+use Rattle.endpoint_answers.proofs.BodyReads.{reads_by}
+use Rattle.endpoint_answers.proofs.Rows.{faulty_answers, large_answers, many_answers, refused_answers, refuses_by}
+use Rattle.endpoint_answers.proofs.answering.refuse.Goals as goal
 
 -- memory ran out for the error
 pub returns-in_err-error-in-Refused : goal.returns-in_err-error-in-Refused

@@ -2,12 +2,12 @@ use Rattle.std.proofs.Common.{◌≡◌, inl, inr, refl, sym, ap, ◌∙◌, sub
 use Rattle.std.proofs.lemmas.Result.{err_from_is_err_and}
 use Rattle.std.specs.Prelude.{is_ok}
 use Rattle.std.specs.declared.result.Result.TheVariants.{Ok, Err}
-use Rattle.api_exchanges.specs.Answering.{IsGiven}
-use Rattle.api_exchanges.specs.Exchanges.{Call, EndpointAnswers, called}
-use Rattle.api_exchanges.specs.declared.outcome.ExchangeError.TheVariants.{OutOfMemory}
-use Rattle.api_exchanges.proofs.BodyReads.{reads_by}
-use Rattle.api_exchanges.proofs.Rows.{lost_answers, sent_answers}
-use Rattle.api_exchanges.proofs.answering.answer.Goals as goal
+use Rattle.endpoint_answers.specs.Answering.{IsGiven}
+use Rattle.endpoint_answers.specs.Exchanges.{Call, EndpointAnswers, called}
+use Rattle.endpoint_answers.specs.declared.outcome.ExchangeError.TheVariants.{OutOfMemory}
+use Rattle.endpoint_answers.proofs.BodyReads.{reads_by}
+use Rattle.endpoint_answers.proofs.Rows.{lost_answers, sent_answers}
+use Rattle.endpoint_answers.proofs.answering.answer.Goals as goal
 
 -- memory ran out in a call of the handler, or beside it
 pub returns-in_err-handle-in-Ok : goal.returns-in_err-handle-in-Ok

@@ -3,9 +3,9 @@ use Rattle.std.proofs.lemmas.Result.{err_from_is_err_and}
 use Rattle.api_respond.specs.Encodes.{Encodes}
 use Rattle.api_respond.specs.declared.context.RequestContext.{RequestContext}
 use Rattle.api_endpoints.specs.Endpoints.{shape_at, turns_at}
-use Rattle.api_exchanges.specs.Exchanges.{called}
-use Rattle.api_exchanges.proofs.Replied.{lost_reply, may_reply}
-use Rattle.api_exchanges.proofs.handling.handle.Goals as goal
+use Rattle.endpoint_answers.specs.Exchanges.{called}
+use Rattle.endpoint_answers.proofs.Replied.{lost_reply, may_reply}
+use Rattle.endpoint_answers.proofs.handling.handle.Goals as goal
 
 -- the handler was not called
 pub returns-in_err-context-clause-lost : goal.returns-in_err-context-clause-lost

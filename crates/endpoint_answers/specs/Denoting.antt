@@ -7,11 +7,11 @@ use Rattle.api_extract.specs.Extraction.{AsksForBody, IsWithin}
 use Rattle.api_declarations.specs.Values.{DeclarationValue}
 use Rattle.api_endpoints.specs.Endpoints.{Meanings, declaration_of}
 use Rattle.api_endpoints.specs.declared.endpoint.ApiEndpoint.{ApiEndpoint}
-use Rattle.api_exchanges.specs.Exchanges.{Asked, HasId, HasVariables, named_by, sent_by, terms_for}
-use Rattle.api_exchanges.specs.declared.outcome.Exchange.{Exchange}
-use Rattle.api_exchanges.specs.declared.outcome.Exchange.TheVariants.{Handled, Refused}
-use Rattle.api_exchanges.specs.declared.outcome.ExchangeError.{ExchangeError}
-use Rattle.api_exchanges.specs.declared.outcome.ExchangeError.TheVariants as failed
+use Rattle.endpoint_answers.specs.Exchanges.{Asked, HasId, HasVariables, named_by, sent_by, terms_for}
+use Rattle.endpoint_answers.specs.declared.outcome.Exchange.{Exchange}
+use Rattle.endpoint_answers.specs.declared.outcome.Exchange.TheVariants.{Handled, Refused}
+use Rattle.endpoint_answers.specs.declared.outcome.ExchangeError.{ExchangeError}
+use Rattle.endpoint_answers.specs.declared.outcome.ExchangeError.TheVariants as failed
 
 -- ---- requests
 

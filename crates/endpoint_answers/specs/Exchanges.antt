@@ -41,10 +41,10 @@ use Rattle.api_declarations.specs.Serving.{Serves, endpoint_for}
 use Rattle.api_declarations.specs.Values.{DeclarationValue}
 use Rattle.api_endpoints.specs.Endpoints.{Meanings, declaration_of, declarations_of, shape_at, turns_at}
 use Rattle.api_endpoints.specs.declared.endpoint.ApiEndpoint.{ApiEndpoint}
-use Rattle.api_exchanges.specs.declared.outcome.Exchange.{Exchange}
-use Rattle.api_exchanges.specs.declared.outcome.Exchange.TheVariants.{Handled, Refused}
-use Rattle.api_exchanges.specs.declared.outcome.ExchangeError.{ExchangeError}
-use Rattle.api_exchanges.specs.declared.outcome.ExchangeError.TheVariants as failed
+use Rattle.endpoint_answers.specs.declared.outcome.Exchange.{Exchange}
+use Rattle.endpoint_answers.specs.declared.outcome.Exchange.TheVariants.{Handled, Refused}
+use Rattle.endpoint_answers.specs.declared.outcome.ExchangeError.{ExchangeError}
+use Rattle.endpoint_answers.specs.declared.outcome.ExchangeError.TheVariants as failed
 
 -- ---- what is asked
 

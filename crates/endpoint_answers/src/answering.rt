@@ -5,10 +5,10 @@ ghost use Rattle.handler_shapes.specs.Arguments.{ArgsFit};
 ghost use Rattle.handler_shapes.specs.ShapeChecks.{ShapePasses};
 ghost use Rattle.api_respond.specs.Encodes.{RefusalEncodes};
 ghost use Rattle.api_endpoints.specs.Endpoints.{boxed, shape_at, turns_at};
-ghost use Rattle.api_exchanges.specs.Answering.{IsGiven};
-ghost use Rattle.api_exchanges.specs.BodyReads.{TellsAsGiven};
-ghost use Rattle.api_exchanges.specs.Denoting.{IsOutcomeCutShort, IsFault, WasHandled};
-ghost use Rattle.api_exchanges.specs.Exchanges.{Asked, EndpointAnswers, called, limit_at};
+ghost use Rattle.endpoint_answers.specs.Answering.{IsGiven};
+ghost use Rattle.endpoint_answers.specs.BodyReads.{TellsAsGiven};
+ghost use Rattle.endpoint_answers.specs.Denoting.{IsOutcomeCutShort, IsFault, WasHandled};
+ghost use Rattle.endpoint_answers.specs.Exchanges.{Asked, EndpointAnswers, called, limit_at};
 
 use crate::handling::handle;
 use crate::outcome::{Exchange, ExchangeError};
@@ -23,7 +23,7 @@ use std::alloc::{AllocError, Global};
 use tree_store::Store;
 
 /// How many bytes a body has at most.
-pub(crate) fn limit_at(endpoint: &ApiEndpoint, config: &ServerConfig) -> u64
+pub fn limit_at(endpoint: &ApiEndpoint, config: &ServerConfig) -> u64
     ensures { result ≡ limit_at endpoint.now config.now }
 {
     endpoint
@@ -32,7 +32,7 @@ pub(crate) fn limit_at(endpoint: &ApiEndpoint, config: &ServerConfig) -> u64
 }
 
 /// What the endpoint answers a request of this id whose slots are given arguments, or an error.
-pub(crate) fn answer(
+pub fn answer(
     alloc: Global,
     endpoint: &ApiEndpoint,
     store: &mut Store,

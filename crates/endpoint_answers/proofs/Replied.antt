@@ -7,7 +7,7 @@ use Rattle.api_respond.specs.declared.context.RequestContext.{RequestContext}
 use Rattle.api_respond.specs.declared.reply.Reply.{Reply}
 use Rattle.api_endpoints.specs.Endpoints.{Meanings, shape_at}
 use Rattle.api_endpoints.specs.declared.endpoint.ApiEndpoint.{ApiEndpoint}
-use Rattle.api_exchanges.specs.Exchanges.{Call, MayReply, context_of}
+use Rattle.endpoint_answers.specs.Exchanges.{Call, MayReply, context_of}
 
 module _ {X : Type 0} {F : X → Type 0} (m : Meanings X F) (e : ApiEndpoint X F) (call : Call)
     (context : RequestContext) (is : context ≡ context_of e call.config call.request) (args : List Arg) (after : Tables)

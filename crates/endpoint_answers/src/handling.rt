@@ -4,8 +4,8 @@ ghost use Rattle.handler_shapes.specs.Arguments.{ArgsFit};
 ghost use Rattle.handler_shapes.specs.ShapeChecks.{ShapePasses};
 ghost use Rattle.api_respond.specs.declared.reply.Reply.{Reply as ReplyValue};
 ghost use Rattle.api_endpoints.specs.Endpoints.{boxed, shape_at};
-ghost use Rattle.api_exchanges.specs.Answering.{IsHandledWith};
-ghost use Rattle.api_exchanges.specs.Exchanges.{MayReply, called, context_of};
+ghost use Rattle.endpoint_answers.specs.Answering.{IsHandledWith};
+ghost use Rattle.endpoint_answers.specs.Exchanges.{MayReply, called, context_of};
 
 use crate::outcome::Exchange;
 use api_endpoints::ApiEndpoint;

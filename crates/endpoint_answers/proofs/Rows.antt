@@ -18,12 +18,12 @@ use Rattle.api_respond.specs.Encodes.{RefusalEncodes}
 use Rattle.api_respond.specs.declared.reply.Reply.{Reply}
 use Rattle.api_endpoints.specs.Endpoints.{Meanings, shape_at, turns_at}
 use Rattle.api_endpoints.specs.declared.endpoint.ApiEndpoint.{ApiEndpoint}
-use Rattle.api_exchanges.specs.Answering.{IsGiven, IsHandledWith}
-use Rattle.api_exchanges.specs.Exchanges.{Asked, Call, EndpointAnswers, HasRefusalCause, IsGivenArgs, IsReplied}
-use Rattle.api_exchanges.specs.Exchanges.{MayReply, Refuses, given_at, limit_at, terms_at}
-use Rattle.api_exchanges.specs.declared.outcome.Exchange.{Exchange}
-use Rattle.api_exchanges.specs.declared.outcome.Exchange.TheVariants.{Handled, Refused}
-use Rattle.api_exchanges.specs.declared.outcome.ExchangeError.TheVariants as failed
+use Rattle.endpoint_answers.specs.Answering.{IsGiven, IsHandledWith}
+use Rattle.endpoint_answers.specs.Exchanges.{Asked, Call, EndpointAnswers, HasRefusalCause, IsGivenArgs, IsReplied}
+use Rattle.endpoint_answers.specs.Exchanges.{MayReply, Refuses, given_at, limit_at, terms_at}
+use Rattle.endpoint_answers.specs.declared.outcome.Exchange.{Exchange}
+use Rattle.endpoint_answers.specs.declared.outcome.Exchange.TheVariants.{Handled, Refused}
+use Rattle.endpoint_answers.specs.declared.outcome.ExchangeError.TheVariants as failed
 
 -- what was not cut short is what is called for
 exactly : (given exact : GivenArgs) → ComesTo given exact → ¬ IsCutShort given → exact ≡ given

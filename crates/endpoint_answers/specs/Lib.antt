@@ -1,0 +1,4 @@
+pub mod Exchanges
+pub mod BodyReads
+pub mod Answering
+pub mod Denoting
