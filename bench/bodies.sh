@@ -1,11 +1,12 @@
 #!/bin/sh
-# Times of reading, decoding, encoding and printing a body, each for a size and for twice that size: lists of points of
-# 1 MB and 2 MB; folders in one another 60 and 120 levels deep, side by side; objects with N and 2N members beside those
-# of the descriptor (N is 20000 by default), where other names are passed over and where they are denied. A time is the
-# least of three runs.
+# Times of a case of `value_cases` that decodes a body and encodes its tree again, each for a size and for twice that
+# size: lists of points of 1 MB and 2 MB; folders in one another 60 and 120 levels deep, side by side; objects with N
+# and 2N members beside those of the descriptor (N is 20000 by default), where other names are passed over and where
+# they are denied. A time is the least of three runs, each that of the whole program: reading the case, copying the body
+# out of it, decoding, encoding and printing.
 here=$(cd "$(dirname "$0")/.." && pwd) || exit 1
 members=${1:-20000}
-program=$here/crates/value_bench/out/value_bench
+program=$here/crates/value_cases/out/value_cases
 work=$(mktemp -d) || exit 1
 trap 'rm -rf "$work"' EXIT
 
@@ -54,40 +55,57 @@ point_with() {
     object '[{"label":"p","x":1,"y":2' "$1" '}]'
 }
 
-# The least nanoseconds of three runs, and the status. Standard output is kept.
+# The case of a body under a descriptor. Of points other names are denied, and of folders they are passed over.
+case_of() {
+    printf '%s' '{"case":"body","call":"decode_and_encode","definitions":['
+    printf '%s' '["Point",{"closed":[["label","text"],["x","i32"],["y","i32"]]}],'
+    printf '%s' '["Folder",{"struct":[["name","text"],["children",{"list":"#Folder"}]]}]],'
+    printf '"desc":%s,"json":' "$1"
+    tr -d '\n'
+    echo '}'
+}
+
+# The least nanoseconds of three runs. Standard output is kept.
 nanoseconds() {
     least=
     for run in 1 2 3; do
         start=$(date +%s%N)
-        "$program" "$1" <"$work/body" >"$work/output" 2>"$work/fault"
-        status=$?
+        "$program" <"$work/case" >"$work/output" || return 1
         end=$(date +%s%N)
         if [ -z "$least" ] || [ $((end - start)) -lt "$least" ]; then
             least=$((end - start))
         fi
     done
-    echo "$least $status"
+    echo "$least"
+}
+
+# Whether the body was written or refused.
+answer() {
+    case $(head -c 12 "$work/output") in
+    'body: {"json') echo written ;;
+    'body: {"faul') echo refused ;;
+    *) echo 'not answered' ;;
+    esac
 }
 
 # The times of a kind of body under a descriptor, of a size and of another.
 measure() {
     for size in "$4" "$5"; do
         "$3" "$size" >"$work/body"
-        told=$(nanoseconds "$2")
-        awk -v kind="$1" -v size="$size" -v told="$told" -v bytes="$(wc -c <"$work/body")" 'BEGIN {
-            split(told, parts, " ")
-            printf "%s, %d: %d bytes, status %d, %.1f ms\n", kind, size, bytes, parts[2], parts[1] / 1e6
+        case_of "$2" <"$work/body" >"$work/case"
+        time=$(nanoseconds) || exit 1
+        awk -v kind="$1" -v size="$size" -v time="$time" -v told="$(answer)" -v bytes="$(wc -c <"$work/body")" 'BEGIN {
+            printf "%s, %d: %d bytes, %s, %.1f ms\n", kind, size, bytes, told, time / 1e6
         }'
     done
 }
 
-echo '[]' >"$work/body"
-(cd "$here/crates/value_bench" && rt run -- list <"$work/body" >/dev/null 2>"$work/log")
+(cd "$here/crates/value_cases" && rt run </dev/null >/dev/null 2>"$work/log")
 if [ ! -x "$program" ]; then
     cat "$work/log" >&2
     exit 1
 fi
-measure 'points, bytes' list points 1000000 2000000
-measure 'folders, levels' folder chains 60 120
-measure 'members passed over' folder folder_with "$members" $((members * 2))
-measure 'members denied' list point_with "$members" $((members * 2))
+measure 'points, bytes' '{"list":"#Point"}' points 1000000 2000000
+measure 'folders, levels' '"#Folder"' chains 60 120
+measure 'members passed over' '"#Folder"' folder_with "$members" $((members * 2))
+measure 'members denied' '{"list":"#Point"}' point_with "$members" $((members * 2))

@@ -1,23 +1,34 @@
 #!/bin/sh
-# Times of making a body of N frames (10000 by default) of one byte each, and of reading it to its end by
-# `http_dump_body`, and of the same with 2N frames. A time is the least of three runs, each that of a whole run of
-# `value_bench`. Beside them stand valgrind's counts of instructions, where it is there, and then they judge. Ends with
-# 1 where 2N cost more than 2.3 times N.
+# Times of a case of `http_cases` that makes a body of N frames (10000 by default) of one byte each and reads it to its
+# end by `http_dump_body`, and of the same with 2N frames. A time is the least of three runs, each that of the whole
+# program, which reads the case too. Beside them stand valgrind's counts of instructions, where it is there, and then
+# they judge. Ends with 1 where 2N cost more than 2.3 times N.
 here=$(cd "$(dirname "$0")/.." && pwd) || exit 1
 frames=${1:-10000}
-program=$here/crates/value_bench/out/value_bench
+program=$here/crates/http_cases/out/http_cases
 work=$(mktemp -d) || exit 1
 trap 'rm -rf "$work"' EXIT
 
+# The case of so many frames.
+case_of() {
+    awk -v frames="$1" 'BEGIN {
+        printf "{\"case\":\"body\",\"call\":\"dump\",\"budget\":%d,\"body\":{\"frames\":[", frames
+        for (i = 0; i < frames; i++)
+            printf "%s\"a\"", i ? "," : ""
+        print "]}}"
+    }'
+}
+
 # The least nanoseconds of three runs on so many frames, of each of which a byte must be read.
 nanoseconds() {
+    case_of "$1" >"$work/case"
     least=
     for run in 1 2 3; do
         start=$(date +%s%N)
-        read=$(echo "$1" | "$program" frames)
+        read=$("$program" <"$work/case")
         end=$(date +%s%N)
-        if [ "$read" != "$1" ]; then
-            echo "frames.sh: $read of $1 bytes were read" >&2
+        if [ "$read" != "body: $1" ]; then
+            echo "frames.sh: not $1 bytes were read, but $read" >&2
             return 1
         fi
         if [ -z "$least" ] || [ $((end - start)) -lt "$least" ]; then
@@ -29,12 +40,11 @@ nanoseconds() {
 
 # The instructions of one run on so many frames.
 instructions() {
-    echo "$1" | valgrind --tool=callgrind --callgrind-out-file=/dev/null "$program" frames 2>&1 >/dev/null |
+    case_of "$1" | valgrind --tool=callgrind --callgrind-out-file=/dev/null "$program" 2>&1 >/dev/null |
         awk '/refs:/ { gsub(",", "", $NF); print $NF }'
 }
 
-echo '[]' >"$work/body"
-(cd "$here/crates/value_bench" && rt run -- list <"$work/body" >/dev/null 2>"$work/log")
+(cd "$here/crates/http_cases" && rt run </dev/null >/dev/null 2>"$work/log")
 if [ ! -x "$program" ]; then
     cat "$work/log" >&2
     exit 1

@@ -1,22 +1,40 @@
 #!/bin/sh
-# Times of decoding a query of N pairs (1000 by default), whose names are put by a fixed stride, a hundred times under a
-# struct of a hundred texts, and of the same with 2N pairs. A time is the least of three runs, each that of a whole run
-# of `value_bench`. Beside them stand valgrind's counts of instructions, where it is there, and then they judge. Ends
-# with 1 where 2N cost more than 2.3 times N.
+# Times of a case of `value_cases` that decodes a query of N pairs (1000 by default), whose names are put by a fixed
+# stride, a hundred times under a struct of a hundred texts, and of the same with 2N pairs. A time is the least of three
+# runs, each that of the whole program, which reads the query as often. Beside them stand valgrind's counts of
+# instructions, where it is there, and then they judge. Ends with 1 where 2N cost more than 2.3 times N.
 here=$(cd "$(dirname "$0")/.." && pwd) || exit 1
 pairs=${1:-1000}
-program=$here/crates/value_bench/out/value_bench
+program=$here/crates/value_cases/out/value_cases
 work=$(mktemp -d) || exit 1
 trap 'rm -rf "$work"' EXIT
 
+# The case of so many pairs.
+case_of() {
+    awk -v pairs="$1" 'BEGIN {
+        printf "{\"case\":\"query\",\"repeats\":\"refuse\",\"call\":[\"decode_pairs\""
+        for (i = 1; i < 100; i++)
+            printf ",\"decode_pairs\""
+        printf "],\"desc\":{\"struct\":["
+        for (i = 0; i < 100; i++)
+            printf "%s[\"name-%010d\",\"text\"]", i ? "," : "", i
+        printf "]},\"query\":\""
+        for (i = 0; i < pairs; i++)
+            printf "name-%010d=value&", (i * 7919) % pairs
+        print "\"}"
+    }'
+}
+
 # The least nanoseconds of three runs on so many pairs, in each of which a hundred fields are met a hundred times.
 nanoseconds() {
+    case_of "$1" >"$work/case"
     least=
     for run in 1 2 3; do
         start=$(date +%s%N)
-        met=$(echo "$1" | "$program" pairs)
+        "$program" <"$work/case" >"$work/output"
         end=$(date +%s%N)
-        if [ "$met" != 10000 ]; then
+        met=$(grep -o '"value"' "$work/output" | wc -l)
+        if [ "$met" -ne 10000 ]; then
             echo "pairs.sh: $met of 10000 fields were met" >&2
             return 1
         fi
@@ -29,12 +47,11 @@ nanoseconds() {
 
 # The instructions of one run on so many pairs.
 instructions() {
-    echo "$1" | valgrind --tool=callgrind --callgrind-out-file=/dev/null "$program" pairs 2>&1 >/dev/null |
+    case_of "$1" | valgrind --tool=callgrind --callgrind-out-file=/dev/null "$program" 2>&1 >/dev/null |
         awk '/refs:/ { gsub(",", "", $NF); print $NF }'
 }
 
-echo '[]' >"$work/body"
-(cd "$here/crates/value_bench" && rt run -- list <"$work/body" >/dev/null 2>"$work/log")
+(cd "$here/crates/value_cases" && rt run </dev/null >/dev/null 2>"$work/log")
 if [ ! -x "$program" ]; then
     cat "$work/log" >&2
     exit 1
