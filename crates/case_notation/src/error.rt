@@ -1,5 +1,5 @@
 //! Why a line is not answered.
-use schema_values::{ReadError, Text};
+use schema_values::ReadError;
 use std::alloc::{AllocError, AllocFailed, Global};
 
 /// Why a line is not answered.
@@ -36,21 +36,11 @@ impl From<ReadError> for CaseError {
 
 impl CaseError {
     /// The line that tells it.
-    pub fn text(&self, alloc: Global) -> Result<Text, AllocError> {
-        let (opening, rest) = match self {
-            CaseError::Expected(what) => ("? expected ", *what),
-            CaseError::Flawed(flaw) => ("? flawed: ", *flaw),
-            CaseError::OutOfMemory => return Err(AllocError),
-        };
-        let mut text = Text::from_str(alloc, opening)?;
-        text.push_str(rest)?;
-        Ok(text)
-    }
-}
-
-/// Keeps what went wrong, where nothing went wrong before.
-pub fn keep_first(flaw: &mut Option<CaseError>, error: CaseError) {
-    if flaw.is_none() {
-        *flaw = Some(error);
+    pub fn text(&self, alloc: Global) -> Result<String, AllocError> {
+        match self {
+            CaseError::Expected(what) => format!(in alloc; "? expected {what}"),
+            CaseError::Flawed(flaw) => format!(in alloc; "? flawed: {flaw}"),
+            CaseError::OutOfMemory => Err(AllocError),
+        }
     }
 }

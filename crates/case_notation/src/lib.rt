@@ -22,8 +22,8 @@ pub use lines::{AnswersCases, run};
 pub use made::made_of;
 pub use maps::{map_of, read_variable, texts_of};
 pub use parts::{
-    check_names, given, given_items, given_number, given_text, items_of, maybe_text, number_of,
-    text_of, truth_of,
+    check_names, count_of, given, given_items, given_number, given_text, items_of, maybe_text,
+    number_of, text_of, truth_of,
 };
 pub use reader::Reader;
 pub use scope::{Scope, checked_table, noted_desc, scope_of};

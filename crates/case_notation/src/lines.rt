@@ -5,7 +5,8 @@
 //! that is `like` an earlier one has that one's members too, but for those that it has itself. It is
 //! answered by its name, a colon and the answer as compact JSON.
 use crate::error::CaseError;
-use crate::parts::{check_names, given_text, members_of, text_of};
+use crate::parts::given_text;
+use crate::reader::Reader;
 use crate::told::Record;
 use schema_values::{Json, List, Member, Text};
 use std::alloc::{AllocError, Global};
@@ -24,8 +25,7 @@ pub trait AnswersCases {
 pub fn run<R: AllocGlobal + Input + Print, P: AnswersCases>(rt: &R, program: &P) -> io::Result<()> {
     let mut cases = Cases::new(rt.alloc());
     for line in rt.lines(rt.alloc()) {
-        let reply = cases.reply(rt.alloc(), program, line?.as_str())?;
-        println!(rt; "{reply}")?;
+        cases.answer(rt, program, line?.as_str())?;
     }
     Ok(())
 }
@@ -44,6 +44,17 @@ impl Cases {
         }
     }
 
+    /// Answers the next line.
+    fn answer<R: AllocGlobal + Print, P: AnswersCases>(
+        &mut self,
+        rt: &R,
+        program: &P,
+        line: &str,
+    ) -> io::Result<()> {
+        let reply = self.reply(rt.alloc(), program, line)?;
+        println!(rt; "{reply}")
+    }
+
     /// The line that answers the next line: the name of its case and the answer, or `?` and what is
     /// wrong with the line. An empty line, and one that begins with `#`, is repeated.
     fn reply<P: AnswersCases>(
@@ -51,9 +62,9 @@ impl Cases {
         alloc: Global,
         program: &P,
         line: &str,
-    ) -> Result<Text, AllocError> {
+    ) -> Result<String, AllocError> {
         if line.is_empty() || line.starts_with("#") {
-            return Text::from_str(alloc, line);
+            return String::from_str(alloc, line);
         }
         match self.told(alloc, program, line) {
             Ok(reply) => Ok(reply),
@@ -66,48 +77,64 @@ impl Cases {
         alloc: Global,
         program: &P,
         line: &str,
-    ) -> Result<Text, CaseError> {
+    ) -> Result<String, CaseError> {
         let case = self.read(alloc, program.members(), line)?;
-        let reply = answered(alloc, program, &case)?;
+        let reply = answered(alloc, program, &case);
         self.cases.push(case)?;
-        Ok(reply)
+        reply
     }
 
     /// The case on a line, with the members of the case that it is like.
     fn read(&self, alloc: Global, names: &[&str], line: &str) -> Result<Json, CaseError> {
-        let case = Json::read(alloc, line.as_bytes())?;
-        self.completed(alloc, names, &case)
+        let mut reader = Reader::new(alloc);
+        let case = reader.or(Json::read(alloc, line.as_bytes()), Json::Null);
+        let completed = self.completed(&mut reader, names, &case);
+        reader.finish(completed)
     }
 
-    fn completed(&self, alloc: Global, names: &[&str], case: &Json) -> Result<Json, CaseError> {
-        check_names(case, names)?;
-        self.check_new(case)?;
-        joined(alloc, case, members_of(case)?, self.members_like(case)?)
+    fn completed(&self, reader: &mut Reader, names: &[&str], case: &Json) -> Json {
+        reader.check_names(case, names);
+        self.check_new(reader, case);
+        let others = self.members_like(reader, case);
+        let joined = joined(reader.alloc(), case, reader.members(case), others);
+        reader.or(joined, Json::Null)
     }
 
-    fn check_new(&self, case: &Json) -> Result<(), CaseError> {
-        match self.named(given_text(case, "case")?) {
-            None => Ok(()),
-            Some(_) => Err(CaseError::Expected("a new name")),
+    fn check_new(&self, reader: &mut Reader, case: &Json) {
+        match case.get("case") {
+            Some(Json::Text(name)) if self.named(name).is_none() => {}
+            _ => reader.expected("a new name under case"),
         }
     }
 
     /// The members of the case that a case is like.
-    fn members_like(&self, case: &Json) -> Result<&[Member], CaseError> {
+    fn members_like(&self, reader: &mut Reader, case: &Json) -> &[Member] {
         let Some(name) = case.get("like") else {
-            return Ok(&[]);
+            return &[];
         };
-        match self.named(text_of(name)?) {
-            Some(earlier) => members_of(earlier),
-            None => Err(CaseError::Expected("the name of an earlier case")),
+        match self.noted_case(name) {
+            Some(earlier) => reader.members(earlier),
+            None => {
+                reader.expected("the name of an earlier case");
+                &[]
+            }
+        }
+    }
+
+    fn noted_case(&self, noted: &Json) -> Option<&Json> {
+        match noted {
+            Json::Text(name) => self.named(name),
+            _ => None,
         }
     }
 
     fn named(&self, name: &Text) -> Option<&Json> {
-        self.cases
-            .as_slice()
-            .iter()
-            .find(|case| is_named(case, name))
+        for case in self.cases.as_slice() {
+            if is_named(case, name) {
+                return Some(case);
+            }
+        }
+        None
     }
 }
 
@@ -141,16 +168,12 @@ fn add_missing(alloc: Global, joined: &mut Record, others: &[Member], case: &Jso
     }
 }
 
-fn answered<P: AnswersCases>(alloc: Global, program: &P, case: &Json) -> Result<Text, CaseError> {
+fn answered<P: AnswersCases>(alloc: Global, program: &P, case: &Json) -> Result<String, CaseError> {
     let name = given_text(case, "case")?;
-    let answer = program.answer(alloc, case)?;
-    reply_of(alloc, name, &answer)
+    reply_of(alloc, name, &program.answer(alloc, case)?)
 }
 
-fn reply_of(alloc: Global, name: &Text, answer: &Json) -> Result<Text, CaseError> {
+fn reply_of(alloc: Global, name: &Text, answer: &Json) -> Result<String, CaseError> {
     let answer = answer.compact(alloc)?;
-    let mut reply = name.copy(alloc)?;
-    reply.push_str(": ")?;
-    reply.push_text(&answer)?;
-    Ok(reply)
+    Ok(format!(in alloc; "{name}: {answer}")?)
 }

@@ -1,6 +1,6 @@
 //! Reads what is noted without stopping: the first flaw of it is kept and told at the end, and in place of what is
 //! not there something empty is read.
-use crate::error::{CaseError, keep_first};
+use crate::error::CaseError;
 use crate::parts::check_names;
 use schema_values::{Boxed, Json, List, Member, Text};
 use std::alloc::Global;
@@ -25,7 +25,9 @@ impl Reader {
 
     /// Keeps a flaw, if it is the first.
     pub fn keep(&mut self, flaw: CaseError) {
-        keep_first(&mut self.flaw, flaw);
+        if self.flaw.is_none() {
+            self.flaw = Some(flaw);
+        }
     }
 
     /// Keeps that something else was expected.

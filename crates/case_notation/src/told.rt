@@ -1,6 +1,7 @@
 //! What is told: texts, objects and lists. What goes wrong with a part of an object or of a list is kept, the first
 //! of it, and told at the end, so that nothing has to be handled in between.
-use crate::error::{CaseError, keep_first};
+use crate::error::CaseError;
+use crate::reader::Reader;
 use schema_values::{Json, List, Member, Text};
 use std::alloc::{AllocError, Global};
 
@@ -50,18 +51,16 @@ pub fn both(
 /// An object, or the first thing that went wrong with it.
 #[derive(Drop)]
 pub struct Record {
-    alloc: Global,
+    reader: Reader,
     members: List<Member>,
-    flaw: Option<CaseError>,
 }
 
 impl Record {
     /// An object of no members.
     pub fn new(alloc: Global) -> Record {
         Record {
-            alloc,
+            reader: Reader::new(alloc),
             members: List::new(alloc),
-            flaw: None,
         }
     }
 
@@ -77,8 +76,10 @@ impl Record {
 
     /// The object with a text behind the other members.
     pub fn text(self, name: &str, text: &str) -> Record {
-        let text = say(self.alloc, text);
-        self.put(name, text)
+        let mut record = self;
+        let text = record.reader.text_from(text);
+        record.push(name, Json::Text(text));
+        record
     }
 
     /// The object with a number behind the other members.
@@ -100,51 +101,34 @@ impl Record {
     where
         CaseError: From<E>,
     {
-        match value {
-            Ok(value) => self.push(name, value),
-            Err(error) => keep_first(&mut self.flaw, CaseError::from(error)),
-        }
+        let value = self.reader.or(value, Json::Null);
+        self.push(name, value);
     }
 
     fn push(&mut self, name: &str, value: Json) {
-        match pushed(self.alloc, &mut self.members, name, value) {
-            Ok(()) => {}
-            Err(error) => keep_first(&mut self.flaw, CaseError::from(error)),
-        }
+        let name = self.reader.text_from(name);
+        self.reader.push(&mut self.members, Member { name, value });
     }
 
     /// The object, where nothing went wrong.
     pub fn done(self) -> Result<Json, CaseError> {
-        match self.flaw {
-            None => Ok(Json::Object(self.members)),
-            Some(flaw) => Err(flaw),
-        }
+        self.reader.finish(Json::Object(self.members))
     }
-}
-
-fn pushed(
-    alloc: Global,
-    members: &mut List<Member>,
-    name: &str,
-    value: Json,
-) -> Result<(), AllocError> {
-    let name = Text::from_str(alloc, name)?;
-    members.push(Member { name, value })
 }
 
 /// A list, or the first thing that went wrong with it.
 #[derive(Drop)]
 pub struct Row {
+    reader: Reader,
     items: List<Json>,
-    flaw: Option<CaseError>,
 }
 
 impl Row {
     /// A list of no items.
     pub fn new(alloc: Global) -> Row {
         Row {
+            reader: Reader::new(alloc),
             items: List::new(alloc),
-            flaw: None,
         }
     }
 
@@ -153,24 +137,12 @@ impl Row {
     where
         CaseError: From<E>,
     {
-        match item {
-            Ok(item) => self.hold(item),
-            Err(error) => keep_first(&mut self.flaw, CaseError::from(error)),
-        }
-    }
-
-    fn hold(&mut self, item: Json) {
-        match self.items.push(item) {
-            Ok(()) => {}
-            Err(error) => keep_first(&mut self.flaw, CaseError::from(error)),
-        }
+        let item = self.reader.or(item, Json::Null);
+        self.reader.push(&mut self.items, item);
     }
 
     /// The list, where nothing went wrong.
     pub fn done(self) -> Result<Json, CaseError> {
-        match self.flaw {
-            None => Ok(Json::List(self.items)),
-            Some(flaw) => Err(flaw),
-        }
+        self.reader.finish(Json::List(self.items))
     }
 }
