@@ -13,6 +13,7 @@ use Rattle.openapi_values.specs.Operation.{operation_json}
 use Rattle.openapi_values.specs.SoundParts.{names_of_map}
 use Rattle.openapi_values.proofs.CallerLemmas.{operation-stands}
 use Rattle.semver.specs.Parse.{Parts}
+use Rattle.api_declarations.specs.Serving.{is_listed}
 use Rattle.api_declarations.specs.Values.{DeclarationValue}
 use Rattle.api_documents.specs.Accepted.{AreApart, MayBeListed}
 use Rattle.api_documents.specs.Documents.{document_json_of, document_of, errors_of}
