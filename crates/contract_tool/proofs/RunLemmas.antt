@@ -42,7 +42,7 @@ use Rattle.contract_tool.specs.declared.config.ToolStatus.TheVariants.{Done, Usa
 use Rattle.contract_tool.specs.declared.config.ToolStatus.TheVariants.{LineTooLong, TooMuchInput, OutOfMemory}
 use Rattle.contract_tool.specs.Ends.{CallsFor, DocumentEnds, IsServedSo, Outside, SessionEnds}
 use Rattle.contract_tool.specs.LineAnswers.{IsExchanged, Service, asked_in, asked_with, service}
-use Rattle.contract_tool.specs.ReplyLines.{Tells}
+use Rattle.contract_tool.specs.Outcomes.{Tells}
 use Rattle.contract_tool.specs.Sessions.{IsDocumented, IsOpened, IsValidTo, info_at, status_of, written_document}
 use Rattle.contract_tool.specs.declared.words.Command.{Command}
 use Rattle.contract_tool.specs.declared.words.Command.TheVariants as commands

@@ -1,9 +1,17 @@
 -- Two words, and what they ask for.
 use Rattle.std.proofs.Common.{◌≡◌, ◌≢◌, ℕ, List, [], ◌∷◌, String, Global, Ok, string_bytes, codes, Bool, true, bytes_eq}
-use Rattle.std.proofs.Common.{sym, ◌∙◌, ap, inl, inr}
+use Rattle.std.proofs.Common.{◌<◌, ◌≤◌, length, get_or, arith, sym, ◌∙◌, ap, inl, inr}
 use Rattle.std.proofs.lemmas.Slice.Eq.{bytes_eq-Decides}
 use Rattle.semver.specs.Parse.{Parts, version_parts}
 use Rattle.contract_tool.specs.Words.{AskFor, IsCommand}
+
+-- two items
+pub two_items : {A : Type 0} (xs : List A) (one two : A) → 2 ≤ length xs → length xs < 3 → one ≡ get_or xs 0 one
+    → two ≡ get_or xs 1 two → xs ≡ one ∷ two ∷ []
+two_items [] one two least most p q = absurd (omega (arith, least))
+two_items (a ∷ []) one two least most p q = absurd (omega (arith, least))
+two_items (a ∷ b ∷ []) one two least most p q = cc (p, q)
+two_items (a ∷ b ∷ c ∷ rest) one two least most p q = absurd (omega (arith, most))
 
 -- a test of equal bytes that was passed
 pub named_so : (word : String Global) (text name : List ℕ) (b : Bool) → text ≡ string_bytes word

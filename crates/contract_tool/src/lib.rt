@@ -3,16 +3,12 @@
 
 mod answering;
 mod config;
-mod laws;
 mod reply_line;
-mod response_body;
-mod response_line;
 mod serving;
 mod tool;
 mod words;
 
 pub use config::{ToolConfig, ToolStatus};
-pub use laws::one_reading_alone;
 pub use line_session::{
     Failed, MemorySink, MemorySource, SafeSink, SafeSource, Sink, SinkError, Source, StdSink,
     StdSource,
