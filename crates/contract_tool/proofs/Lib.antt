@@ -1,3 +1,1 @@
-pub mod VersionErrors
-pub mod WordLemmas
 pub mod RunLemmas

@@ -1,7 +1,6 @@
 -- How a run ends, by how its session or its document ends.
-use Rattle.std.proofs.Common.{◌≡◌, ◌+◌, ◌++◌, ℕ, List, [], ◌∷◌, append-nil, Option, None, Ok, Result, Err, Some, String}
-use Rattle.std.proofs.Common.{Global, codes, take, string_bytes, ◌⊎◌, inl, inr, refl, sym, ap, subst, ◌∙◌}
-use Rattle.std.proofs.Common.{option_and_then}
+use Rattle.std.proofs.Common.{◌≡◌, ◌+◌, ◌++◌, ℕ, List, [], append-nil, Option, None, Ok, Result, Err, Some, take}
+use Rattle.std.proofs.Common.{◌⊎◌, inl, inr, refl, sym, ap, subst, ◌∙◌, option_and_then}
 use Rattle.std.specs.Io.KnownBytes.{Appends}
 use Rattle.schema_values.specs.Causes.{HasRisen}
 use Rattle.schema_values.specs.Sound.{IsSound}
@@ -9,8 +8,7 @@ use Rattle.schema_values.specs.declared.json_value.Json.{Json}
 use Rattle.openapi_values.specs.declared.info.Info.{Info}
 use Rattle.openapi_values.specs.Admits.{pagination_of}
 use Rattle.openapi_values.proofs.Stands.{pages-stand}
-use Rattle.semver.specs.Identifiers.{parts_of}
-use Rattle.semver.specs.Parse.{Parts, version_parts}
+use Rattle.semver.specs.Parse.{Parts}
 use Rattle.line_session.specs.Lines.{HasLongLine, IsTooMuch, PassesNoLimit}
 use Rattle.line_session.specs.declared.ends.Sink.{Ghosts as SinkGhosts}
 use Rattle.line_session.specs.declared.ends.Source.{Ghosts as SourceGhosts}
@@ -36,42 +34,15 @@ use Rattle.endpoint_answers.specs.declared.outcome.ExchangeError.{ExchangeError}
 use Rattle.endpoint_answers.specs.declared.outcome.ExchangeError.TheVariants as failed
 use Rattle.api_descriptions.specs.Agreement.{FollowsDocument, IsValidFor}
 use Rattle.api_descriptions.specs.Written.{document_at}
-use Rattle.contract_tool.specs.declared.config.ToolConfig.{ToolConfig}
-use Rattle.contract_tool.specs.declared.config.ToolStatus.{ToolStatus}
-use Rattle.contract_tool.specs.declared.config.ToolStatus.TheVariants.{Done, Usage, Refused, ReadFault, WriteFault}
-use Rattle.contract_tool.specs.declared.config.ToolStatus.TheVariants.{LineTooLong, TooMuchInput, OutOfMemory}
+use Rattle.command_line.specs.declared.config.ToolConfig.{ToolConfig}
+use Rattle.command_line.specs.declared.config.ToolStatus.{ToolStatus}
+use Rattle.command_line.specs.declared.config.ToolStatus.TheVariants.{Done, Usage, Refused, ReadFault, WriteFault}
+use Rattle.command_line.specs.declared.config.ToolStatus.TheVariants.{LineTooLong, TooMuchInput, OutOfMemory}
+use Rattle.command_line.specs.Statuses.{status_of}
 use Rattle.contract_tool.specs.Ends.{CallsFor, DocumentEnds, IsServedSo, Outside, SessionEnds}
 use Rattle.contract_tool.specs.LineAnswers.{IsExchanged, Service, asked_in, asked_with, service}
 use Rattle.contract_tool.specs.Outcomes.{Tells}
-use Rattle.contract_tool.specs.Sessions.{IsDocumented, IsOpened, IsValidTo, info_at, status_of, written_document}
-use Rattle.contract_tool.specs.declared.words.Command.{Command}
-use Rattle.contract_tool.specs.declared.words.Command.TheVariants as commands
-use Rattle.contract_tool.specs.Words.{AskFor, AskForDocument, AskForSession, IsCommand, IsCommandOf}
-
--- ---- words
-
--- a command asks for one version
-pub asked_once : (command other : List ℕ) (words : List (String Global)) (one two : Parts) → AskFor command words one
-    → AskFor other words two → (one ≡ two) × (command ≡ other)
-asked_once command other words one two a b =
-    let lists : a.first ∷ a.second ∷ [] ≡ b.first ∷ b.second ∷ [] = sym a.two ∙ b.two in
-    let firsts : a.first ≡ b.first = cc lists in
-    let seconds : a.second ≡ b.second = cc lists in
-    let same : Ok one ≡ Ok two =
-    sym a.read ∙ ap (λ (w : String Global). version_parts (string_bytes w)) seconds ∙ b.read in
-    (cc same, sym a.asked ∙ ap string_bytes firsts ∙ b.asked)
-
--- no words ask for both
-pub not_both : (words : List (String Global)) (one two : Parts) → AskForSession words one → AskForDocument words two → ⊥
-not_both words one two a b =
-    let same : codes "session" ≡ codes "document" =
-    (asked_once (codes "session") (codes "document") words one two a b).1 in
-    cc same
-
--- each is a command
-pub command_is : (words : List (String Global)) (command : Command) → IsCommandOf words command → IsCommand words
-command_is words (commands.Session version) asked = (parts_of version, inl asked)
-command_is words (commands.Document version) asked = (parts_of version, inr asked)
+use Rattle.contract_tool.specs.Sessions.{IsDocumented, IsOpened, IsValidTo, info_at, written_document}
 
 -- ---- ends of sessions
 

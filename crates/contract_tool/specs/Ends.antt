@@ -20,12 +20,12 @@ use Rattle.api_registration.specs.declared.error.ApiDescriptionRegisterError.{Ap
 use Rattle.api_endpoints.specs.declared.endpoint.ApiEndpoint.{ApiEndpoint}
 use Rattle.api_endpoints.specs.Endpoints.{Meanings, declarations_of}
 use Rattle.api_descriptions.specs.Refusals.{IsFirstRefused}
-use Rattle.contract_tool.specs.declared.config.ToolConfig.{ToolConfig}
-use Rattle.contract_tool.specs.declared.config.ToolStatus.{ToolStatus}
-use Rattle.contract_tool.specs.declared.config.ToolStatus.TheVariants as status
+use Rattle.command_line.specs.declared.config.ToolConfig.{ToolConfig}
+use Rattle.command_line.specs.declared.config.ToolStatus.{ToolStatus}
+use Rattle.command_line.specs.declared.config.ToolStatus.TheVariants as status
 use Rattle.contract_tool.specs.LineAnswers.{LineAnswers, LineIsLost, Service, service}
 use Rattle.contract_tool.specs.Sessions.{IsDocumented, IsOpened, preamble_of}
-use Rattle.contract_tool.specs.Words.{AskForDocument, AskForSession, IsCommand}
+use Rattle.command_line.specs.Words.{AskForDocument, AskForSession, IsCommand}
 
 -- what a run reads, writes and changes, at a moment
 pub record Outside (S K : Type 0) : Type 0 where

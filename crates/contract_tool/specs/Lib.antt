@@ -1,5 +1,3 @@
-pub mod Words
-pub mod Codes
 pub mod Outcomes
 pub mod LineAnswers
 pub mod Sessions

@@ -11,10 +11,10 @@ ghost use Rattle.reply_lines.specs.ReplyLines.{bytes_of_line};
 ghost use Rattle.contract_tool.specs.LineAnswers.{LineAnswers, LineIsLost, asked_with, service};
 ghost use Rattle.contract_tool.specs.Outcomes.{Tells};
 
-use crate::config::ToolConfig;
 use crate::reply_line::reply_line;
 use api_descriptions::ApiDescription;
 use api_respond::RouteHandler;
+use command_line::ToolConfig;
 use http_bodies::{Body, SafeFrames};
 use line_session::Answering;
 use reply_lines::outcome_line;

@@ -5,15 +5,15 @@ ghost use Rattle.line_session.specs.Session.{IsAnswered};
 ghost use Rattle.semver.specs.Identifiers.{parts_of};
 ghost use Rattle.api_endpoints.specs.Endpoints.{boxed};
 ghost use Rattle.api_descriptions.specs.Ready.{IsReady};
-ghost use Rattle.contract_tool.specs.declared.config.ToolStatus.{ToolStatus as StatusValue};
+ghost use Rattle.command_line.specs.declared.config.ToolStatus.{ToolStatus as StatusValue};
 ghost use Rattle.contract_tool.specs.Ends.{CallsFor, DocumentEnds, EndsBy, SessionEnds, outside};
 ghost use Rattle.contract_tool.specs.LineAnswers.{LineAnswers, service};
 ghost use Rattle.contract_tool.specs.Sessions.{preamble_of};
 
 use crate::answering::LineAnswerer;
-use crate::config::{ToolConfig, ToolStatus};
 use api_descriptions::ApiDescription;
 use api_respond::RouteHandler;
+use command_line::{ToolConfig, ToolStatus};
 use line_session::{Sink, SinkError, Source, serve, write_all};
 use request_lines::RequestForm;
 use schema_values::List;

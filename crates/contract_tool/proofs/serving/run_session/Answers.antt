@@ -1,6 +1,6 @@
 use Rattle.std.proofs.Common.{ap, ◌∙◌}
-use Rattle.contract_tool.specs.declared.config.ToolStatus.TheVariants.{Done}
-use Rattle.contract_tool.specs.Sessions.{status_of}
+use Rattle.command_line.specs.declared.config.ToolStatus.TheVariants.{Done}
+use Rattle.command_line.specs.Statuses.{status_of}
 use Rattle.contract_tool.proofs.RunLemmas.{called_for, ended_so, session_ends}
 use Rattle.contract_tool.proofs.serving.run_session.Goals as goal
 

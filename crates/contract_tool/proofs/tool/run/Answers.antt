@@ -4,9 +4,9 @@ use Rattle.semver.specs.Identifiers.{parts_of}
 use Rattle.contract_tool.specs.Ends.{DocumentEnds, SessionEnds, outside}
 use Rattle.contract_tool.specs.LineAnswers.{LineAnswers, service}
 use Rattle.contract_tool.specs.Sessions.{preamble_of}
-use Rattle.contract_tool.specs.Words.{IsCommandOf}
-use Rattle.contract_tool.proofs.RunLemmas.{appended, asked_once, command_is, documented_as, no_usage}
-use Rattle.contract_tool.proofs.RunLemmas.{not_both, opened_as, service_as, written_whole}
+use Rattle.command_line.specs.Words.{IsCommandOf}
+use Rattle.command_line.proofs.CallerLemmas.{asked_once, command_is, not_both}
+use Rattle.contract_tool.proofs.RunLemmas.{appended, documented_as, no_usage, opened_as, service_as, written_whole}
 use Rattle.contract_tool.proofs.tool.run.Goals as goal
 
 -- ---- no command

@@ -2,14 +2,14 @@
 ghost use Rattle.std.specs.Prelude.{◌≡◌, ◌≢◌, ◌↔◌, Ok, IfOk, IsErrOf};
 ghost use Rattle.semver.specs.Identifiers.{parts_of};
 ghost use Rattle.semver.specs.Parse.{Parts, version_parts};
-ghost use Rattle.contract_tool.specs.Words.{IsCommand, IsCommandOf};
+ghost use Rattle.command_line.specs.Words.{IsCommand, IsCommandOf};
 
 use semver::Version;
 use std::alloc::{AllocError, Global};
 
 /// What the words of a command line ask for.
 #[derive(Drop)]
-pub(crate) enum Command {
+pub enum Command {
     /// A session at a version.
     Session(Version),
     /// The document of a version alone.
@@ -18,7 +18,7 @@ pub(crate) enum Command {
 
 /// Why no command was made of the words of a command line.
 #[derive(Clone, Copy, Debug, PartialEq, Eq)]
-pub(crate) enum WordsError {
+pub enum WordsError {
     /// They are none.
     Usage,
     /// There was not enough memory.
@@ -28,7 +28,7 @@ pub(crate) enum WordsError {
 impl From<semver::Error> for WordsError {
     ghost use Rattle.std.specs.Prelude.{◌≡◌, ◌≢◌, ◌↔◌};
     ghost use Rattle.semver.specs.Parse.{memory_error};
-    ghost use Rattle.contract_tool.specs.declared.words.WordsError.TheVariants.{Usage};
+    ghost use Rattle.command_line.specs.declared.words.WordsError.TheVariants.{Usage};
 
     ghost from_gives = { λ error made. made ≡ Usage ↔ (error ≢ memory_error) };
 
@@ -41,8 +41,9 @@ impl From<semver::Error> for WordsError {
     }
 }
 
-/// What the words ask for.
-pub(crate) fn command_of(alloc: Global, words: &[String]) -> Result<Command, WordsError>
+/// What the words of a command line ask for: they are `session` or `document`, and behind it a version by Semantic
+/// Versioning 2.0.0. `Usage` is told exactly of words that are no such command.
+pub fn command_of(alloc: Global, words: &[String]) -> Result<Command, WordsError>
     ensures command { IfOk result (IsCommandOf words.now) }
     ensures usage { IsErrOf result WordsError.Usage ↔ ¬ IsCommand words.now }
 {

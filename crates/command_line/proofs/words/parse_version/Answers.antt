@@ -1,8 +1,8 @@
 use Rattle.std.proofs.Common.{◌≡◌, Err, ap, inl, inr}
 use Rattle.std.proofs.lemmas.Result.{err_from_is_err_and}
-use Rattle.contract_tool.specs.declared.words.WordsError.TheVariants.{Usage}
-use Rattle.contract_tool.proofs.VersionErrors.{refused-by_text}
-use Rattle.contract_tool.proofs.words.parse_version.Goals as goal
+use Rattle.command_line.specs.declared.words.WordsError.TheVariants.{Usage}
+use Rattle.command_line.proofs.VersionErrors.{refused-by_text}
+use Rattle.command_line.proofs.words.parse_version.Goals as goal
 
 pub returns-in_err-parse-clause-usage : goal.returns-in_err-parse-clause-usage
 returns-in_err-parse-clause-usage c =

@@ -1,8 +1,8 @@
 use Rattle.std.proofs.Common.{◌≡◌, string_bytes, codes, inl, inr}
 use Rattle.std.proofs.lemmas.Result.{err_from_is_err_and}
 use Rattle.semver.specs.Identifiers.{parts_of}
-use Rattle.contract_tool.proofs.WordLemmas.{asked_so, named_so, no_command, two_items}
-use Rattle.contract_tool.proofs.words.command_of.Goals as goal
+use Rattle.command_line.proofs.WordLemmas.{asked_so, named_so, no_command, two_items}
+use Rattle.command_line.proofs.words.command_of.Goals as goal
 
 pub returns-in_err-parse_version-in-len2-clause-usage : goal.returns-in_err-parse_version-in-len2-clause-usage
 returns-in_err-parse_version-in-len2-clause-usage c =

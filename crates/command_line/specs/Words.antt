@@ -4,8 +4,8 @@ use Rattle.std.specs.declared.alloc.Global.{Global}
 use Rattle.std.specs.declared.string.String.{String}
 use Rattle.semver.specs.Identifiers.{parts_of}
 use Rattle.semver.specs.Parse.{Parts, version_parts}
-use Rattle.contract_tool.specs.declared.words.Command.{Command}
-use Rattle.contract_tool.specs.declared.words.Command.TheVariants as commands
+use Rattle.command_line.specs.declared.words.Command.{Command}
+use Rattle.command_line.specs.declared.words.Command.TheVariants as commands
 
 -- the words are this one, and behind it a version of these parts
 pub record AskFor (command : List ℕ) (words : List (String Global)) (version : Parts) : Type 0 where

@@ -1,8 +1,8 @@
 //! The settings of a run, and how it ends.
 ghost use Rattle.std.specs.Prelude.{◌≡◌, IfOk};
-ghost use Rattle.contract_tool.specs.Codes.{code_of};
+ghost use Rattle.command_line.specs.Statuses.{code_of};
 
-use api_descriptions::ApiDescriptionRegisterError;
+use api_registration::ApiDescriptionRegisterError;
 use line_session::SessionEnd;
 use request_parts::ServerConfig;
 use schema_values::Text;
@@ -66,7 +66,7 @@ pub enum ToolStatus {
 
 impl From<SessionEnd> for ToolStatus {
     ghost use Rattle.std.specs.Prelude.{◌≡◌};
-    ghost use Rattle.contract_tool.specs.Sessions.{status_of};
+    ghost use Rattle.command_line.specs.Statuses.{status_of};
 
     ghost from_gives = { λ end status. status ≡ status_of end };
 
@@ -119,7 +119,7 @@ impl ToolStatus {
 /// Writes why the run ended so; nothing where it did all.
 impl fmt::Display for ToolStatus {
     ghost use Rattle.std.specs.Prelude.{Some};
-    ghost use Rattle.contract_tool.specs.Codes.{status_text};
+    ghost use Rattle.command_line.specs.Statuses.{status_text};
 
     ghost output = { λ status. Some (status_text status) };
 

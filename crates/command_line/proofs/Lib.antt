@@ -1,0 +1,3 @@
+pub mod VersionErrors
+pub mod WordLemmas
+pub mod CallerLemmas
