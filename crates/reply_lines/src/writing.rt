@@ -40,10 +40,11 @@ pub fn outcome_line(alloc: Global, outcome: &str) -> Result<List<u8>, AllocError
     Ok(out.into_bytes())
 }
 
-/// The line of an outcome that has a response, whose body is read whole for it, in at most `budget` frames: the bytes of
-/// a compact object that tells the outcome, the status, the header lines and the content of the body. Where a call on
-/// the body fails, the line tells `reply-fault` in place of the outcome, and where the body has more frames than the
-/// budget, `reply-budget`; then it tells nothing of the response. The outcome is ASCII, and the budget below 2^64-1.
+/// The line of an outcome that has a response, whose body is read whole for it, in at most `budget` frames: the bytes
+/// of a compact object that tells the outcome, the status, the header lines and the content of the body. Where a call
+/// on the body fails, the line tells `reply-fault` in place of the outcome, and where the body has more frames than
+/// the budget, `reply-budget`; then it tells nothing of the response. The outcome is ASCII, and the budget below
+/// 2^64-1.
 pub fn response_line(
     alloc: Global,
     outcome: &str,
