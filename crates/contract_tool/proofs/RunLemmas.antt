@@ -39,7 +39,7 @@ use Rattle.command_line.specs.declared.config.ToolStatus.{ToolStatus}
 use Rattle.command_line.specs.declared.config.ToolStatus.TheVariants.{Done, Usage, Refused, ReadFault, WriteFault}
 use Rattle.command_line.specs.declared.config.ToolStatus.TheVariants.{LineTooLong, TooMuchInput, OutOfMemory}
 use Rattle.command_line.specs.Statuses.{status_of}
-use Rattle.contract_tool.specs.Ends.{CallsFor, DocumentEnds, IsServedSo, Outside, SessionEnds}
+use Rattle.contract_tool.specs.Ends.{CallsFor, DocumentEnds, IsServedSo, Outside, ServingEnds}
 use Rattle.contract_tool.specs.LineAnswers.{IsExchanged, Service, asked_in, asked_with, service}
 use Rattle.contract_tool.specs.Outcomes.{Tells}
 use Rattle.contract_tool.specs.Sessions.{IsDocumented, IsOpened, IsValidTo, info_at, written_document}
@@ -98,12 +98,13 @@ called_for config all end result status is calls none long much = by_status stat
     by_status WriteFault calls = absurd calls
     by_status OutOfMemory calls = absurd calls
 
-module _ {X : Type 0} {F : X → Type 0} {S K : Type 0} (m : Meanings X F) (s : Service X F)
-    (source : SourceGhosts S) (sink : SinkGhosts K) (before after : Outside S K) where
-  by_how : (how : SessionEnd) → IsServedSo m s source sink before after how
+module _ {S K X : Type 0} (answers : X → List ℕ → List ℕ → X → Type 0) (lost : X → List ℕ → X → Type 0)
+    (front : List ℕ) (config : ToolConfig) (source : SourceGhosts S) (sink : SinkGhosts K)
+    (before after : Outside S K X) where
+  by_how : (how : SessionEnd) → IsServedSo answers lost front config source sink before after how
       → (how ≡ ended.ReadFault → HasRisen (source.faults before.source) (source.faults after.source))
       → (how ≡ ended.WriteFault → HasRisen (sink.faults before.sink) (sink.faults after.sink))
-      → SessionEnds m s source sink before after (status_of how)
+      → ServingEnds answers lost front config source sink before after (status_of how)
   by_how ended.Done served read write = served
   by_how ended.ReadFault served read write = (read refl, served)
   by_how ended.WriteFault served read write = (write refl, served)
@@ -111,18 +112,19 @@ module _ {X : Type 0} {F : X → Type 0} {S K : Type 0} (m : Meanings X F) (s : 
   by_how (ended.TooMuchInput bytes) served read write = served
   by_how ended.OutOfMemory served read write = inr served
 
-  -- what a session says that ended so
-  pub session_ends : (how : SessionEnd) (result : ToolStatus) → result ≡ status_of how
-      → IsServedSo m s source sink before after how
+  -- what is said of lines whose serving ended so
+  pub serving_ends : (how : SessionEnd) (result : ToolStatus) → result ≡ status_of how
+      → IsServedSo answers lost front config source sink before after how
       → (how ≡ ended.ReadFault → HasRisen (source.faults before.source) (source.faults after.source))
       → (how ≡ ended.WriteFault → HasRisen (sink.faults before.sink) (sink.faults after.sink))
-      → SessionEnds m s source sink before after result
-  session_ends how result is served read write =
-      subst (SessionEnds m s source sink before after) (sym is) (by_how how served read write)
+      → ServingEnds answers lost front config source sink before after result
+  serving_ends how result is served read write =
+      subst (ServingEnds answers lost front config source sink before after) (sym is) (by_how how served read write)
 
-  -- a session is no usage, and refuses nothing
-  pub no_usage : (result : ToolStatus) → SessionEnds m s source sink before after result → result ≡ Usage → ⊥
-  no_usage result ends is = subst (SessionEnds m s source sink before after) is ends
+  -- lines that are served are no usage, and refuse nothing
+  pub no_usage : (result : ToolStatus) → ServingEnds answers lost front config source sink before after result
+      → result ≡ Usage → ⊥
+  no_usage result ends is = subst (ServingEnds answers lost front config source sink before after) is ends
 
 -- ---- ends of documents
 

@@ -28,49 +28,54 @@ use Rattle.contract_tool.specs.Sessions.{IsDocumented, IsOpened, preamble_of}
 use Rattle.command_line.specs.Words.{AskForDocument, AskForSession, IsCommand}
 
 -- what a run reads, writes and changes, at a moment
-pub record Outside (S K : Type 0) : Type 0 where
+pub record Outside (S K X : Type 0) : Type 0 where
   pub source : S
   pub sink : K
-  pub store : Tables
+  pub store : X
 
 -- a moment by its parts
-abbrev pub outside : {S K : Type 0} → S → K → Tables → Outside S K
+abbrev pub outside : {S K X : Type 0} → S → K → X → Outside S K X
 outside source sink store = record { source = source; sink = sink; store = store }
 
 -- nothing was read, and the store stays; the sink may have taken bytes
-abbrev pub OnlyWrites : {S K : Type 0} → Outside S K → Outside S K → Type 0
+abbrev pub OnlyWrites : {S K X : Type 0} → Outside S K X → Outside S K X → Type 0
 OnlyWrites before after = (after.source ≡ before.source) × (after.store ≡ before.store)
 
 -- ---- a session
 
-module _ {X : Type 0} {F : X → Type 0} {S K : Type 0} (m : Meanings X F) (s : Service X F)
-    (source : SourceGhosts S) (sink : SinkGhosts K) (before after : Outside S K) where
-  -- The document and the replies to lines were written, and it ended so: by the bytes that source and sink tell, and
-  -- by those that the calls of them gave and took. Where the source tells its bytes, they meet the limits as this end
+-- of lines that are answered so, or whose reply is lost so, behind a text in front
+module _ {S K X : Type 0} (answers : X → List ℕ → List ℕ → X → Type 0) (lost : X → List ℕ → X → Type 0)
+    (front : List ℕ) (config : ToolConfig) (source : SourceGhosts S) (sink : SinkGhosts K)
+    (before after : Outside S K X) where
+  -- The front and the replies to lines were written, and it ended so: by the bytes that source and sink tell, and by
+  -- those that the calls of them gave and took. Where the source tells its bytes, they meet the limits as this end
   -- says.
   pub record IsServedSo (how : SessionEnd) : Type 0 where
-    pub served : IsServed (LineAnswers m s) (LineIsLost m s) (preamble_of m s)
-        s.config.most_input s.config.longest_line
+    pub served : IsServed answers lost front config.most_input config.longest_line
         (source.left before.source) (source.left after.source)
         (sink.taken before.sink) (sink.taken after.sink) before.store after.store how
-    pub calls : IsServedBy (LineAnswers m s) (LineIsLost m s) (preamble_of m s)
-        s.config.most_input s.config.longest_line source sink
+    pub calls : IsServedBy answers lost front config.most_input config.longest_line source sink
         before.source after.source before.sink after.sink before.store after.store how
     pub limits : (all : List ℕ) → source.left before.source ≡ Some all
-        → MeetsLimits s.config.most_input s.config.longest_line all how
+        → MeetsLimits config.most_input config.longest_line all how
 
-  -- what each status says of a session; for want of memory it may not have begun
-  abbrev pub SessionEnds : ToolStatus → Type 0
-  SessionEnds status.Done = IsServedSo end.Done
-  SessionEnds status.ReadFault =
+  -- what each status says of it; for want of memory it may not have begun
+  abbrev pub ServingEnds : ToolStatus → Type 0
+  ServingEnds status.Done = IsServedSo end.Done
+  ServingEnds status.ReadFault =
       HasRisen (source.faults before.source) (source.faults after.source) × IsServedSo end.ReadFault
-  SessionEnds status.WriteFault =
+  ServingEnds status.WriteFault =
       HasRisen (sink.faults before.sink) (sink.faults after.sink) × IsServedSo end.WriteFault
-  SessionEnds (status.LineTooLong bytes) = IsServedSo (end.LineTooLong bytes)
-  SessionEnds (status.TooMuchInput bytes) = IsServedSo (end.TooMuchInput bytes)
-  SessionEnds status.OutOfMemory = (after ≡ before) ⊎ IsServedSo end.OutOfMemory
-  SessionEnds status.Usage = ⊥
-  SessionEnds (status.Refused error) = ⊥
+  ServingEnds (status.LineTooLong bytes) = IsServedSo (end.LineTooLong bytes)
+  ServingEnds (status.TooMuchInput bytes) = IsServedSo (end.TooMuchInput bytes)
+  ServingEnds status.OutOfMemory = (after ≡ before) ⊎ IsServedSo end.OutOfMemory
+  ServingEnds status.Usage = ⊥
+  ServingEnds (status.Refused error) = ⊥
+
+-- what each status says of a session: lines are answered by a service, behind its document
+abbrev pub SessionEnds : {X : Type 0} {F : X → Type 0} {S K : Type 0} → Meanings X F → Service X F → SourceGhosts S
+    → SinkGhosts K → Outside S K Tables → Outside S K Tables → ToolStatus → Type 0
+SessionEnds m s = ServingEnds (LineAnswers m s) (LineIsLost m s) (preamble_of m s) s.config
 
 -- ---- a document alone
 
@@ -105,7 +110,7 @@ abbrev pub service_at : {X : Type 0} {F : X → Type 0} → Given X F → Parts 
 service_at g version = service g.config g.tags g.endpoints version
 
 module _ {X : Type 0} {F : X → Type 0} {S K : Type 0} (m : Meanings X F) (g : Given X F)
-    (source : SourceGhosts S) (sink : SinkGhosts K) (before after : Outside S K) where
+    (source : SourceGhosts S) (sink : SinkGhosts K) (before after : Outside S K Tables) where
   -- what each status says of a run that did not begin: nothing was read, written or stored
   abbrev pub EndsBefore : ToolStatus → Type 0
   EndsBefore status.Usage = ¬ IsCommand g.words × (after ≡ before)

@@ -85,7 +85,7 @@ returns-in-Session-clause-ended g c =
 
 pub returns-in-Session-clause-usage : goal.returns-in-Session-clause-usage
 returns-in-Session-clause-usage g c = (
-  λ is. absurd (no_usage _ _ _ _ _ _ c.run_session.result c.run_session.ensures.ends is),
+  λ is. absurd (no_usage _ _ _ _ _ _ _ _ c.run_session.result c.run_session.ensures.ends is),
   λ none. absurd (none (
     parts_of c.in-Session.version,
     inl (subst (IsCommandOf c.args.words.now) c.in-Session.is c.in-Ok.ensures.command),
