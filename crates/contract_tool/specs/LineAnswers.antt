@@ -11,9 +11,9 @@ use Rattle.request_lines.specs.RequestLines.{AsksFor, IsBadLine}
 use Rattle.reply_lines.specs.ReplyLines.{bytes_of_line, outcome_alone}
 use Rattle.api_endpoints.specs.declared.endpoint.ApiEndpoint.{ApiEndpoint}
 use Rattle.api_endpoints.specs.Endpoints.{Meanings}
-use Rattle.api_exchanges.specs.declared.outcome.Exchange.{Exchange}
-use Rattle.api_exchanges.specs.declared.outcome.ExchangeError.{ExchangeError}
-use Rattle.api_exchanges.specs.Exchanges.{Answers, Asked, asked, called}
+use Rattle.endpoint_answers.specs.declared.outcome.Exchange.{Exchange}
+use Rattle.endpoint_answers.specs.declared.outcome.ExchangeError.{ExchangeError}
+use Rattle.endpoint_answers.specs.Exchanges.{Answers, Asked, asked, called}
 use Rattle.command_line.specs.declared.config.ToolConfig.{ToolConfig}
 use Rattle.contract_tool.specs.Outcomes.{Tells}
 

@@ -3,10 +3,10 @@ use Rattle.std.specs.Prelude.{◌≡◌, ℕ, codes, Result}
 use Rattle.std.specs.declared.result.Result.TheVariants.{Ok, Err}
 use Rattle.schema_values.specs.declared.json_value.Json.{Json}
 use Rattle.reply_lines.specs.ReplyLines.{Shows, outcome_alone}
-use Rattle.api_exchanges.specs.declared.outcome.Exchange.{Exchange}
-use Rattle.api_exchanges.specs.declared.outcome.Exchange.TheVariants.{Handled, Refused}
-use Rattle.api_exchanges.specs.declared.outcome.ExchangeError.{ExchangeError}
-use Rattle.api_exchanges.specs.declared.outcome.ExchangeError.TheVariants as failed
+use Rattle.endpoint_answers.specs.declared.outcome.Exchange.{Exchange}
+use Rattle.endpoint_answers.specs.declared.outcome.Exchange.TheVariants.{Handled, Refused}
+use Rattle.endpoint_answers.specs.declared.outcome.ExchangeError.{ExchangeError}
+use Rattle.endpoint_answers.specs.declared.outcome.ExchangeError.TheVariants as failed
 
 -- one row for each outcome; want of memory is told by no line
 abbrev pub Tells : ℕ → Result Exchange ExchangeError → Json → Type 0

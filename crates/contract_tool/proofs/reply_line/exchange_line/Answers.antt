@@ -1,6 +1,6 @@
 use Rattle.std.proofs.Common.{Ok, subst, sym}
 use Rattle.std.proofs.lemmas.Result.{IfOk-weaker}
-use Rattle.api_exchanges.specs.declared.outcome.Exchange.{Exchange}
+use Rattle.endpoint_answers.specs.declared.outcome.Exchange.{Exchange}
 use Rattle.contract_tool.specs.Outcomes.{Tells}
 use Rattle.contract_tool.proofs.reply_line.exchange_line.Goals as goal
 
