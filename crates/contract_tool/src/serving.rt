@@ -6,15 +6,16 @@ ghost use Rattle.semver.specs.Identifiers.{parts_of};
 ghost use Rattle.api_endpoints.specs.Endpoints.{boxed};
 ghost use Rattle.api_descriptions.specs.Ready.{IsReady};
 ghost use Rattle.command_line.specs.declared.config.ToolStatus.{ToolStatus as StatusValue};
-ghost use Rattle.contract_tool.specs.Ends.{CallsFor, DocumentEnds, EndsBy, ServingEnds, SessionEnds, outside};
+ghost use Rattle.command_line.specs.Serving.{CallsFor, EndsBy, outside};
+ghost use Rattle.contract_tool.specs.Ends.{DocumentEnds, SessionEnds};
 ghost use Rattle.contract_tool.specs.LineAnswers.{LineAnswers, service};
 ghost use Rattle.contract_tool.specs.Sessions.{preamble_of};
 
 use crate::answering::LineAnswerer;
 use api_descriptions::ApiDescription;
 use api_respond::RouteHandler;
-use command_line::{ToolConfig, ToolStatus};
-use line_session::{Answering, Sink, SinkError, Source, serve, write_all};
+use command_line::{ToolConfig, ToolStatus, serve_within};
+use line_session::{Sink, SinkError, Source, write_all};
 use request_lines::RequestForm;
 use schema_values::List;
 use semver::Version;
@@ -78,48 +79,6 @@ pub(crate) fn run_session<S: Source, K: Sink>(
         source,
         sink,
     )
-}
-
-// Serves lines within the limits of the settings, whatever answers them. It stands apart, so that its proof knows of
-// no endpoints.
-fn serve_within<A: Answering, S: Source, K: Sink>(
-    alloc: Global,
-    answering: &A,
-    state: &mut A::State,
-    front: &[u8],
-    config: &ToolConfig,
-    source: &mut S,
-    sink: &mut K,
-) -> ToolStatus
-    requires ready { A.can_answer answering.now }
-    requires most { config.now.most_input < 2 ^ 64 - 1 }
-    requires longest { config.now.longest_line < 2 ^ 64 - 1 }
-    ensures session { result ≡ ToolStatus.Done → (all earlier : ListOf ℕ)
-        → S.left source.old ≡ Some all → K.taken sink.old ≡ Some earlier
-        → IsAnswered (A.answers answering.now) front.now all earlier
-        (S.left source.new) (K.taken sink.new) state.old state.new }
-    ensures ends { ServingEnds (A.answers answering.now) (A.lost answering.now) front.now config.now S.Source K.Sink
-        (outside source.old sink.old state.old) (outside source.new sink.new state.new) result }
-    ensures complete { (all : ListOf ℕ) → S.left source.old ≡ Some all
-        → (status : StatusValue) → CallsFor config.now all status
-        → ¬ HasRisen (S.faults source.old) (S.faults source.new)
-        → ¬ HasRisen (K.faults sink.old) (K.faults sink.new)
-        → EndsBy status result }
-    ensures source_later { S.faults source.old ≤ S.faults source.new }
-    ensures sink_later { K.faults sink.old ≤ K.faults sink.new }
-    ensures read_risen { S.faults source.old < S.faults source.new → result ≡ ToolStatus.ReadFault }
-    ensures write_risen { K.faults sink.old < K.faults sink.new → result ≡ ToolStatus.WriteFault }
-{
-    ToolStatus::from(serve(
-        alloc,
-        answering,
-        state,
-        front,
-        config.most_input,
-        config.longest_line,
-        source,
-        sink,
-    ))
 }
 
 // The pretty text of the document, and a newline.

@@ -4,9 +4,9 @@ ghost use Rattle.schema_values.specs.Causes.{HasRisen};
 ghost use Rattle.semver.specs.Parse.{Parts};
 ghost use Rattle.api_endpoints.specs.Endpoints.{boxed};
 ghost use Rattle.command_line.specs.declared.config.ToolStatus.{ToolStatus as StatusValue};
+ghost use Rattle.command_line.specs.Serving.{CallsFor, EndsBy, outside};
 ghost use Rattle.command_line.specs.Words.{AskForDocument, AskForSession, IsCommand};
-ghost use Rattle.contract_tool.specs.Ends.{CallsFor, EndsBy, EndsByRefusal, IsEnded, OnlyWrites};
-ghost use Rattle.contract_tool.specs.Ends.{given, outside};
+ghost use Rattle.contract_tool.specs.Ends.{EndsByRefusal, IsEnded, OnlyWrites, given};
 ghost use Rattle.contract_tool.specs.LineAnswers.{service};
 ghost use Rattle.contract_tool.specs.Sessions.{AreAcceptedUnder, IsDocumentWritten, IsSession};
 

@@ -1,12 +1,13 @@
 use Rattle.std.proofs.Common.{◌∙◌, Err, ap, codes, inl, inr, refl, subst, sym}
 use Rattle.line_session.specs.Session.{IsAnswered}
 use Rattle.semver.specs.Identifiers.{parts_of}
-use Rattle.contract_tool.specs.Ends.{DocumentEnds, SessionEnds, outside}
+use Rattle.command_line.specs.Serving.{outside}
+use Rattle.command_line.specs.Words.{IsCommandOf}
+use Rattle.command_line.proofs.CallerLemmas.{asked_once, command_is, no_usage, not_both}
+use Rattle.contract_tool.specs.Ends.{DocumentEnds, SessionEnds}
 use Rattle.contract_tool.specs.LineAnswers.{LineAnswers, service}
 use Rattle.contract_tool.specs.Sessions.{preamble_of}
-use Rattle.command_line.specs.Words.{IsCommandOf}
-use Rattle.command_line.proofs.CallerLemmas.{asked_once, command_is, not_both}
-use Rattle.contract_tool.proofs.RunLemmas.{appended, documented_as, no_usage, opened_as, service_as, written_whole}
+use Rattle.contract_tool.proofs.RunLemmas.{appended, documented_as, opened_as, service_as, written_whole}
 use Rattle.contract_tool.proofs.tool.run.Goals as goal
 
 -- ---- no command

@@ -1,8 +1,8 @@
 use Rattle.std.proofs.Common.{ap, ◌∙◌}
 use Rattle.command_line.specs.declared.config.ToolStatus.TheVariants.{Done}
 use Rattle.command_line.specs.Statuses.{status_of}
-use Rattle.contract_tool.proofs.RunLemmas.{called_for, ended_so, serving_ends}
-use Rattle.contract_tool.proofs.serving.serve_within.Goals as goal
+use Rattle.command_line.proofs.ServingLemmas.{called_for, ended_so, serving_ends}
+use Rattle.command_line.proofs.serving.serve_within.Goals as goal
 
 pub returns-clause-session : goal.returns-clause-session
 returns-clause-session g c is =
