@@ -1,21 +1,14 @@
 -- How a run ends, by how its session or its document ends.
-use Rattle.std.proofs.Common.{◌≡◌, ◌+◌, ◌++◌, ℕ, List, [], ◌∷◌, append-nil, Option, None, Ok, Result, Err, Some, String}
-use Rattle.std.proofs.Common.{Global, codes, take, string_bytes, ◌⊎◌, inl, inr, refl, sym, ap, subst, ◌∙◌}
-use Rattle.std.proofs.Common.{option_and_then}
+use Rattle.std.proofs.Common.{◌≡◌, ◌++◌, ℕ, List, [], append-nil, Option, None, Ok, Result, Err, Some}
+use Rattle.std.proofs.Common.{refl, sym, ap, subst, ◌∙◌, option_and_then}
 use Rattle.std.specs.Io.KnownBytes.{Appends}
-use Rattle.schema_values.specs.Causes.{HasRisen}
 use Rattle.schema_values.specs.Sound.{IsSound}
 use Rattle.schema_values.specs.declared.json_value.Json.{Json}
 use Rattle.openapi_values.specs.declared.info.Info.{Info}
 use Rattle.openapi_values.specs.Admits.{pagination_of}
 use Rattle.openapi_values.proofs.Stands.{pages-stand}
-use Rattle.semver.specs.Identifiers.{parts_of}
-use Rattle.semver.specs.Parse.{Parts, version_parts}
-use Rattle.line_session.specs.Lines.{HasLongLine, IsTooMuch, PassesNoLimit}
+use Rattle.semver.specs.Parse.{Parts}
 use Rattle.line_session.specs.declared.ends.Sink.{Ghosts as SinkGhosts}
-use Rattle.line_session.specs.declared.ends.Source.{Ghosts as SourceGhosts}
-use Rattle.line_session.specs.declared.serving.SessionEnd.{SessionEnd}
-use Rattle.line_session.specs.declared.serving.SessionEnd.TheVariants as ended
 use Rattle.http_bodies.specs.declared.frame.Frame.{Frame}
 use Rattle.tag_config.specs.Configurations.{Configuration}
 use Rattle.tree_store.specs.Tables.{Tables}
@@ -36,122 +29,13 @@ use Rattle.endpoint_answers.specs.declared.outcome.ExchangeError.{ExchangeError}
 use Rattle.endpoint_answers.specs.declared.outcome.ExchangeError.TheVariants as failed
 use Rattle.api_descriptions.specs.Agreement.{FollowsDocument, IsValidFor}
 use Rattle.api_descriptions.specs.Written.{document_at}
-use Rattle.contract_tool.specs.declared.config.ToolConfig.{ToolConfig}
-use Rattle.contract_tool.specs.declared.config.ToolStatus.{ToolStatus}
-use Rattle.contract_tool.specs.declared.config.ToolStatus.TheVariants.{Done, Usage, Refused, ReadFault, WriteFault}
-use Rattle.contract_tool.specs.declared.config.ToolStatus.TheVariants.{LineTooLong, TooMuchInput, OutOfMemory}
-use Rattle.contract_tool.specs.Ends.{CallsFor, DocumentEnds, IsServedSo, Outside, SessionEnds}
+use Rattle.command_line.specs.declared.config.ToolConfig.{ToolConfig}
+use Rattle.command_line.specs.declared.config.ToolStatus.{ToolStatus}
+use Rattle.command_line.specs.declared.config.ToolStatus.TheVariants.{Done}
+use Rattle.contract_tool.specs.Ends.{DocumentEnds}
 use Rattle.contract_tool.specs.LineAnswers.{IsExchanged, Service, asked_in, asked_with, service}
-use Rattle.contract_tool.specs.ReplyLines.{Tells}
-use Rattle.contract_tool.specs.Sessions.{IsDocumented, IsOpened, IsValidTo, info_at, status_of, written_document}
-use Rattle.contract_tool.specs.declared.words.Command.{Command}
-use Rattle.contract_tool.specs.declared.words.Command.TheVariants as commands
-use Rattle.contract_tool.specs.Words.{AskFor, AskForDocument, AskForSession, IsCommand, IsCommandOf}
-
--- ---- words
-
--- a command asks for one version
-pub asked_once : (command other : List ℕ) (words : List (String Global)) (one two : Parts) → AskFor command words one
-    → AskFor other words two → (one ≡ two) × (command ≡ other)
-asked_once command other words one two a b =
-    let lists : a.first ∷ a.second ∷ [] ≡ b.first ∷ b.second ∷ [] = sym a.two ∙ b.two in
-    let firsts : a.first ≡ b.first = cc lists in
-    let seconds : a.second ≡ b.second = cc lists in
-    let same : Ok one ≡ Ok two =
-    sym a.read ∙ ap (λ (w : String Global). version_parts (string_bytes w)) seconds ∙ b.read in
-    (cc same, sym a.asked ∙ ap string_bytes firsts ∙ b.asked)
-
--- no words ask for both
-pub not_both : (words : List (String Global)) (one two : Parts) → AskForSession words one → AskForDocument words two → ⊥
-not_both words one two a b =
-    let same : codes "session" ≡ codes "document" =
-    (asked_once (codes "session") (codes "document") words one two a b).1 in
-    cc same
-
--- each is a command
-pub command_is : (words : List (String Global)) (command : Command) → IsCommandOf words command → IsCommand words
-command_is words (commands.Session version) asked = (parts_of version, inl asked)
-command_is words (commands.Document version) asked = (parts_of version, inr asked)
-
--- ---- ends of sessions
-
--- the end of a session that ends a run so
-abbrev pub end_of : ToolStatus → SessionEnd
-end_of Done = ended.Done
-end_of Usage = ended.OutOfMemory
-end_of (Refused error) = ended.OutOfMemory
-end_of ReadFault = ended.ReadFault
-end_of WriteFault = ended.WriteFault
-end_of (LineTooLong bytes) = ended.LineTooLong bytes
-end_of OutOfMemory = ended.OutOfMemory
-end_of (TooMuchInput bytes) = ended.TooMuchInput bytes
-
-end_of-status_of : (end : SessionEnd) → end_of (status_of end) ≡ end
-end_of-status_of ended.Done = refl
-end_of-status_of ended.ReadFault = refl
-end_of-status_of ended.WriteFault = refl
-end_of-status_of (ended.LineTooLong bytes) = refl
-end_of-status_of (ended.TooMuchInput bytes) = refl
-end_of-status_of ended.OutOfMemory = refl
-
--- the session's end, by the run's
-pub ended_so : (end : SessionEnd) (result status : ToolStatus) → result ≡ status_of end → result ≡ status
-    → end ≡ end_of status
-ended_so end result status is same = sym (end_of-status_of end) ∙ ap end_of (sym is ∙ same)
-
--- a session that ends by the status that is called for, or for want of memory, ends the run so
-pub called_for : (config : ToolConfig) (all : List ℕ) (end : SessionEnd) (result status : ToolStatus)
-    → result ≡ status_of end → CallsFor config all status
-    → (PassesNoLimit config.most_input config.longest_line all → (end ≡ ended.Done) ⊎ (end ≡ ended.OutOfMemory))
-    → (HasLongLine config.longest_line (take config.most_input all)
-    → (end ≡ ended.LineTooLong (config.longest_line + 1)) ⊎ (end ≡ ended.OutOfMemory))
-    → (IsTooMuch config.most_input config.longest_line all
-    → (end ≡ ended.TooMuchInput (config.most_input + 1)) ⊎ (end ≡ ended.OutOfMemory))
-    → (result ≡ status) ⊎ (result ≡ OutOfMemory)
-called_for config all end result status is calls none long much = by_status status calls
-  where
-    by_end : (to : SessionEnd) → (end ≡ to) ⊎ (end ≡ ended.OutOfMemory)
-        → (result ≡ status_of to) ⊎ (result ≡ OutOfMemory)
-    by_end to (inl same) = inl (is ∙ ap status_of same)
-    by_end to (inr same) = inr (is ∙ ap status_of same)
-
-    by_status : (status : ToolStatus) → CallsFor config all status → (result ≡ status) ⊎ (result ≡ OutOfMemory)
-    by_status Done calls = by_end ended.Done (none calls)
-    by_status (LineTooLong bytes) calls =
-        rw calls.0 (by_end (ended.LineTooLong (config.longest_line + 1)) (long calls.1))
-    by_status (TooMuchInput bytes) calls =
-        rw calls.0 (by_end (ended.TooMuchInput (config.most_input + 1)) (much calls.1))
-    by_status Usage calls = absurd calls
-    by_status (Refused error) calls = absurd calls
-    by_status ReadFault calls = absurd calls
-    by_status WriteFault calls = absurd calls
-    by_status OutOfMemory calls = absurd calls
-
-module _ {X : Type 0} {F : X → Type 0} {S K : Type 0} (m : Meanings X F) (s : Service X F)
-    (source : SourceGhosts S) (sink : SinkGhosts K) (before after : Outside S K) where
-  by_how : (how : SessionEnd) → IsServedSo m s source sink before after how
-      → (how ≡ ended.ReadFault → HasRisen (source.faults before.source) (source.faults after.source))
-      → (how ≡ ended.WriteFault → HasRisen (sink.faults before.sink) (sink.faults after.sink))
-      → SessionEnds m s source sink before after (status_of how)
-  by_how ended.Done served read write = served
-  by_how ended.ReadFault served read write = (read refl, served)
-  by_how ended.WriteFault served read write = (write refl, served)
-  by_how (ended.LineTooLong bytes) served read write = served
-  by_how (ended.TooMuchInput bytes) served read write = served
-  by_how ended.OutOfMemory served read write = inr served
-
-  -- what a session says that ended so
-  pub session_ends : (how : SessionEnd) (result : ToolStatus) → result ≡ status_of how
-      → IsServedSo m s source sink before after how
-      → (how ≡ ended.ReadFault → HasRisen (source.faults before.source) (source.faults after.source))
-      → (how ≡ ended.WriteFault → HasRisen (sink.faults before.sink) (sink.faults after.sink))
-      → SessionEnds m s source sink before after result
-  session_ends how result is served read write =
-      subst (SessionEnds m s source sink before after) (sym is) (by_how how served read write)
-
-  -- a session is no usage, and refuses nothing
-  pub no_usage : (result : ToolStatus) → SessionEnds m s source sink before after result → result ≡ Usage → ⊥
-  no_usage result ends is = subst (SessionEnds m s source sink before after) is ends
+use Rattle.contract_tool.specs.Outcomes.{Tells}
+use Rattle.contract_tool.specs.Sessions.{IsDocumented, IsOpened, IsValidTo, info_at, written_document}
 
 -- ---- ends of documents
 

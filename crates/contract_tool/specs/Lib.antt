@@ -1,7 +1,4 @@
-pub mod Words
-pub mod Codes
-pub mod ResponseBodies
-pub mod ReplyLines
+pub mod Outcomes
 pub mod LineAnswers
 pub mod Sessions
 pub mod Ends

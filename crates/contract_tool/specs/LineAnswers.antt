@@ -8,13 +8,14 @@ use Rattle.tag_config.specs.Configurations.{Configuration}
 use Rattle.tree_store.specs.Tables.{Tables}
 use Rattle.request_parts.specs.Requests.{Request}
 use Rattle.request_lines.specs.RequestLines.{AsksFor, IsBadLine}
+use Rattle.reply_lines.specs.ReplyLines.{bytes_of_line, outcome_alone}
 use Rattle.api_endpoints.specs.declared.endpoint.ApiEndpoint.{ApiEndpoint}
 use Rattle.api_endpoints.specs.Endpoints.{Meanings}
 use Rattle.endpoint_answers.specs.declared.outcome.Exchange.{Exchange}
 use Rattle.endpoint_answers.specs.declared.outcome.ExchangeError.{ExchangeError}
 use Rattle.endpoint_answers.specs.Exchanges.{Answers, Asked, asked, called}
-use Rattle.contract_tool.specs.declared.config.ToolConfig.{ToolConfig}
-use Rattle.contract_tool.specs.ReplyLines.{Tells, bytes_of_line, outcome_alone}
+use Rattle.command_line.specs.declared.config.ToolConfig.{ToolConfig}
+use Rattle.contract_tool.specs.Outcomes.{Tells}
 
 -- what lines are answered by: the settings of a run, the configuration of tags, the endpoints, and a version
 pub record Service (X : Type 0) (F : X → Type 0) : Type 0 where

@@ -2,8 +2,6 @@
 use Rattle.std.specs.Prelude.{◌≡◌, ◌↔◌, ℕ, IsOk, List, [], ◌++◌, Option, Some, Result, option_and_then, option_map}
 use Rattle.std.specs.Str.{encode_utf8_all}
 use Rattle.line_session.specs.Session.{IsAnswered}
-use Rattle.line_session.specs.declared.serving.SessionEnd.{SessionEnd}
-use Rattle.line_session.specs.declared.serving.SessionEnd.TheVariants as ended
 use Rattle.schema_values.specs.Sound.{IsSound}
 use Rattle.schema_values.specs.declared.json_value.Json.{Json}
 use Rattle.openapi_values.specs.declared.info.Info.{Info}
@@ -28,9 +26,6 @@ use Rattle.endpoint_answers.specs.declared.outcome.ExchangeError.{ExchangeError}
 use Rattle.api_descriptions.specs.Agreement.{IsHandledAsAdmitted}
 use Rattle.api_descriptions.specs.Information.{info_of}
 use Rattle.api_descriptions.specs.Written.{document_at, document_text}
-use Rattle.contract_tool.specs.declared.config.ToolStatus.{ToolStatus}
-use Rattle.contract_tool.specs.declared.config.ToolStatus.TheVariants.{Done, ReadFault, WriteFault}
-use Rattle.contract_tool.specs.declared.config.ToolStatus.TheVariants.{LineTooLong, TooMuchInput, OutOfMemory}
 use Rattle.contract_tool.specs.LineAnswers.{IsExchanged, LineAnswers, Service, asked_in}
 
 -- ---- the document
@@ -126,12 +121,3 @@ pub record IsDocumentWritten {X : Type 0} {F : X → Type 0} (m : Meanings X F) 
     (earlier : List ℕ) (taken_after : Option (List ℕ)) : Type 0 where
   pub documented : IsDocumented m s
   pub document : taken_after ≡ Some (earlier ++ preamble_of m s)
-
--- how a run ends whose session ends so
-abbrev pub status_of : SessionEnd → ToolStatus
-status_of ended.Done = Done
-status_of ended.ReadFault = ReadFault
-status_of ended.WriteFault = WriteFault
-status_of (ended.LineTooLong bytes) = LineTooLong bytes
-status_of (ended.TooMuchInput bytes) = TooMuchInput bytes
-status_of ended.OutOfMemory = OutOfMemory

@@ -2,17 +2,11 @@
 #![tactic(auto)]
 
 mod answering;
-mod config;
-mod laws;
 mod reply_line;
-mod response_body;
-mod response_line;
 mod serving;
 mod tool;
-mod words;
 
-pub use config::{ToolConfig, ToolStatus};
-pub use laws::one_reading_alone;
+pub use command_line::{ToolConfig, ToolStatus};
 pub use line_session::{
     Failed, MemorySink, MemorySource, SafeSink, SafeSource, Sink, SinkError, Source, StdSink,
     StdSource,

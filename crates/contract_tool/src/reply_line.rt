@@ -1,10 +1,11 @@
 //! Reply lines: one for each outcome of a request.
 ghost use Rattle.std.specs.Prelude.{◌≡◌, ◌<◌, ◌-◌, ◌^◌, IfOk, Ok, Err};
 ghost use Rattle.schema_values.specs.declared.json_value.Json.{Json as JsonValue};
-ghost use Rattle.contract_tool.specs.ReplyLines.{Tells, bytes_of_line};
+ghost use Rattle.reply_lines.specs.ReplyLines.{bytes_of_line};
+ghost use Rattle.contract_tool.specs.Outcomes.{Tells};
 
-use crate::response_line::{outcome_line, response_line};
 use api_descriptions::{Exchange, ExchangeError};
+use reply_lines::{outcome_line, response_line};
 use schema_values::List;
 use std::alloc::{AllocError, Global};
 

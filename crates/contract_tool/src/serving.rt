@@ -5,16 +5,17 @@ ghost use Rattle.line_session.specs.Session.{IsAnswered};
 ghost use Rattle.semver.specs.Identifiers.{parts_of};
 ghost use Rattle.api_endpoints.specs.Endpoints.{boxed};
 ghost use Rattle.api_descriptions.specs.Ready.{IsReady};
-ghost use Rattle.contract_tool.specs.declared.config.ToolStatus.{ToolStatus as StatusValue};
-ghost use Rattle.contract_tool.specs.Ends.{CallsFor, DocumentEnds, EndsBy, SessionEnds, outside};
+ghost use Rattle.command_line.specs.declared.config.ToolStatus.{ToolStatus as StatusValue};
+ghost use Rattle.command_line.specs.Serving.{CallsFor, EndsBy, outside};
+ghost use Rattle.contract_tool.specs.Ends.{DocumentEnds, SessionEnds};
 ghost use Rattle.contract_tool.specs.LineAnswers.{LineAnswers, service};
 ghost use Rattle.contract_tool.specs.Sessions.{preamble_of};
 
 use crate::answering::LineAnswerer;
-use crate::config::{ToolConfig, ToolStatus};
 use api_descriptions::ApiDescription;
 use api_respond::RouteHandler;
-use line_session::{Sink, SinkError, Source, serve, write_all};
+use command_line::{ToolConfig, ToolStatus, serve_within};
+use line_session::{Sink, SinkError, Source, write_all};
 use request_lines::RequestForm;
 use schema_values::List;
 use semver::Version;
@@ -69,17 +70,15 @@ pub(crate) fn run_session<S: Source, K: Sink>(
         form: &form,
         handlers: PhantomData,
     };
-    let (most, longest) = (config.most_input, config.longest_line);
-    ToolStatus::from(serve(
+    serve_within(
         alloc,
         &answerer,
         store,
         preamble.as_slice(),
-        most,
-        longest,
+        config,
         source,
         sink,
-    ))
+    )
 }
 
 // The pretty text of the document, and a newline.

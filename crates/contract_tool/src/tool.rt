@@ -3,18 +3,17 @@ ghost use Rattle.std.specs.Prelude.{◌≡◌, ◌↔◌, ◌-◌, ◌^◌, ◌<
 ghost use Rattle.schema_values.specs.Causes.{HasRisen};
 ghost use Rattle.semver.specs.Parse.{Parts};
 ghost use Rattle.api_endpoints.specs.Endpoints.{boxed};
-ghost use Rattle.contract_tool.specs.declared.config.ToolStatus.{ToolStatus as StatusValue};
-ghost use Rattle.contract_tool.specs.Ends.{CallsFor, EndsBy, EndsByRefusal, IsEnded, OnlyWrites};
-ghost use Rattle.contract_tool.specs.Ends.{given, outside};
+ghost use Rattle.command_line.specs.declared.config.ToolStatus.{ToolStatus as StatusValue};
+ghost use Rattle.command_line.specs.Serving.{CallsFor, EndsBy, outside};
+ghost use Rattle.command_line.specs.Words.{AskForDocument, AskForSession, IsCommand};
+ghost use Rattle.contract_tool.specs.Ends.{EndsByRefusal, IsEnded, OnlyWrites, given};
 ghost use Rattle.contract_tool.specs.LineAnswers.{service};
 ghost use Rattle.contract_tool.specs.Sessions.{AreAcceptedUnder, IsDocumentWritten, IsSession};
-ghost use Rattle.contract_tool.specs.Words.{AskForDocument, AskForSession, IsCommand};
 
-use crate::config::{ToolConfig, ToolStatus};
 use crate::serving::{run_session, write_document};
-use crate::words::{Command, WordsError, command_of};
 use api_descriptions::{ApiDescription, ApiEndpoint, RegisterError, TagConfig};
 use api_respond::RouteHandler;
+use command_line::{Command, ToolConfig, ToolStatus, WordsError, command_of};
 use line_session::{Sink, Source};
 use std::alloc::Global;
 use tree_store::Store;

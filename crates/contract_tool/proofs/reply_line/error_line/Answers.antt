@@ -1,6 +1,7 @@
 use Rattle.std.proofs.Common.{Err, codes, refl, subst, sym}
 use Rattle.std.proofs.lemmas.Result.{IfOk-weaker}
-use Rattle.contract_tool.specs.ReplyLines.{Tells, outcome_alone}
+use Rattle.reply_lines.specs.ReplyLines.{outcome_alone}
+use Rattle.contract_tool.specs.Outcomes.{Tells}
 use Rattle.endpoint_answers.specs.declared.outcome.ExchangeError.{ExchangeError}
 use Rattle.contract_tool.proofs.reply_line.error_line.Goals as goal
 

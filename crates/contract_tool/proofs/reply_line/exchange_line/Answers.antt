@@ -1,7 +1,7 @@
 use Rattle.std.proofs.Common.{Ok, subst, sym}
 use Rattle.std.proofs.lemmas.Result.{IfOk-weaker}
 use Rattle.endpoint_answers.specs.declared.outcome.Exchange.{Exchange}
-use Rattle.contract_tool.specs.ReplyLines.{Tells}
+use Rattle.contract_tool.specs.Outcomes.{Tells}
 use Rattle.contract_tool.proofs.reply_line.exchange_line.Goals as goal
 
 pub returns-in-Handled : goal.returns-in-Handled

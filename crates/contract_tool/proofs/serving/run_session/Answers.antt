@@ -1,32 +1,17 @@
-use Rattle.std.proofs.Common.{ap, ◌∙◌}
-use Rattle.contract_tool.specs.declared.config.ToolStatus.TheVariants.{Done}
-use Rattle.contract_tool.specs.Sessions.{status_of}
-use Rattle.contract_tool.proofs.RunLemmas.{called_for, ended_so, session_ends}
 use Rattle.contract_tool.proofs.serving.run_session.Goals as goal
 
 pub returns-clause-session : goal.returns-clause-session
 returns-clause-session g c is all earlier left taken =
-    let end = ended_so c.serve.result c.from.result Done c.from.ensures is in
-    rw (c.as_slice.ensures, c.in-Ok.ensures) at (c.serve.ensures.session end all earlier left taken)
+    rw (c.as_slice.ensures, c.in-Ok.ensures) at (c.serve_within.ensures.session is all earlier left taken)
 
 pub returns-clause-ends : goal.returns-clause-ends
-returns-clause-ends g c =
-    session_ends _ _ _ _ _ _ c.serve.result c.from.result c.from.ensures
-    (record {
-      served = rw (c.as_slice.ensures, c.in-Ok.ensures) at c.serve.ensures.served;
-      calls = rw (c.as_slice.ensures, c.in-Ok.ensures) at c.serve.ensures.calls;
-      limits = c.serve.ensures.limits;
-    }) c.serve.ensures.read_fault c.serve.ensures.write_fault
+returns-clause-ends g c = rw (c.as_slice.ensures, c.in-Ok.ensures) at c.serve_within.ensures.ends
 
 pub returns-clause-complete : goal.returns-clause-complete
-returns-clause-complete g c all left status calls source sink =
-    called_for c.args.config.now all c.serve.result c.from.result status c.from.ensures calls
-    (λ limit. c.serve.ensures.complete all left limit source sink)
-    (λ long. c.serve.ensures.too_long all left long source sink)
-    (λ much. c.serve.ensures.too_much all left much source sink)
+returns-clause-complete g c = c.serve_within.ensures.complete
 
 pub returns-clause-read_risen : goal.returns-clause-read_risen
-returns-clause-read_risen g c more = c.from.ensures ∙ ap status_of (c.serve.ensures.read_risen more)
+returns-clause-read_risen g c = c.serve_within.ensures.read_risen
 
 pub returns-clause-write_risen : goal.returns-clause-write_risen
-returns-clause-write_risen g c more = c.from.ensures ∙ ap status_of (c.serve.ensures.write_risen more)
+returns-clause-write_risen g c = c.serve_within.ensures.write_risen

@@ -1,12 +1,13 @@
 use Rattle.std.proofs.Common.{◌∙◌, Err, ap, codes, inl, inr, refl, subst, sym}
 use Rattle.line_session.specs.Session.{IsAnswered}
 use Rattle.semver.specs.Identifiers.{parts_of}
-use Rattle.contract_tool.specs.Ends.{DocumentEnds, SessionEnds, outside}
+use Rattle.command_line.specs.Serving.{outside}
+use Rattle.command_line.specs.Words.{IsCommandOf}
+use Rattle.command_line.proofs.CallerLemmas.{asked_once, command_is, no_usage, not_both}
+use Rattle.contract_tool.specs.Ends.{DocumentEnds, SessionEnds}
 use Rattle.contract_tool.specs.LineAnswers.{LineAnswers, service}
 use Rattle.contract_tool.specs.Sessions.{preamble_of}
-use Rattle.contract_tool.specs.Words.{IsCommandOf}
-use Rattle.contract_tool.proofs.RunLemmas.{appended, asked_once, command_is, documented_as, no_usage}
-use Rattle.contract_tool.proofs.RunLemmas.{not_both, opened_as, service_as, written_whole}
+use Rattle.contract_tool.proofs.RunLemmas.{appended, documented_as, opened_as, service_as, written_whole}
 use Rattle.contract_tool.proofs.tool.run.Goals as goal
 
 -- ---- no command
@@ -85,7 +86,7 @@ returns-in-Session-clause-ended g c =
 
 pub returns-in-Session-clause-usage : goal.returns-in-Session-clause-usage
 returns-in-Session-clause-usage g c = (
-  λ is. absurd (no_usage _ _ _ _ _ _ c.run_session.result c.run_session.ensures.ends is),
+  λ is. absurd (no_usage _ _ _ _ _ _ _ _ c.run_session.result c.run_session.ensures.ends is),
   λ none. absurd (none (
     parts_of c.in-Session.version,
     inl (subst (IsCommandOf c.args.words.now) c.in-Session.is c.in-Ok.ensures.command),

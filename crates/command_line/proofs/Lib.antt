@@ -1,0 +1,4 @@
+pub mod VersionErrors
+pub mod WordLemmas
+pub mod ServingLemmas
+pub mod CallerLemmas

@@ -1,5 +1,0 @@
-use Rattle.contract_tool.proofs.BodyReading.{IsReading}
-use Rattle.contract_tool.proofs.response_body.read_content.Given as goal
-
-abbrev pub invariant-loop : goal.invariant-loop
-invariant-loop l = IsReading l.fn.body l.body l.content.items l.counter

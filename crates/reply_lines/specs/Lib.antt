@@ -1,0 +1,2 @@
+pub mod ResponseBodies
+pub mod ReplyLines
