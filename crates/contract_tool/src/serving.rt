@@ -15,7 +15,6 @@ use crate::config::{ToolConfig, ToolStatus};
 use api_descriptions::ApiDescription;
 use api_respond::RouteHandler;
 use line_session::{Sink, SinkError, Source, serve, write_all};
-use request_lines::RequestForm;
 use schema_values::List;
 use semver::Version;
 use std::alloc::{AllocError, Global};
@@ -59,14 +58,10 @@ pub(crate) fn run_session<S: Source, K: Sink>(
     let Ok(preamble) = preamble_text(alloc, api, config, version) else {
         return ToolStatus::OutOfMemory;
     };
-    let Ok(form) = RequestForm::new(alloc) else {
-        return ToolStatus::OutOfMemory;
-    };
     let answerer = LineAnswerer {
         api,
         config,
         version,
-        form: &form,
         handlers: PhantomData,
     };
     let (most, longest) = (config.most_input, config.longest_line);
