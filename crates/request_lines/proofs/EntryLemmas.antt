@@ -16,6 +16,7 @@ use Rattle.schema_values.proofs.CallerLemmas.{all_sorted}
 use Rattle.descriptors.proofs.CallerLemmas.{same_text}
 use Rattle.request_parts.specs.Requests.{Variables}
 use Rattle.request_lines.specs.Said.{SaysEntry, SaysVariable}
+use Rattle.request_lines.proofs.ListLemmas.{all_at, all_beside}
 
 -- a member whose name is none of some
 abbrev pub IsNewAmong : Member → List Member → Type 0
@@ -76,6 +77,9 @@ entry_added all so_far m value es distinct before less at says zip =
 
 -- ---- what holds of each in order holds of each
 
+abbrev IsEntry : Member → Type 0
+IsEntry m = (entry : List ℕ × VariableValue) × SaysEntry m entry
+
 module _ (P : Member → Type 0) where
   all_of_inserted : (m : Member) (ms : List Member) → AllByRecursion P (inserted_by name_of m ms)
       → P m × AllByRecursion P ms
@@ -98,5 +102,13 @@ module _ (P : Member → Type 0) where
       let (here, before) = all_of_inserted m done some in
       (before, (here, rest))
 
-  pub all_of_sorted : (ms : List Member) → AllByRecursion P (sorted_by name_of ms) → AllByRecursion P ms
+  all_of_sorted : (ms : List Member) → AllByRecursion P (sorted_by name_of ms) → AllByRecursion P ms
   all_of_sorted ms all = (all_of_rest [] ms all).1
+
+-- where a member says no variable, none are said
+pub entries_fail : (all : List Member) (es : Variables) (i : ℕ) (m : Member) → i < length all → m ≡ get_or all i m
+    → ((value : VariableValue) → SaysVariable m.value value → ⊥) → AllZip SaysEntry (sorted_by name_of all) es → ⊥
+entries_fail all es i m less at none zip =
+    let (entry, says) = all_at IsEntry all i m less at
+    (all_of_sorted IsEntry all (all_beside SaysEntry (sorted_by name_of all) es zip)) in
+    none entry.1 says.1

@@ -5,4 +5,5 @@ mod ValueForms
 mod ValueMeanings
 mod LineMeanings
 mod MadeLemmas
+mod SaidLemmas
 pub mod CallerLemmas

@@ -1,5 +1,5 @@
 //! The head of a request, made of the members of a line.
-ghost use Rattle.std.specs.Prelude.{◌≡◌, IfOk, IsErrOf, List as ListOf, OnOk, ℕ};
+ghost use Rattle.std.specs.Prelude.{◌≡◌, IfOk, IsErrOf, List as ListOf, OnOk, codes, ℕ};
 ghost use Rattle.std.specs.List.{AllZip};
 ghost use Rattle.std.specs.Str.{encode_utf8_all};
 ghost use Rattle.header_lists.specs.HeaderLists.{Line};
@@ -51,8 +51,15 @@ fn target_of(value: Option<Json>) -> Result<Uri, LineError>
 {
     match value {
         Some(json) => read_target(text_in(json)?),
-        None => Ok(Uri::default()),
+        None => Ok(root_target()),
     }
+}
+
+// The target that is the root, which takes no memory.
+fn root_target() -> Uri
+    ensures { Spells (encode_utf8_all (codes "/")) result }
+{
+    Uri::default()
 }
 
 // The target that a text is read as.
@@ -87,7 +94,11 @@ fn line_of(alloc: Global, json: Json) -> Result<(HeaderName, HeaderValue), LineE
         return Err(LineError::Bad);
     };
     match <[Json; 2]>::try_from(items.into_vec()) {
-        Ok([name, value]) => header_line(alloc, &text_in(name)?, text_in(value)?),
+        Ok([name, value]) => {
+            let name = text_in(name)?;
+            let value = text_in(value)?;
+            header_line(alloc, &name, value)
+        }
         Err(_items) => Err(LineError::Bad),
     }
 }

@@ -1,5 +1,5 @@
 //! Request lines: what they ask for, moved out of their JSON.
-ghost use Rattle.std.specs.Prelude.{IfOk, IsErrOf, List as ListOf};
+ghost use Rattle.std.specs.Prelude.{◌≡◌, IfOk, IsErrOf, List as ListOf};
 ghost use Rattle.semver.specs.Identifiers.{parts_of};
 ghost use Rattle.semver.specs.Parse.{Parts};
 ghost use Rattle.schema_values.specs.Sound.{IsSound};

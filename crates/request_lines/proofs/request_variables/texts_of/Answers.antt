@@ -3,7 +3,6 @@ use Rattle.std.specs.List.{AllZip}
 use Rattle.std.proofs.lemmas.Iterator.Adapters.{YieldsList-from_vec}
 use Rattle.std.proofs.lemmas.Iterator.Consumers.{YieldsList-end, YieldsList-turn}
 use Rattle.std.proofs.lemmas.List.{map-id}
-use Rattle.std.proofs.lemmas.Result.{err_from_is_err_and}
 use Rattle.schema_values.specs.declared.json_value.Json.{Json}
 use Rattle.request_lines.specs.Said.{IsText}
 use Rattle.request_lines.proofs.ListLemmas.{zip_fails, zip_push}
@@ -19,9 +18,8 @@ returns-in_err-text_in-clause-bad c bad texts zip =
     let turn =
     YieldsList-turn road so_far c.loop-item.item-iterator c.loop-item.yielded_by c.next.result c.next.new.self
     c.in-Some.item c.in-Some.is c.next.ensures.steps in
-    let made = err_from_is_err_and c.from_residual.result c.from_residual.ensures.1 in
     zip_fails IsText all texts (length so_far) c.in-Some.item turn.0 turn.1
-    (c.in_err-text_in.ensures.bad (cc (made.1, made.2, bad)))
+    c.in_err-text_in.ensures.bad
     (subst (λ (items : List Json). AllZip IsText items texts) (sym c.into_vec-item-items.ensures) zip)
 
 pub loop-item-preserved : goal.loop-item-preserved

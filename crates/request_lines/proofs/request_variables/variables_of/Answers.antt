@@ -9,8 +9,7 @@ use Rattle.schema_values.specs.Member.{name_of}
 use Rattle.schema_values.specs.Order.{sorted_by}
 use Rattle.schema_values.specs.Sound.{AreDistinct}
 use Rattle.request_lines.specs.Said.{SaysEntry}
-use Rattle.request_lines.proofs.EntryLemmas.{all_of_sorted, entry_added}
-use Rattle.request_lines.proofs.ListLemmas.{all_at, all_beside}
+use Rattle.request_lines.proofs.EntryLemmas.{entries_fail, entry_added}
 use Rattle.request_lines.proofs.request_variables.variables_of.Goals as goal
 
 pub returns-in_err-value-clause-bad : goal.returns-in_err-value-clause-bad
@@ -24,10 +23,9 @@ returns-in_err-value-clause-bad c bad said zip =
     YieldsList-turn road so_far c.loop-member.member-iterator c.loop-member.yielded_by c.next.result c.next.new.self
     c.in-Some.member c.in-Some.is c.next.ensures.steps in
     let made = err_from_is_err_and c.from_residual.result c.from_residual.ensures.1 in
-    let beside = all_of_sorted _ all (subst (λ (ms : List Member). AllByRecursion _ (sorted_by name_of ms))
-    (sym c.into_vec-member-items.ensures) (all_beside SaysEntry _ said zip)) in
-    let one = all_at _ all (length so_far) c.in-Some.member turn.0 turn.1 beside in
-    c.in_err-value.ensures.bad (cc (made.1, made.2, bad)) one.0.1 one.1.1
+    entries_fail all said (length so_far) c.in-Some.member turn.0 turn.1
+    (c.in_err-value.ensures.bad (cc (made.1, made.2, bad)))
+    (subst (λ (ms : List Member). AllZip SaysEntry (sorted_by name_of ms) said) (sym c.into_vec-member-items.ensures) zip)
 
 pub loop-member-preserved : goal.loop-member-preserved
 loop-member-preserved c =
