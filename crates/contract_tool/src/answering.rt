@@ -18,7 +18,7 @@ use command_line::ToolConfig;
 use http_bodies::{Body, SafeFrames};
 use line_session::Answering;
 use reply_lines::outcome_line;
-use request_lines::{AskedRequest, LineError, RequestForm};
+use request_lines::{AskedRequest, LineError, read_line};
 use schema_values::{List, Scratch};
 use semver::Version;
 use std::alloc::{AllocError, Global};
@@ -31,7 +31,6 @@ pub(crate) struct LineAnswerer<'a> {
     pub api: &'a ApiDescription,
     pub config: &'a ToolConfig,
     pub version: &'a Version,
-    pub form: &'a RequestForm,
     // so that the ghost members below may name what a boxed handler means
     pub handlers: PhantomData<Box<dyn RouteHandler>>,
 }
@@ -90,7 +89,7 @@ fn answer_line(
         (service answerer.now.config.now answerer.now.api.now.tags answerer.now.api.now.endpoints.items
         (parts_of answerer.now.version.now)) store.old line.now store.new) }
 {
-    match answerer.form.read_line(alloc, room, line, answerer.version) {
+    match read_line(alloc, room, line, answerer.version) {
         Ok(asked) => answer_request(alloc, room, answerer.api, answerer.config, store, asked),
         Err(LineError::Bad) => outcome_line(alloc, "bad-line"),
         Err(LineError::OutOfMemory) => Err(AllocError),

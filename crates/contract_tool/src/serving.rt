@@ -16,7 +16,6 @@ use api_descriptions::ApiDescription;
 use api_respond::RouteHandler;
 use command_line::{ToolConfig, ToolStatus, serve_within};
 use line_session::{Sink, SinkError, Source, write_all};
-use request_lines::RequestForm;
 use schema_values::List;
 use semver::Version;
 use std::alloc::{AllocError, Global};
@@ -60,14 +59,10 @@ pub(crate) fn run_session<S: Source, K: Sink>(
     let Ok(preamble) = preamble_text(alloc, api, config, version) else {
         return ToolStatus::OutOfMemory;
     };
-    let Ok(form) = RequestForm::new(alloc) else {
-        return ToolStatus::OutOfMemory;
-    };
     let answerer = LineAnswerer {
         api,
         config,
         version,
-        form: &form,
         handlers: PhantomData,
     };
     serve_within(

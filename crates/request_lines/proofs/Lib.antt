@@ -1,8 +1,9 @@
 pub mod ListLemmas
-mod TreeLemmas
-mod FrameLemmas
-mod RequestLemmas
-mod MembersPass
-mod MembersForm
-mod MembersSame
+mod NamedValues
+mod EntryLemmas
+mod ValueForms
+mod ValueMeanings
+mod LineMeanings
+mod MadeLemmas
+mod SaidLemmas
 pub mod CallerLemmas

@@ -1,2 +1,2 @@
 pub mod RequestLines
-pub mod Taken
+pub mod Said

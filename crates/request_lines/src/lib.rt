@@ -3,11 +3,10 @@
 
 mod line_error;
 mod members;
-mod request_form;
+mod request_frames;
 mod request_head;
 mod request_line;
-mod request_made;
+mod request_variables;
 
 pub use line_error::LineError;
-pub use request_form::RequestForm;
-pub use request_made::AskedRequest;
+pub use request_line::{AskedRequest, read_line};

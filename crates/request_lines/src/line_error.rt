@@ -5,7 +5,6 @@ use http_header::{HeaderNameError, HeaderValueError};
 use http_uri::UriError;
 use schema_values::ReadError;
 use std::alloc::AllocError;
-use typed_values::DecodeError;
 
 /// Why a line gave no request.
 #[derive(Clone, Copy, Debug, Drop, PartialEq, Eq)]
@@ -40,21 +39,6 @@ impl From<ReadError> for LineError {
         match error {
             ReadError::Unreadable => LineError::Bad,
             ReadError::OutOfMemory => LineError::OutOfMemory,
-        }
-    }
-}
-
-impl From<DecodeError> for LineError {
-    ghost use Rattle.std.specs.Prelude.{◌≡◌, ◌≢◌, ◌↔◌};
-    ghost use Rattle.typed_values.specs.declared.fault.DecodeError.TheVariants.{OutOfMemory};
-    ghost use Rattle.request_lines.specs.declared.line_error.LineError.TheVariants.{Bad};
-
-    ghost from_gives = { λ error made. made ≡ Bad ↔ error ≢ OutOfMemory };
-
-    fn from(error: DecodeError) -> LineError {
-        match error {
-            DecodeError::Fault(_) => LineError::Bad,
-            DecodeError::OutOfMemory => LineError::OutOfMemory,
         }
     }
 }

@@ -1,136 +1,101 @@
-//! What a request line says of a request, taken out of its tree. No text is copied. Each call asks for a tree of the
-//! form that it takes out, so no other is met.
-ghost use Rattle.std.specs.Prelude.{◌≡◌, List as ListOf, ℕ};
-ghost use Rattle.descriptors.specs.declared.tree.Pair.{Pair as PairValue};
-ghost use Rattle.descriptors.specs.declared.tree.Tree.{Tree as TreeValue};
-ghost use Rattle.descriptors.specs.declared.tree.Tree.TheVariants as trees;
-ghost use Rattle.request_lines.specs.Taken.{IsMembersTree, taken_tree};
+//! The values of an object's members, moved out of it by their names. No text is copied.
+ghost use Rattle.std.specs.Prelude.{◌≡◌, IfOk, IsTrue, List as ListOf, MatchOption, OnErr, Some, bytes_eq, ℕ};
+ghost use Rattle.std.specs.List.{position};
+ghost use Rattle.std.specs.Str.{chars};
+ghost use Rattle.schema_values.specs.Ascii.{all_ascii};
+ghost use Rattle.schema_values.specs.declared.json_value.Json.{Json as JsonValue};
+ghost use Rattle.schema_values.specs.declared.json_value.Json.TheVariants as jsons;
+ghost use Rattle.schema_values.specs.declared.json_value.Member.{Member as MemberValue};
+ghost use Rattle.typed_values.specs.Denotes.{value_named};
+ghost use Rattle.request_lines.specs.Said.{AreItems, AreMembers, IsText, KeepsOthers};
 
-use descriptors::{Pair, Tree};
-use schema_values::{List, Text};
+use crate::line_error::LineError;
+use schema_values::{Json, List, Member, Text};
+use std::alloc::Global;
 
-/// What a line says of a request.
-#[derive(Drop)]
-pub(crate) struct RequestMembers {
-    /// The method.
-    pub method: Text,
-    /// The template of the path.
-    pub template: Text,
-    /// The id of the request.
-    pub request_id: Text,
-    /// The target.
-    pub uri: Text,
-    /// The names of variables, with the trees of what they stand for.
-    pub variables: List<Pair>,
-    /// The trees of the header lines.
-    pub headers: List<Tree>,
-    /// The trees of the frames.
-    pub frames: List<Tree>,
+/// Moves out the value of the first member of a name, where there is one.
+pub(crate) fn take_value(members: &mut Vec<Member>, name: &str) -> Option<Json>
+    requires { IsTrue (all_ascii name.now) }
+    ensures value { result ≡ value_named members.old.items name.now }
+    ensures others { KeepsOthers name.now members.old.items members.new.items }
+{
+    let place = place_of(members.as_slice(), name)?;
+    let Member { value, .. } = members.remove(place);
+    Some(value)
 }
 
-/// What the tree of a line says of a request.
-pub(crate) fn members_of(tree: Tree) -> RequestMembers
-    requires { IsMembersTree tree }
-    ensures { tree ≡ taken_tree result }
+// The place of the first member of a name.
+fn place_of(members: &[Member], name: &str) -> Option<usize>
+    ensures { result ≡ position (λ member. bytes_eq member.name (chars name.now)) members.now }
 {
-    match <[Tree; 7]>::try_from(fields_of(tree).into_vec()) {
-        Ok(
-            [
-                method,
-                template,
-                request_id,
-                uri,
-                variables,
-                headers,
-                frames,
-            ],
-        ) => RequestMembers {
-            method: text_of(method),
-            template: text_of(template),
-            request_id: text_of(request_id),
-            uri: text_of(uri),
-            variables: pairs_of(variables),
-            headers: items_of(headers),
-            frames: items_of(frames),
-        },
-        // A line has seven members.
-        Err(_fields) => unreachable!(),
+    members.iter().position(|member| is_named(member, name))
+}
+
+fn is_named(member: &Member, name: &str) -> bool
+    ensures { result ≡ bytes_eq member.now.name (chars name.now) }
+{
+    member.name.equals_str(name)
+}
+
+/// The text that a value is.
+pub(crate) fn text_in(json: Json) -> Result<Text, LineError>
+    ensures text { IfOk result (IsText json) }
+    ensures bad { OnErr result ((text : ListOf ℕ) → ¬ IsText json text) }
+{
+    match json {
+        Json::Text(text) => Ok(text),
+        _ => Err(LineError::Bad),
     }
 }
 
-// The fields that a tree is.
-fn fields_of(tree: Tree) -> List<Tree>
-    requires { (fields : ListOf TreeValue) × (tree ≡ trees.Fields fields) }
-    ensures { tree ≡ trees.Fields result }
+/// Moves out the text of a name, which has to be there.
+pub(crate) fn text_named(members: &mut Vec<Member>, name: &str) -> Result<Text, LineError>
+    requires { IsTrue (all_ascii name.now) }
+    ensures text { IfOk result (λ text. value_named members.old.items name.now ≡ Some (jsons.Text text)) }
+    ensures bad { OnErr result ((text : ListOf ℕ)
+        → ¬ (value_named members.old.items name.now ≡ Some (jsons.Text text))) }
+    ensures others { KeepsOthers name.now members.old.items members.new.items }
 {
-    match tree {
-        Tree::Fields(fields) => fields,
-        _ => unreachable!(),
+    match take_value(members, name) {
+        Some(json) => text_in(json),
+        None => Err(LineError::Bad),
     }
 }
 
-/// The text that a tree is.
-pub(crate) fn text_of(tree: Tree) -> Text
-    requires { (text : ListOf ℕ) × (tree ≡ trees.Text text) }
-    ensures { tree ≡ trees.Text result }
+/// Moves out the items of the list of a name: none where there is no such member.
+pub(crate) fn items_named(
+    alloc: Global,
+    members: &mut Vec<Member>,
+    name: &str,
+) -> Result<List<Json>, LineError>
+    requires { IsTrue (all_ascii name.now) }
+    ensures items { IfOk result (AreItems (value_named members.old.items name.now)) }
+    ensures bad { OnErr result ((items : ListOf JsonValue)
+        → ¬ AreItems (value_named members.old.items name.now) items) }
+    ensures others { KeepsOthers name.now members.old.items members.new.items }
 {
-    match tree {
-        Tree::Text(text) => text,
-        _ => unreachable!(),
+    match take_value(members, name) {
+        Some(Json::List(items)) => Ok(items),
+        Some(_) => Err(LineError::Bad),
+        None => Ok(List::new(alloc)),
     }
 }
 
-// The pairs that a tree is.
-fn pairs_of(tree: Tree) -> List<Pair>
-    requires { (pairs : ListOf PairValue) × (tree ≡ trees.Map pairs) }
-    ensures { tree ≡ trees.Map result }
+/// Moves out the members of the object of a name: none where there is no such member.
+pub(crate) fn members_named(
+    alloc: Global,
+    members: &mut Vec<Member>,
+    name: &str,
+) -> Result<List<Member>, LineError>
+    requires { IsTrue (all_ascii name.now) }
+    ensures members { IfOk result (AreMembers (value_named members.old.items name.now)) }
+    ensures bad { OnErr result ((inner : ListOf MemberValue)
+        → ¬ AreMembers (value_named members.old.items name.now) inner) }
+    ensures others { KeepsOthers name.now members.old.items members.new.items }
 {
-    match tree {
-        Tree::Map(pairs) => pairs,
-        _ => unreachable!(),
-    }
-}
-
-/// The items that a tree is.
-pub(crate) fn items_of(tree: Tree) -> List<Tree>
-    requires { (items : ListOf TreeValue) × (tree ≡ trees.List items) }
-    ensures { tree ≡ trees.List result }
-{
-    match tree {
-        Tree::List(items) => items,
-        _ => unreachable!(),
-    }
-}
-
-/// The text that a lent tree is.
-pub(crate) fn text_in(tree: &Tree) -> &Text
-    requires { (text : ListOf ℕ) × (tree.now ≡ trees.Text text) }
-    ensures { tree.now ≡ trees.Text result.now }
-{
-    match tree {
-        Tree::Text(text) => text,
-        _ => unreachable!(),
-    }
-}
-
-/// The items that a lent tree is.
-pub(crate) fn items_in(tree: &Tree) -> &[Tree]
-    requires { (items : ListOf TreeValue) × (tree.now ≡ trees.List items) }
-    ensures { tree.now ≡ trees.List result.now }
-{
-    match tree {
-        Tree::List(items) => items.as_slice(),
-        _ => unreachable!(),
-    }
-}
-
-/// The fields that a lent tree is.
-pub(crate) fn fields_in(tree: &Tree) -> &[Tree]
-    requires { (fields : ListOf TreeValue) × (tree.now ≡ trees.Fields fields) }
-    ensures { tree.now ≡ trees.Fields result.now }
-{
-    match tree {
-        Tree::Fields(fields) => fields.as_slice(),
-        _ => unreachable!(),
+    match take_value(members, name) {
+        Some(Json::Object(inner)) => Ok(inner),
+        Some(_) => Err(LineError::Bad),
+        None => Ok(List::new(alloc)),
     }
 }

@@ -1,40 +1,33 @@
-//! The head of a request, made of what a line says of it.
-ghost use Rattle.std.specs.Prelude.{◌≡◌, IfOk, IsErrOf, List as ListOf, OnOk, map};
+//! The head of a request, made of the members of a line.
+ghost use Rattle.std.specs.Prelude.{◌≡◌, IfOk, IsErrOf, List as ListOf, OnOk, codes, ℕ};
+ghost use Rattle.std.specs.List.{AllZip};
 ghost use Rattle.std.specs.Str.{encode_utf8_all};
+ghost use Rattle.header_lists.specs.HeaderLists.{Line};
 ghost use Rattle.http_header.specs.Token.{IsToken};
 ghost use Rattle.http_uri.specs.Uri.{Spells};
 ghost use Rattle.http_uri.specs.declared.uri.Uri.{Uri as UriValue};
 ghost use Rattle.request_parts.specs.declared.info.RequestInfo.{RequestInfo as InfoValue};
-ghost use Rattle.request_lines.specs.RequestLines.{AreFieldLines, IsFieldLine, IsHeadOf, WrittenLine};
-ghost use Rattle.request_lines.specs.RequestLines.{field_line, line_tree};
+ghost use Rattle.request_lines.specs.RequestLines.{IsFieldLine, field_line};
+ghost use Rattle.request_lines.specs.Said.{IsHeadIn, IsLineOf, SaysTarget};
 
 use crate::line_error::LineError;
-use crate::members::{items_in, text_in};
-use descriptors::Tree;
+use crate::members::{items_named, take_value, text_in, text_named};
 use header_lists::HeaderList;
 use http::{Method, Version};
 use http_header::{HeaderName, HeaderValue};
 use http_uri::Uri;
 use request_parts::RequestInfo;
-use schema_values::Text;
+use schema_values::{Json, List, Member, Text};
 use std::alloc::Global;
 
-/// The head of a request with this method, this target, and header lines of these trees.
-pub(crate) fn head_of(
-    alloc: Global,
-    method: &Text,
-    target: Text,
-    headers: &[Tree],
-) -> Result<RequestInfo, LineError>
-    requires { (lines : ListOf WrittenLine) × (headers.now ≡ map line_tree lines) }
-    ensures head { IfOk result (λ info. (lines : ListOf WrittenLine) → headers.now ≡ map line_tree lines
-        → IsHeadOf method.now target lines info) }
-    ensures bad { IsErrOf result LineError.Bad → (lines : ListOf WrittenLine) → headers.now ≡ map line_tree lines
-        → (info : InfoValue) → ¬ IsHeadOf method.now target lines info }
+/// The head of a request, of which the members tell the method, the target and the header lines.
+pub(crate) fn head_of(alloc: Global, members: &mut Vec<Member>) -> Result<RequestInfo, LineError>
+    ensures head { IfOk result (IsHeadIn members.old.items) }
+    ensures bad { IsErrOf result LineError.Bad → (info : InfoValue) → ¬ IsHeadIn members.old.items info }
 {
-    let method = method_of(alloc, method)?;
-    let uri = target_of(target)?;
-    let lines = lines_of(alloc, headers)?;
+    let method = method_of(alloc, &text_named(members, "method")?)?;
+    let uri = target_of(take_value(members, "uri"))?;
+    let lines = lines_of(alloc, items_named(alloc, members, "headers")?)?;
     Ok(RequestInfo::new(method, uri, Version::HTTP_11, lines, Text::new(alloc)))
 }
 
@@ -49,16 +42,24 @@ fn method_of(alloc: Global, text: &Text) -> Result<Method, LineError>
     Ok(method)
 }
 
-// The target that a text spells; the text is not copied, and the root takes no memory.
-fn target_of(text: Text) -> Result<Uri, LineError>
-    ensures spells { IfOk result (Spells (encode_utf8_all text)) }
-    ensures bad { IsErrOf result LineError.Bad → (uri : UriValue) → ¬ Spells (encode_utf8_all text) uri }
+// The target that a value tells, the root where there is none; the text is not copied.
+fn target_of(value: Option<Json>) -> Result<Uri, LineError>
+    ensures spells { IfOk result (λ uri. (target : ListOf ℕ) × SaysTarget value target
+        × Spells (encode_utf8_all target) uri) }
+    ensures bad { IsErrOf result LineError.Bad → (target : ListOf ℕ) → SaysTarget value target
+        → (uri : UriValue) → ¬ Spells (encode_utf8_all target) uri }
 {
-    if text.as_bytes() == b"/".as_slice() {
-        Ok(Uri::default())
-    } else {
-        read_target(text)
+    match value {
+        Some(json) => read_target(text_in(json)?),
+        None => Ok(root_target()),
     }
+}
+
+// The target that is the root, which takes no memory.
+fn root_target() -> Uri
+    ensures { Spells (encode_utf8_all (codes "/")) result }
+{
+    Uri::default()
 }
 
 // The target that a text is read as.
@@ -72,46 +73,47 @@ fn read_target(text: Text) -> Result<Uri, LineError>
     Ok(Uri::from_string(target)?)
 }
 
-fn lines_of(alloc: Global, headers: &[Tree]) -> Result<HeaderList, LineError>
-    requires { (lines : ListOf WrittenLine) × (headers.now ≡ map line_tree lines) }
-    ensures fields { OnOk result ((lines : ListOf WrittenLine) → headers.now ≡ map line_tree lines
-        → AreFieldLines lines) }
-    ensures lines { IfOk result (λ list. (lines : ListOf WrittenLine) → headers.now ≡ map line_tree lines
-        → list ≡ map field_line lines) }
-    ensures bad { IsErrOf result LineError.Bad → (lines : ListOf WrittenLine) → headers.now ≡ map line_tree lines
-        → ¬ AreFieldLines lines }
+fn lines_of(alloc: Global, items: List<Json>) -> Result<HeaderList, LineError>
+    ensures lines { IfOk result (AllZip IsLineOf items) }
+    ensures bad { IsErrOf result LineError.Bad → (lines : ListOf Line) → ¬ AllZip IsLineOf items lines }
 {
     let mut lines = HeaderList::new(alloc);
-    for tree in headers {
-        let (name, value) = line_in(alloc, tree)?;
+    for item in items.into_vec() {
+        let (name, value) = line_of(alloc, item)?;
         lines.append(name, value)?;
     }
     Ok(lines)
 }
 
-// The header line of a tree.
-fn line_in(alloc: Global, tree: &Tree) -> Result<(HeaderName, HeaderValue), LineError>
-    requires { (line : WrittenLine) × (tree.now ≡ line_tree line) }
-    ensures field { OnOk result ((line : WrittenLine) → tree.now ≡ line_tree line → IsFieldLine line) }
-    ensures line { IfOk result (λ made. (line : WrittenLine) → tree.now ≡ line_tree line → made ≡ field_line line) }
-    ensures bad { IsErrOf result LineError.Bad → (line : WrittenLine) → tree.now ≡ line_tree line
-        → ¬ IsFieldLine line }
+// The header line of a list of two texts.
+fn line_of(alloc: Global, json: Json) -> Result<(HeaderName, HeaderValue), LineError>
+    ensures line { IfOk result (IsLineOf json) }
+    ensures bad { IsErrOf result LineError.Bad → (line : Line) → ¬ IsLineOf json line }
 {
-    let items = items_in(tree);
-    header_line(alloc, text_in(&items[0]), text_in(&items[1]))
+    let Json::List(items) = json else {
+        return Err(LineError::Bad);
+    };
+    match <[Json; 2]>::try_from(items.into_vec()) {
+        Ok([name, value]) => {
+            let name = text_in(name)?;
+            let value = text_in(value)?;
+            header_line(alloc, &name, value)
+        }
+        Err(_items) => Err(LineError::Bad),
+    }
 }
 
-// The header line of a name and a value; the name is put in lower case.
+// The header line of a name and a value; the name is put in lower case, and the value is not copied.
 fn header_line(
     alloc: Global,
     name: &Text,
-    value: &Text,
+    value: Text,
 ) -> Result<(HeaderName, HeaderValue), LineError>
-    ensures field { OnOk result (IsFieldLine (name.now, value.now)) }
-    ensures line { IfOk result (λ made. made ≡ field_line (name.now, value.now)) }
-    ensures bad { IsErrOf result LineError.Bad → ¬ IsFieldLine (name.now, value.now) }
+    ensures field { OnOk result (IsFieldLine (name.now, value)) }
+    ensures line { IfOk result (λ made. made ≡ field_line (name.now, value)) }
+    ensures bad { IsErrOf result LineError.Bad → ¬ IsFieldLine (name.now, value) }
 {
     let name = HeaderName::from_bytes(alloc, name.as_bytes())?;
-    let value = HeaderValue::from_bytes(alloc, value.as_bytes())?;
+    let value = HeaderValue::from_vec(value.into_bytes().into_vec())?;
     Ok((name, value))
 }

@@ -1,49 +1,97 @@
-//! Request lines: what they ask for, by their trees.
-ghost use Rattle.std.specs.Prelude.{IfOk, IsErrOf};
+//! Request lines: what they ask for, moved out of their JSON.
+ghost use Rattle.std.specs.Prelude.{◌≡◌, IfOk, IsErrOf, List as ListOf};
 ghost use Rattle.semver.specs.Identifiers.{parts_of};
-ghost use Rattle.descriptors.specs.declared.tree.Tree.{Tree as TreeValue};
-ghost use Rattle.request_lines.specs.RequestLines.{AsksFor, HasTree, IsBadLine};
-ghost use Rattle.request_lines.specs.Taken.{IsMembersTree};
+ghost use Rattle.semver.specs.Parse.{Parts};
+ghost use Rattle.schema_values.specs.Sound.{IsSound};
+ghost use Rattle.schema_values.specs.SoundMembers.{HasSoundMembers};
+ghost use Rattle.http_bodies.specs.declared.frame.Frame.{Frame as FrameValue};
+ghost use Rattle.request_parts.specs.Requests.{Request};
+ghost use Rattle.request_lines.specs.RequestLines.{AreMade, AsksFor, IsBadLine, Members};
+ghost use Rattle.request_lines.specs.Said.{Says, SaysMembers};
 
 use crate::line_error::LineError;
-use crate::members::members_of;
-use crate::request_form::RequestForm;
-use crate::request_made::{AskedRequest, request_of};
-use descriptors::{DescTable, Tree};
-use schema_values::{Json, Scratch};
+use crate::members::{items_named, members_named, text_named};
+use crate::request_frames::frames_of;
+use crate::request_head::head_of;
+use crate::request_variables::variables_of;
+use http_bodies::Frame;
+use request_parts::RequestParts;
+use schema_values::{Json, List, Member, Scratch};
 use semver::Version;
-use std::alloc::Global;
-use typed_values::decode_json;
+use std::alloc::{AllocError, Global};
 
-impl RequestForm {
-    /// What a line asks of a version of the API; `Bad` comes only where it asks for nothing. It is read in room that
-    /// is kept from line to line.
-    pub fn read_line(
-        &self,
-        alloc: Global,
-        room: &mut Scratch,
-        line: &[u8],
-        version: &Version,
-    ) -> Result<AskedRequest, LineError>
-        ensures asks { IfOk result (λ asked. AsksFor (parts_of version.now) line.now asked.request asked.frames) }
-        ensures bad { IsErrOf result LineError.Bad → IsBadLine line.now }
-    {
-        let tree = tree_of(alloc, self, room, line)?;
-        request_of(alloc, version, members_of(tree))
-    }
+/// What a line asks for.
+#[derive(Drop)]
+pub struct AskedRequest {
+    /// The request.
+    pub request: RequestParts,
+    /// The frames of its body.
+    pub frames: List<Frame>,
 }
 
-// The tree that a line denotes under the descriptor of the members.
-fn tree_of(
+/// What a line asks of a version of the API; `Bad` comes only where it asks for nothing. It is read in room that is
+/// kept from line to line. The texts of its JSON are moved into the request, and are not copied out of it.
+pub fn read_line(
     alloc: Global,
-    form: &RequestForm,
     room: &mut Scratch,
     line: &[u8],
-) -> Result<Tree, LineError>
-    ensures tree { IfOk result (HasTree line.now) }
-    ensures members { IfOk result IsMembersTree }
-    ensures bad { IsErrOf result LineError.Bad → (tree : TreeValue) → ¬ HasTree line.now tree }
+    version: &Version,
+) -> Result<AskedRequest, LineError>
+    ensures asks { IfOk result (λ asked. AsksFor (parts_of version.now) line.now asked.request asked.frames) }
+    ensures bad { IsErrOf result LineError.Bad → IsBadLine line.now }
 {
     let json = Json::read_with(alloc, room, line)?;
-    Ok(decode_json(alloc, &DescTable::new(alloc), &form.desc, &json)?)
+    request_in(alloc, version, json)
+}
+
+// What a JSON value asks for.
+fn request_in(alloc: Global, version: &Version, json: Json) -> Result<AskedRequest, LineError>
+    requires { IsSound json }
+    ensures made { IfOk result (λ asked. (said : Members) × SaysMembers json said
+        × AreMade (parts_of version.now) said asked.request asked.frames) }
+    ensures bad { IsErrOf result LineError.Bad → (said : Members) → SaysMembers json said
+        → (at : Parts) (request : Request) (frames : ListOf FrameValue)
+        → ¬ AreMade at said request frames }
+{
+    let Json::Object(members) = json else {
+        return Err(LineError::Bad);
+    };
+    let mut members = members.into_vec();
+    request_of(alloc, version, &mut members)
+}
+
+// What the members of an object ask for, moved out of them. The head is the largest part, and made last.
+fn request_of(
+    alloc: Global,
+    version: &Version,
+    members: &mut Vec<Member>,
+) -> Result<AskedRequest, LineError>
+    requires { HasSoundMembers members.old.items }
+    ensures made { IfOk result (λ asked. (said : Members) × Says members.old.items said
+        × AreMade (parts_of version.now) said asked.request asked.frames) }
+    ensures bad { IsErrOf result LineError.Bad → (said : Members) → Says members.old.items said
+        → (at : Parts) (request : Request) (frames : ListOf FrameValue)
+        → ¬ AreMade at said request frames }
+{
+    let template = text_named(members, "template")?;
+    let request_id = text_named(members, "request_id")?;
+    let frames = frames_of(alloc, items_named(alloc, members, "frames")?)?;
+    let variables = variables_of(alloc, members_named(alloc, members, "variables")?)?;
+    let version = copy_version(version)?;
+    let info = head_of(alloc, members)?;
+    let request = RequestParts {
+        version,
+        template,
+        variables,
+        request_id,
+        info,
+    };
+    Ok(AskedRequest { request, frames })
+}
+
+// A version of the same parts.
+fn copy_version(version: &Version) -> Result<Version, AllocError>
+    ensures { IfOk result (λ copy. parts_of copy ≡ parts_of version.now) }
+{
+    version.clone()
 }

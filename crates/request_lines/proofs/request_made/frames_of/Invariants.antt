@@ -1,7 +1,0 @@
-use Rattle.std.specs.List.{AllZip}
-use Rattle.request_lines.proofs.FrameLemmas.{IsFrameOf}
-use Rattle.request_lines.proofs.request_made.frames_of.Given as goal
-
--- the frames so far
-abbrev pub invariant-loop-item : goal.invariant-loop-item
-invariant-loop-item l = AllZip IsFrameOf l.yielded l.frames
