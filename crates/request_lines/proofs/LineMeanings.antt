@@ -1,5 +1,6 @@
 -- What the members of a line say is what they denote under its descriptor.
-use Rattle.std.proofs.Common.{◌≡◌, ◌↔◌, ℕ, false, List, [], ◌∷◌, codes, map, Option, Some, None, refl, sym, ap, subst, ◌∙◌}
+use Rattle.std.proofs.Common.{◌≡◌, ◌↔◌, ℕ, false, List, [], ◌∷◌, codes, map, Option, Some}
+use Rattle.std.proofs.Common.{None, refl, sym, ap, subst, ◌∙◌}
 use Rattle.std.specs.Prelude.{MatchOption}
 use Rattle.std.specs.List.{AllZip}
 use Rattle.std.specs.declared.result.Result.TheVariants.{Ok}
@@ -25,10 +26,12 @@ use Rattle.api_types.specs.Maps.{pair_of}
 use Rattle.api_types.specs.StructTypes.{field_with}
 use Rattle.request_parts.specs.Requests.{Variables}
 use Rattle.request_lines.specs.RequestLines.{HasMembers, Members, any_text, frame_desc}
-use Rattle.request_lines.specs.RequestLines.{frame_tree, line_desc, line_tree, members_desc, members_fields, members_tree}
+use Rattle.request_lines.specs.RequestLines.{frame_tree, line_desc, line_tree, members_desc}
+use Rattle.request_lines.specs.RequestLines.{members_fields, members_tree}
 use Rattle.request_lines.specs.RequestLines.{variable_desc, variable_tree}
 use Rattle.request_lines.specs.Said.{IsText, Says, SaysEntry, SaysFrame, SaysLine, SaysMembers}
-use Rattle.request_lines.proofs.ValueForms.{below_ok, each_ok, node_ok, object_out, same_entries, same_fields, same_items}
+use Rattle.request_lines.proofs.ValueForms.{below_ok, each_ok, node_ok, object_out}
+use Rattle.request_lines.proofs.ValueForms.{same_entries, same_fields, same_items}
 use Rattle.request_lines.proofs.ValueForms.{same_text, through}
 use Rattle.request_lines.proofs.ValueMeanings.{Agree, frame_agrees, line_agrees, list_agrees, means, required_agrees}
 use Rattle.request_lines.proofs.ValueMeanings.{rests_at, text_agrees, variables_agree}
@@ -36,7 +39,8 @@ use Rattle.request_lines.proofs.ValueMeanings.{rests_at, text_agrees, variables_
 -- ---- members with a default
 
 module _ {V : Type 0} (name : List ℕ) (default : Tree) (desc : Desc) (tree_of : V → Tree) (Says : Json → V → Type 0)
-    (Missing : V → Type 0) (agrees : Agree desc tree_of Says) (missing : (v : V) → (default ≡ tree_of v) ↔ Missing v) where
+    (Missing : V → Type 0) (agrees : Agree desc tree_of Says)
+    (missing : (v : V) → (default ≡ tree_of v) ↔ Missing v) where
   pub default_by : (value : Option Json) (v : V)
       → (by_presence (field_with (with_default name default) desc) (value_denotes [] members_desc desc value)
       ≡ Ok (tree_of v)) ↔ MatchOption value (Missing v) (λ json. Says json v)
@@ -81,7 +85,8 @@ module _ (members : List Member) where
       → (told_field [] members_desc members (field_with (with_default name (trees.List [])) (descs.List desc None None))
       ≡ Ok (trees.List (map tree_of vs))) ↔ says_list name Says vs
   list_field {V} name desc tree_of Says agrees vs =
-      through (default_by name (trees.List []) (descs.List desc None None) (λ (ws : List V). trees.List (map tree_of ws))
+      through (default_by name (trees.List []) (descs.List desc None None)
+      (λ (ws : List V). trees.List (map tree_of ws))
       (λ json (ws : List V). (items : List Json) × (json ≡ jsons.List items) × AllZip Says items ws) (λ ws. ws ≡ [])
       (list_agrees desc tree_of Says agrees) (no_items tree_of) (value_named members name) vs)
       (or_none (λ json items. json ≡ jsons.List items) (AllZip Says) (zip_nil Says) (value_named members name) vs)
@@ -107,7 +112,8 @@ module _ (members : List Member) where
       ≡ Ok (trees.Text text))
       ↔ MatchOption (value_named members (codes "uri")) (text ≡ codes "/") (λ json. IsText json text)
   uri_field =
-      default_by (codes "uri") (trees.Text (codes "/")) any_text trees.Text IsText (λ text. text ≡ codes "/") text_agrees
+      default_by (codes "uri") (trees.Text (codes "/")) any_text trees.Text IsText (λ text. text ≡ codes "/")
+      text_agrees
       root_text (value_named members (codes "uri"))
 
   -- ---- all members
@@ -204,7 +210,11 @@ reads_same line one other p q = let same : Some one ≡ Some other = sym p.1 ∙
 -- what a line that reads as a value has as members
 pub has_members : (line : List ℕ) (json : Json) (said : Members) → Reads line json → SaysMembers json said
     → HasMembers line said
-has_members line json said reads says = record { json = json; reads = reads; denotes = (members_agree json said).1 says }
+has_members line json said reads says = record {
+  json = json;
+  reads = reads;
+  denotes = (members_agree json said).1 says;
+}
 
 pub says_members : (line : List ℕ) (json : Json) (said : Members) → Reads line json → HasMembers line said
     → SaysMembers json said

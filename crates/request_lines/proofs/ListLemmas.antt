@@ -1,5 +1,6 @@
 -- Lists whose items stand beside those of another.
-use Rattle.std.proofs.Common.{◌≡◌, ℕ, zero, suc, ◌<◌, List, [], ◌∷◌, ◌++◌, length, map, get_or, refl, sym, ap₂, subst, arith}
+use Rattle.std.proofs.Common.{◌≡◌, ℕ, zero, suc, ◌<◌, List, [], ◌∷◌, ◌++◌, length, map}
+use Rattle.std.proofs.Common.{get_or, refl, sym, ap₂, subst, arith}
 use Rattle.std.specs.List.{AllByRecursion, AllZip}
 
 -- one more pair of items

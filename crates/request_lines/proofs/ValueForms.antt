@@ -32,8 +32,10 @@ text_out json text =
     (λ e. sym (roll-out-Json json) ∙ ap roll-Json e ∙ jsons.rolls-Text text, λ e. ap out-Json e ∙ jsons.outs-Text text)
 
 pub list_out : (json : Json) (items : List Json) → (out-Json json ≡ Json-F.List items) ↔ (json ≡ jsons.List items)
-list_out json items =
-    (λ e. sym (roll-out-Json json) ∙ ap roll-Json e ∙ jsons.rolls-List items, λ e. ap out-Json e ∙ jsons.outs-List items)
+list_out json items = (
+  λ e. sym (roll-out-Json json) ∙ ap roll-Json e ∙ jsons.rolls-List items,
+  λ e. ap out-Json e ∙ jsons.outs-List items,
+)
 
 pub object_out : (json : Json) (members : List Member)
     → (out-Json json ≡ Json-F.Object members) ↔ (json ≡ jsons.Object members)

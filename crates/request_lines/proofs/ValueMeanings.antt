@@ -22,7 +22,8 @@ use Rattle.descriptors.specs.declared.tree.Tree.TheVariants as trees
 use Rattle.typed_values.specs.Bounds.{is_length_within}
 use Rattle.typed_values.specs.declared.fault.FaultKind.TheVariants.{BadLength}
 use Rattle.typed_values.specs.declared.fault.Place.TheVariants.{Item, Name}
-use Rattle.typed_values.specs.Denotes.{Told, all_told, as_pair, as_tree, below, by_presence, if_holds, room, told, value_named}
+use Rattle.typed_values.specs.Denotes.{Told, all_told, as_pair, as_tree, below, by_presence}
+use Rattle.typed_values.specs.Denotes.{if_holds, room, told, value_named}
 use Rattle.typed_values.specs.Denotes.{words}
 use Rattle.typed_values.specs.Levels.{DescLevel}
 use Rattle.typed_values.specs.Parts.{StandsIn, in_field, in_list, in_map, of_whole, the_whole}
@@ -37,8 +38,10 @@ use Rattle.request_lines.specs.RequestLines.{WrittenLine, any_text, as_hex, as_t
 use Rattle.request_lines.specs.RequestLines.{frame_tree, line_desc, line_tree, members_desc, members_fields, texts}
 use Rattle.request_lines.specs.RequestLines.{variable_desc, variable_tree}
 use Rattle.request_lines.specs.Said.{IsText, SaysEntry, SaysFrame, SaysLine, SaysVariable}
-use Rattle.request_lines.proofs.ValueForms.{along, below_ok, each_ok, first_is, first_of, list_out, node_ok, object_out, pair_ok}
-use Rattle.request_lines.proofs.ValueForms.{same_entries, same_fields, same_items, same_text, second_is, text_out, through}
+use Rattle.request_lines.proofs.ValueForms.{along, below_ok, each_ok, first_is, first_of, list_out}
+use Rattle.request_lines.proofs.ValueForms.{node_ok, object_out, pair_ok}
+use Rattle.request_lines.proofs.ValueForms.{same_entries, same_fields, same_items, same_text}
+use Rattle.request_lines.proofs.ValueForms.{second_is, text_out, through}
 
 -- what a value of a line denotes under a descriptor of it
 abbrev pub means : Json → Desc → Told
@@ -86,7 +89,8 @@ frame_rests =
 
 -- ---- texts
 
-text_level : (x : Json-F Json Member) (text : List ℕ) → (words None None x ≡ Ok (trees.Text text)) ↔ (x ≡ Json-F.Text text)
+text_level : (x : Json-F Json Member) (text : List ℕ)
+    → (words None None x ≡ Ok (trees.Text text)) ↔ (x ≡ Json-F.Text text)
 text_level (Json-F.Text other) text = (
   λ e. let same : trees.Text other ≡ trees.Text text = cc e in ap Json-F.Text (same_text other text same),
   λ e. let same : other ≡ text = cc e in ap (λ (t : List ℕ). Ok (trees.Text t)) same,
@@ -100,11 +104,13 @@ text_row json x is =
 
 pub text_agrees : Agree any_text trees.Text IsText
 text_agrees json text =
-    through (along (text_row json (out-Json json) refl)) (through (text_level (out-Json json) text) (text_out json text))
+    through (along (text_row json (out-Json json) refl))
+    (through (text_level (out-Json json) text) (text_out json text))
 
 -- ---- lists
 
-module _ {V : Type 0} (desc : Desc) (tree_of : V → Tree) (Says : Json → V → Type 0) (agrees : Agree desc tree_of Says) where
+module _ {V : Type 0} (desc : Desc) (tree_of : V → Tree) (Says : Json → V → Type 0)
+    (agrees : Agree desc tree_of Says) where
   items_agree : (items : List Json) (vs : List V)
       → (as_tree trees.List (all_told (told_item [] members_desc desc) 0 items) ≡ Ok (trees.List (map tree_of vs)))
       ↔ AllZip Says items vs
@@ -286,7 +292,11 @@ digits_level (Json-F.Object members) digits =
     let one = required_agrees members (codes "hex") digits in (
       λ e. (members, refl, one.0 (fields.0 e).0),
       λ h. let same : h.0 ≡ members = cc h.1 in
-          fields.1 (one.1 (subst (λ (ms : List Member). value_named ms (codes "hex") ≡ Some (jsons.Text digits)) same h.2), tt),
+          fields.1 (
+            one.1 (subst (λ (ms : List Member). value_named ms (codes "hex") ≡ Some (jsons.Text digits))
+                same h.2),
+            tt,
+          ),
     )
 digits_level _ digits = (λ e. absurd (cc e), λ h. absurd (cc h.1))
 

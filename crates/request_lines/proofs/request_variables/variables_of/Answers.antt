@@ -25,7 +25,8 @@ returns-in_err-value-clause-bad c bad said zip =
     let made = err_from_is_err_and c.from_residual.result c.from_residual.ensures.1 in
     entries_fail all said (length so_far) c.in-Some.member turn.0 turn.1
     (c.in_err-value.ensures.bad (cc (made.1, made.2, bad)))
-    (subst (λ (ms : List Member). AllZip SaysEntry (sorted_by name_of ms) said) (sym c.into_vec-member-items.ensures) zip)
+    (subst (λ (ms : List Member). AllZip SaysEntry (sorted_by name_of ms) said)
+    (sym c.into_vec-member-items.ensures) zip)
 
 pub loop-member-preserved : goal.loop-member-preserved
 loop-member-preserved c =
