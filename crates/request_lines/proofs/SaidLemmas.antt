@@ -97,6 +97,12 @@ module _ (json : Json) (items : List Json) (one two : Json) (is : json ≡ jsons
       sym are ∙ list_same json items (jsons.Text line.0 ∷ jsons.Text line.1 ∷ []) is said in
       (cc same, cc same)
 
+  pub two_same : (name value : List ℕ) → IsText one name → IsText two value → (line : WrittenLine)
+      → SaysLine json line → line ≡ (name, value)
+  two_same name value first second line said =
+      let (left, right) = two_said line said in
+      ap₂ (λ (x y : List ℕ). (x, y)) (text_same one line.0 name left first) (text_same two line.1 value right second)
+
 -- a line is a list of two
 pub line_length : (json : Json) (items : List Json) (line : WrittenLine) → json ≡ jsons.List items
     → SaysLine json line → length items ≡ 2
