@@ -1,6 +1,6 @@
 -- Variables in the order of their names, one by one.
 use Rattle.std.proofs.Common.{◌≡◌, ◌≢◌, ℕ, zero, suc, ◌<◌, List, [], ◌∷◌, ◌++◌, length, map, get_or, take, fold, refl, sym}
-use Rattle.std.proofs.Common.{ap, subst, arith, Less, Equal, Greater, nat_cmp}
+use Rattle.std.proofs.Common.{subst, arith, Less, Equal, Greater, nat_cmp}
 use Rattle.std.specs.BTreeMap.{insert_entry}
 use Rattle.std.specs.Cmp.Lexicographic.{slice_cmp}
 use Rattle.std.specs.declared.cmp.Ordering.{Ordering}
@@ -56,9 +56,10 @@ new_at : (ms : List Member) (i : ℕ) (d : Member) → i < length ms → AreDist
     → IsNewAmong (get_or ms i d) (take i ms)
 new_at [] i d less distinct = absurd (omega (arith, less))
 new_at (m ∷ ms) zero d less distinct = tt
-new_at (m ∷ ms) (suc i) d less distinct =
-    (λ same. name_at (λ other. m.name ≢ other) ms i d (omega (arith, less)) distinct.0 (sym same),
-    new_at ms i d (omega (arith, less)) distinct.1)
+new_at (m ∷ ms) (suc i) d less distinct = (
+  λ same. name_at (λ other. m.name ≢ other) ms i d (omega (arith, less)) distinct.0 (sym same),
+  new_at ms i d (omega (arith, less)) distinct.1,
+)
 
 -- the variables so far, and one more
 pub entry_added : (all so_far : List Member) (m : Member) (value : VariableValue) (es : Variables)

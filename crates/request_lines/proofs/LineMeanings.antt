@@ -24,7 +24,7 @@ use Rattle.api_types.specs.Heads.{with_default}
 use Rattle.api_types.specs.Maps.{pair_of}
 use Rattle.api_types.specs.StructTypes.{field_with}
 use Rattle.request_parts.specs.Requests.{Variables}
-use Rattle.request_lines.specs.RequestLines.{HasMembers, Members, WrittenFrame, WrittenLine, any_text, frame_desc}
+use Rattle.request_lines.specs.RequestLines.{HasMembers, Members, any_text, frame_desc}
 use Rattle.request_lines.specs.RequestLines.{frame_tree, line_desc, line_tree, members_desc, members_fields, members_tree}
 use Rattle.request_lines.specs.RequestLines.{variable_desc, variable_tree}
 use Rattle.request_lines.specs.Said.{IsText, Says, SaysEntry, SaysFrame, SaysLine, SaysMembers}
@@ -132,55 +132,57 @@ module _ (members : List Member) where
       let uri = uri_field said.uri in
       let variables = variables_field said.variables in
       let headers = list_field (codes "headers") line_desc line_tree SaysLine line_agrees said.headers in
-      let frames = list_field (codes "frames") frame_desc frame_tree SaysFrame frame_agrees said.frames in
-      (λ e. let all = fields.0 e in
-      let vs = variables.0 all.1.1.1.1.0 in
-      let hs = headers.0 all.1.1.1.1.1.0 in
-      let fs = frames.0 all.1.1.1.1.1.1.0 in
-      record {
-        head = record {
-          method_said = method.0 all.0;
-          target_said = uri.0 all.1.1.1.0;
-          headers = hs.0;
-          headers_are = hs.1;
-          headers_said = hs.2;
-        };
-        template = template.0 all.1.0;
-        request_id = id.0 all.1.1.0;
-        variables = vs.0;
-        variables_are = vs.1;
-        variables_said = vs.2;
-        frames = fs.0;
-        frames_are = fs.1;
-        frames_said = fs.2;
-      },
-      λ says. fields.1 (
-        method.1 says.head.method_said,
-        (
-          template.1 says.template,
+      let frames = list_field (codes "frames") frame_desc frame_tree SaysFrame frame_agrees said.frames in (
+        λ e. let all = fields.0 e in
+            let vs = variables.0 all.1.1.1.1.0 in
+            let hs = headers.0 all.1.1.1.1.1.0 in
+            let fs = frames.0 all.1.1.1.1.1.1.0 in
+            record {
+              head = record {
+                method_said = method.0 all.0;
+                target_said = uri.0 all.1.1.1.0;
+                headers = hs.0;
+                headers_are = hs.1;
+                headers_said = hs.2;
+              };
+              template = template.0 all.1.0;
+              request_id = id.0 all.1.1.0;
+              variables = vs.0;
+              variables_are = vs.1;
+              variables_said = vs.2;
+              frames = fs.0;
+              frames_are = fs.1;
+              frames_said = fs.2;
+            },
+        λ says. fields.1 (
+          method.1 says.head.method_said,
           (
-            id.1 says.request_id,
+            template.1 says.template,
             (
-              uri.1 says.head.target_said,
+              id.1 says.request_id,
               (
-                variables.1 (says.variables, says.variables_are, says.variables_said),
+                uri.1 says.head.target_said,
                 (
-                  headers.1 (says.head.headers, says.head.headers_are, says.head.headers_said),
-                  (frames.1 (says.frames, says.frames_are, says.frames_said), tt),
+                  variables.1 (says.variables, says.variables_are, says.variables_said),
+                  (
+                    headers.1 (says.head.headers, says.head.headers_are, says.head.headers_said),
+                    (frames.1 (says.frames, says.frames_are, says.frames_said), tt),
+                  ),
                 ),
               ),
             ),
           ),
         ),
-      ))
+      )
 
 line_level : (x : Json-F Json Member) (said : Members)
     → (struct_row [] members_desc members_fields false x ≡ Ok (members_tree said))
     ↔ ((members : List Member) × (x ≡ Json-F.Object members) × Says members said)
 line_level (Json-F.Object members) said =
-    let agree = fields_say members said in
-    (λ e. (members, refl, agree.0 e),
-    λ h. let same : h.0 ≡ members = cc h.1 in agree.1 (subst (λ (ms : List Member). Says ms said) same h.2))
+    let agree = fields_say members said in (
+      λ e. (members, refl, agree.0 e),
+      λ h. let same : h.0 ≡ members = cc h.1 in agree.1 (subst (λ (ms : List Member). Says ms said) same h.2),
+    )
 line_level _ said = (λ e. absurd (cc e), λ h. absurd (cc h.1))
 
 -- a value denotes the members that it says
@@ -190,9 +192,10 @@ members_agree json said =
     let is = descs.outs-Struct members_fields false in
     let row = row_at [] members_desc json members_desc (out-Json json) (Desc-F.Struct members_fields false)
     (rests_at _ _ is (λ n. tt)) refl is in
-    let level = line_level (out-Json json) said in
-    (λ e. let h = level.0 (sym row ∙ e) in (h.0, (object_out json h.0).0 h.1, h.2),
-    λ h. row ∙ level.1 (h.0, (object_out json h.0).1 h.1, h.2))
+    let level = line_level (out-Json json) said in (
+      λ e. let h = level.0 (sym row ∙ e) in (h.0, (object_out json h.0).0 h.1, h.2),
+      λ h. row ∙ level.1 (h.0, (object_out json h.0).1 h.1, h.2),
+    )
 
 -- a line reads as one value
 pub reads_same : (line : List ℕ) (one other : Json) → Reads line one → Reads line other → one ≡ other

@@ -1,5 +1,5 @@
 -- Lists whose items stand beside those of another.
-use Rattle.std.proofs.Common.{◌≡◌, ℕ, zero, suc, ◌<◌, List, [], ◌∷◌, ◌++◌, length, map, get_or, refl, sym, ap, ap₂, ◌∙◌, subst, arith, length-append}
+use Rattle.std.proofs.Common.{◌≡◌, ℕ, zero, suc, ◌<◌, List, [], ◌∷◌, ◌++◌, length, map, get_or, refl, sym, ap₂, subst, arith}
 use Rattle.std.specs.List.{AllByRecursion, AllZip}
 
 -- one more pair of items
@@ -67,11 +67,3 @@ pub all_at : {A : Type 0} (P : A → Type 0) (xs : List A) (i : ℕ) (x : A) →
 all_at P [] i x less at all = absurd (omega (arith, less))
 all_at P (y ∷ ys) zero x less at all = subst P (sym at) all.0
 all_at P (y ∷ ys) (suc i) x less at all = all_at P ys i x (omega (arith, less)) at all.1
-
--- the two items that leave a list from its end
-pub two_items : {A : Type 0} (all some none : List A) (one two : A) → length all ≡ 2 → all ≡ some ++ two ∷ []
-    → some ≡ none ++ one ∷ [] → all ≡ one ∷ two ∷ []
-two_items all some [] one two long last first = last ∙ ap (λ xs. xs ++ two ∷ []) first
-two_items all some (x ∷ xs) one two long last first =
-    absurd (omega (arith, long, ap length (last ∙ ap (λ ys. ys ++ two ∷ []) first),
-    length-append (xs ++ one ∷ []) (two ∷ []), length-append xs (one ∷ [])))

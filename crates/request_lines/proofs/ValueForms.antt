@@ -1,5 +1,5 @@
 -- JSON values and trees by their parts, and what is told of parts that are told one after the other.
-use Rattle.std.proofs.Common.{◌≡◌, ◌↔◌, ℕ, ◌+◌, List, [], ◌∷◌, map, Some, refl, sym, ap, ap₂, ◌∙◌}
+use Rattle.std.proofs.Common.{◌≡◌, ◌↔◌, ℕ, ◌+◌, List, [], ◌∷◌, map, refl, sym, ap, ap₂, ◌∙◌}
 use Rattle.std.specs.List.{AllZip}
 use Rattle.std.specs.declared.result.Result.{Result}
 use Rattle.std.specs.declared.result.Result.TheVariants.{Ok, Err}
@@ -37,9 +37,10 @@ list_out json items =
 
 pub object_out : (json : Json) (members : List Member)
     → (out-Json json ≡ Json-F.Object members) ↔ (json ≡ jsons.Object members)
-object_out json members =
-    (λ e. sym (roll-out-Json json) ∙ ap roll-Json e ∙ jsons.rolls-Object members,
-    λ e. ap out-Json e ∙ jsons.outs-Object members)
+object_out json members = (
+  λ e. sym (roll-out-Json json) ∙ ap roll-Json e ∙ jsons.rolls-Object members,
+  λ e. ap out-Json e ∙ jsons.outs-Object members,
+)
 
 -- ---- equal trees have equal parts
 
@@ -78,23 +79,25 @@ below_ok place (Err trouble) tree = (λ e. absurd (cc e), λ e. absurd (cc e))
 
 pub pair_ok : (key other : List ℕ) (told : Told) (tree : Tree)
     → (as_pair key told ≡ Ok (pair other tree)) ↔ ((key ≡ other) × (told ≡ Ok tree))
-pair_ok key other (Ok made) tree =
-    (λ e. let same : pair key made ≡ pair other tree = cc e in
-    (ap (λ (p : Pair). p.key) same, ap Ok (ap (λ (p : Pair). p.value) same)),
-    λ e. let same : made ≡ tree = cc e.1 in
-    ap₂ (λ (name : List ℕ) (value : Tree). Ok (pair name value)) e.0 same)
+pair_ok key other (Ok made) tree = (
+  λ e. let same : pair key made ≡ pair other tree = cc e in
+      (ap (λ (p : Pair). p.key) same, ap Ok (ap (λ (p : Pair). p.value) same)),
+  λ e. let same : made ≡ tree = cc e.1 in
+      ap₂ (λ (name : List ℕ) (value : Tree). Ok (pair name value)) e.0 same,
+)
 pair_ok key other (Err trouble) tree = (λ e. absurd (cc e), λ e. absurd (cc e.1))
 
 module _ {T : Type 0} where
   then_ok : (part : Result T Trouble) (rest : Result (List T) Trouble) (t : T) (ts : List T)
       → (and_then part rest ≡ Ok (t ∷ ts)) ↔ ((part ≡ Ok t) × (rest ≡ Ok ts))
-  then_ok (Ok u) (Ok us) t ts =
-      (λ e. let first : u ≡ t = cc e in
-      let later : us ≡ ts = cc e in
-      (ap Ok first, ap Ok later),
-      λ e. let first : u ≡ t = cc e.0 in
-      let later : us ≡ ts = cc e.1 in
-      ap₂ (λ (x : T) (xs : List T). Ok (x ∷ xs)) first later)
+  then_ok (Ok u) (Ok us) t ts = (
+    λ e. let first : u ≡ t = cc e in
+        let later : us ≡ ts = cc e in
+        (ap Ok first, ap Ok later),
+    λ e. let first : u ≡ t = cc e.0 in
+        let later : us ≡ ts = cc e.1 in
+        ap₂ (λ (x : T) (xs : List T). Ok (x ∷ xs)) first later,
+  )
   then_ok (Ok u) (Err trouble) t ts = (λ e. absurd (cc e), λ e. absurd (cc e.1))
   then_ok (Err trouble) rest t ts = (λ e. absurd (cc e), λ e. absurd (cc e.0))
 
@@ -119,9 +122,10 @@ each_ok told part_of Says agree i (x ∷ xs) [] =
     (λ e. absurd (then_none (told i x) (all_told told (i + 1) xs) e), λ zip. absurd zip)
 each_ok told part_of Says agree i (x ∷ xs) (v ∷ vs) =
     let one = then_ok (told i x) (all_told told (i + 1) xs) (part_of v) (map part_of vs) in
-    let rest = each_ok told part_of Says agree (i + 1) xs vs in
-    (λ e. let both = one.0 e in ((agree i x v).0 both.0, rest.0 both.1),
-    λ zip. one.1 ((agree i x v).1 zip.0, rest.1 zip.1))
+    let rest = each_ok told part_of Says agree (i + 1) xs vs in (
+      λ e. let both = one.0 e in ((agree i x v).0 both.0, rest.0 both.1),
+      λ zip. one.1 ((agree i x v).1 zip.0, rest.1 zip.1),
+    )
 
 -- ---- the first of two that is told
 
@@ -129,23 +133,27 @@ abbrev pub first_of : Told → Told → Told
 first_of one other = or_else 0 one (or_else 1 other (refused NoAlternative))
 
 pub first_is : (one other : Told) (tree : Tree) → (first_of one other ≡ Ok (trees.Variant 0 tree)) ↔ (one ≡ Ok tree)
-first_is (Ok made) other tree =
-    (λ e. let same : trees.Variant 0 made ≡ trees.Variant 0 tree = cc e in ap Ok (same_choice 0 0 made tree same).1,
-    λ e. let same : made ≡ tree = cc e in ap (λ (t : Tree). Ok (trees.Variant 0 t)) same)
-first_is (Err trouble) (Ok made) tree =
-    (λ e. let same : trees.Variant 1 made ≡ trees.Variant 0 tree = cc e in
-    let places = (same_choice 1 0 made tree same).0 in absurd (cc places),
-    λ e. absurd (cc e))
+first_is (Ok made) other tree = (
+  λ e. let same : trees.Variant 0 made ≡ trees.Variant 0 tree = cc e in ap Ok (same_choice 0 0 made tree same).1,
+  λ e. let same : made ≡ tree = cc e in ap (λ (t : Tree). Ok (trees.Variant 0 t)) same,
+)
+first_is (Err trouble) (Ok made) tree = (
+  λ e. let same : trees.Variant 1 made ≡ trees.Variant 0 tree = cc e in
+      let places = (same_choice 1 0 made tree same).0 in absurd (cc places),
+  λ e. absurd (cc e),
+)
 first_is (Err trouble) (Err later) tree = (λ e. absurd (cc e), λ e. absurd (cc e))
 
 pub second_is : (one other : Told) (tree : Tree)
     → (first_of one other ≡ Ok (trees.Variant 1 tree)) ↔ (((t : Tree) → one ≡ Ok t → ⊥) × (other ≡ Ok tree))
-second_is (Ok made) other tree =
-    (λ e. let same : trees.Variant 0 made ≡ trees.Variant 1 tree = cc e in
-    let places = (same_choice 0 1 made tree same).0 in absurd (cc places),
-    λ e. absurd (e.0 made refl))
-second_is (Err trouble) (Ok made) tree =
-    (λ e. let same : trees.Variant 1 made ≡ trees.Variant 1 tree = cc e in
-    ((λ t is. absurd (cc is)), ap Ok (same_choice 1 1 made tree same).1),
-    λ e. let same : made ≡ tree = cc e.1 in ap (λ (t : Tree). Ok (trees.Variant 1 t)) same)
+second_is (Ok made) other tree = (
+  λ e. let same : trees.Variant 0 made ≡ trees.Variant 1 tree = cc e in
+      let places = (same_choice 0 1 made tree same).0 in absurd (cc places),
+  λ e. absurd (e.0 made refl),
+)
+second_is (Err trouble) (Ok made) tree = (
+  λ e. let same : trees.Variant 1 made ≡ trees.Variant 1 tree = cc e in
+      ((λ t is. absurd (cc is)), ap Ok (same_choice 1 1 made tree same).1),
+  λ e. let same : made ≡ tree = cc e.1 in ap (λ (t : Tree). Ok (trees.Variant 1 t)) same,
+)
 second_is (Err trouble) (Err later) tree = (λ e. absurd (cc e), λ e. absurd (cc e.1))

@@ -1,16 +1,15 @@
 -- What the value of a member says is what it denotes under the member's descriptor.
-use Rattle.std.proofs.Common.{◌≡◌, ◌↔◌, ◌≤◌, ℕ, zero, suc, Bool, true, false, ◌&&◌, List, [], ◌∷◌, codes, map, length, Option}
+use Rattle.std.proofs.Common.{◌≡◌, ◌↔◌, ◌≤◌, ℕ, suc, Bool, true, false, List, [], ◌∷◌, codes, map, length, Option}
 use Rattle.std.proofs.Common.{Some, None, refl, sym, ap, subst, ◌∙◌, arith}
 use Rattle.std.specs.Prelude.{Contains, nat_le}
 use Rattle.std.specs.List.{AllZip}
-use Rattle.std.specs.declared.result.Result.TheVariants.{Ok, Err}
+use Rattle.std.specs.declared.result.Result.TheVariants.{Ok}
 use Rattle.std.proofs.lemmas.Bool.{and_parts}
 use Rattle.std.proofs.lemmas.Bool.Decides.{nat_tests}
 use Rattle.schema_values.specs.declared.json_value.Json.{Json, out-Json}
 use Rattle.schema_values.specs.declared.json_value.Json.TheOpen.{Json-F}
 use Rattle.schema_values.specs.declared.json_value.Json.TheVariants as jsons
 use Rattle.schema_values.specs.declared.json_value.Member.{Member}
-use Rattle.schema_values.specs.declared.variables.VariableValue.{VariableValue}
 use Rattle.schema_values.specs.declared.variables.VariableValue.TheVariants.{String, Components}
 use Rattle.schema_values.specs.Member.{name_of}
 use Rattle.schema_values.specs.Order.{sorted_by}
@@ -34,7 +33,7 @@ use Rattle.api_types.specs.Heads.{required, with_default}
 use Rattle.api_types.specs.Maps.{pair_of}
 use Rattle.api_types.specs.StructTypes.{field_with}
 use Rattle.request_parts.specs.Requests.{Variables}
-use Rattle.request_lines.specs.RequestLines.{WrittenFrame, WrittenLine, any_text, as_hex, as_text, digits_desc, frame_desc}
+use Rattle.request_lines.specs.RequestLines.{WrittenLine, any_text, as_hex, as_text, digits_desc, frame_desc}
 use Rattle.request_lines.specs.RequestLines.{frame_tree, line_desc, line_tree, members_desc, members_fields, texts}
 use Rattle.request_lines.specs.RequestLines.{variable_desc, variable_tree}
 use Rattle.request_lines.specs.Said.{IsText, SaysEntry, SaysFrame, SaysLine, SaysVariable}
@@ -88,9 +87,10 @@ frame_rests =
 -- ---- texts
 
 text_level : (x : Json-F Json Member) (text : List ℕ) → (words None None x ≡ Ok (trees.Text text)) ↔ (x ≡ Json-F.Text text)
-text_level (Json-F.Text other) text =
-    (λ e. let same : trees.Text other ≡ trees.Text text = cc e in ap Json-F.Text (same_text other text same),
-    λ e. let same : other ≡ text = cc e in ap (λ (t : List ℕ). Ok (trees.Text t)) same)
+text_level (Json-F.Text other) text = (
+  λ e. let same : trees.Text other ≡ trees.Text text = cc e in ap Json-F.Text (same_text other text same),
+  λ e. let same : other ≡ text = cc e in ap (λ (t : List ℕ). Ok (trees.Text t)) same,
+)
 text_level _ text = (λ e. absurd (cc e), λ e. absurd (cc e))
 
 text_row : (json : Json) (x : Json-F Json Member) → out-Json json ≡ x → means json any_text ≡ words None None x
@@ -117,10 +117,11 @@ module _ {V : Type 0} (desc : Desc) (tree_of : V → Tree) (Says : Json → V �
       → (list_row [] members_desc desc None None x ≡ Ok (trees.List (map tree_of vs)))
       ↔ ((items : List Json) × (x ≡ Json-F.List items) × AllZip Says items vs)
   list_level (Json-F.List items) vs =
-      let agree = items_agree items vs in
-      (λ e. (items, refl, agree.0 e),
-      λ h. let same : h.0 ≡ items = cc h.1 in
-      agree.1 (subst (λ (js : List Json). AllZip Says js vs) same h.2))
+      let agree = items_agree items vs in (
+        λ e. (items, refl, agree.0 e),
+        λ h. let same : h.0 ≡ items = cc h.1 in
+            agree.1 (subst (λ (js : List Json). AllZip Says js vs) same h.2),
+      )
   list_level _ vs = (λ e. absurd (cc e), λ h. absurd (cc h.1))
 
   pub list_agrees : Agree (descs.List desc None None) (λ (vs : List V). trees.List (map tree_of vs))
@@ -129,9 +130,10 @@ module _ {V : Type 0} (desc : Desc) (tree_of : V → Tree) (Says : Json → V �
       let is = descs.outs-List desc None None in
       let row = row_at [] members_desc json (descs.List desc None None) (out-Json json) (Desc-F.List desc None None)
       (rests_at _ _ is (λ n. tt)) refl is in
-      let level = list_level (out-Json json) vs in
-      (λ e. let h = level.0 (sym row ∙ e) in (h.0, (list_out json h.0).0 h.1, h.2),
-      λ h. row ∙ level.1 (h.0, (list_out json h.0).1 h.1, h.2))
+      let level = list_level (out-Json json) vs in (
+        λ e. let h = level.0 (sym row ∙ e) in (h.0, (list_out json h.0).0 h.1, h.2),
+        λ h. row ∙ level.1 (h.0, (list_out json h.0).1 h.1, h.2),
+      )
 
 -- ---- variables
 
@@ -165,9 +167,10 @@ variable_agrees json (String text) =
     (through (first_is (means json any_text) (means json texts) (trees.Text text)) (text_agrees json text))
 variable_agrees json (Components ts) =
     let row = variable_row json in
-    let choice = second_is (means json any_text) (means json texts) (trees.List (map trees.Text ts)) in
-    (λ e. (texts_agree json ts).0 (choice.0 (sym row ∙ e)).1,
-    λ says. row ∙ choice.1 (list_no_text json says.0 says.1, (texts_agree json ts).1 says))
+    let choice = second_is (means json any_text) (means json texts) (trees.List (map trees.Text ts)) in (
+      λ e. (texts_agree json ts).0 (choice.0 (sym row ∙ e)).1,
+      λ says. row ∙ choice.1 (list_no_text json says.0 says.1, (texts_agree json ts).1 says),
+    )
 
 entries_agree : (members : List Member) (vs : Variables)
     → (map_row [] members_desc variable_desc (Json-F.Object members) ≡ Ok (trees.Map (map (pair_of variable_tree) vs)))
@@ -189,10 +192,11 @@ map_level : (x : Json-F Json Member) (vs : Variables)
     → (map_row [] members_desc variable_desc x ≡ Ok (trees.Map (map (pair_of variable_tree) vs)))
     ↔ ((members : List Member) × (x ≡ Json-F.Object members) × AllZip SaysEntry (sorted_by name_of members) vs)
 map_level (Json-F.Object members) vs =
-    let agree = entries_agree members vs in
-    (λ e. (members, refl, agree.0 e),
-    λ h. let same : h.0 ≡ members = cc h.1 in
-    agree.1 (subst (λ (ms : List Member). AllZip SaysEntry (sorted_by name_of ms) vs) same h.2))
+    let agree = entries_agree members vs in (
+      λ e. (members, refl, agree.0 e),
+      λ h. let same : h.0 ≡ members = cc h.1 in
+          agree.1 (subst (λ (ms : List Member). AllZip SaysEntry (sorted_by name_of ms) vs) same h.2),
+    )
 map_level _ vs = (λ e. absurd (cc e), λ h. absurd (cc h.1))
 
 pub variables_agree : Agree (descs.Map variable_desc) (λ (vs : Variables). trees.Map (map (pair_of variable_tree) vs))
@@ -202,9 +206,10 @@ variables_agree json vs =
     let is = descs.outs-Map variable_desc in
     let row = row_at [] members_desc json (descs.Map variable_desc) (out-Json json) (Desc-F.Map variable_desc)
     (rests_at _ _ is (λ n. tt)) refl is in
-    let level = map_level (out-Json json) vs in
-    (λ e. let h = level.0 (sym row ∙ e) in (h.0, (object_out json h.0).0 h.1, h.2),
-    λ h. row ∙ level.1 (h.0, (object_out json h.0).1 h.1, h.2))
+    let level = map_level (out-Json json) vs in (
+      λ e. let h = level.0 (sym row ∙ e) in (h.0, (object_out json h.0).0 h.1, h.2),
+      λ h. row ∙ level.1 (h.0, (object_out json h.0).1 h.1, h.2),
+    )
 
 -- ---- header lines
 
@@ -221,17 +226,19 @@ line_level : (x : Json-F Json Member) (line : WrittenLine)
 line_level (Json-F.List []) line = (λ e. absurd (cc e), λ e. absurd (cc e))
 line_level (Json-F.List (a ∷ [])) line = (λ e. absurd (cc e), λ e. absurd (cc e))
 line_level (Json-F.List (a ∷ b ∷ [])) line =
-    let agree = items_agree any_text trees.Text IsText text_agrees (a ∷ b ∷ []) (line.0 ∷ line.1 ∷ []) in
-    (λ e. let zip = agree.0 e in rw (zip.0, zip.1.0) refl,
-    λ e. let first : a ≡ jsons.Text line.0 = cc e in
-    let second : b ≡ jsons.Text line.1 = cc e in
-    agree.1 (first, (second, tt)))
+    let agree = items_agree any_text trees.Text IsText text_agrees (a ∷ b ∷ []) (line.0 ∷ line.1 ∷ []) in (
+      λ e. let zip = agree.0 e in rw (zip.0, zip.1.0) refl,
+      λ e. let first : a ≡ jsons.Text line.0 = cc e in
+          let second : b ≡ jsons.Text line.1 = cc e in
+          agree.1 (first, (second, tt)),
+    )
 line_level (Json-F.List (a ∷ b ∷ c ∷ rest)) line =
-    let n = length (a ∷ b ∷ c ∷ rest) in
-    (λ e. let within = holds_true (is_length_within (Some 2) (Some 2) n) _ (line_tree line) e in
-    let (least, most) = and_parts (nat_le 2 n) (nat_le n 2) within in
-    absurd (omega (arith, at_most_two n most)),
-    λ e. absurd (cc e))
+    let n = length (a ∷ b ∷ c ∷ rest) in (
+      λ e. let within = holds_true (is_length_within (Some 2) (Some 2) n) _ (line_tree line) e in
+          let (least, most) = and_parts (nat_le 2 n) (nat_le n 2) within in
+          absurd (omega (arith, at_most_two n most)),
+      λ e. absurd (cc e),
+    )
 line_level _ line = (λ e. absurd (cc e), λ e. absurd (cc e))
 
 pub line_agrees : Agree line_desc line_tree SaysLine
@@ -276,10 +283,11 @@ digits_level (Json-F.Object members) digits =
     (each_ok (λ i f. told_field [] members_desc members f) (λ (t : Tree). t)
     (λ f t. told_field [] members_desc members f ≡ Ok t) (λ i f t. (λ e. e, λ e. e)) 0 digits_fields
     (trees.Text digits ∷ [])) in
-    let one = required_agrees members (codes "hex") digits in
-    (λ e. (members, refl, one.0 (fields.0 e).0),
-    λ h. let same : h.0 ≡ members = cc h.1 in
-    fields.1 (one.1 (subst (λ (ms : List Member). value_named ms (codes "hex") ≡ Some (jsons.Text digits)) same h.2), tt))
+    let one = required_agrees members (codes "hex") digits in (
+      λ e. (members, refl, one.0 (fields.0 e).0),
+      λ h. let same : h.0 ≡ members = cc h.1 in
+          fields.1 (one.1 (subst (λ (ms : List Member). value_named ms (codes "hex") ≡ Some (jsons.Text digits)) same h.2), tt),
+    )
 digits_level _ digits = (λ e. absurd (cc e), λ h. absurd (cc h.1))
 
 digits_agree : Agree digits_desc (λ digits. trees.Fields (trees.Text digits ∷ []))
@@ -289,9 +297,10 @@ digits_agree json digits =
     let is = descs.outs-Struct digits_fields false in
     let row = row_at [] members_desc json digits_desc (out-Json json) (Desc-F.Struct digits_fields false)
     (rests_at _ _ is (λ n. tt)) refl is in
-    let level = digits_level (out-Json json) digits in
-    (λ e. let h = level.0 (sym row ∙ e) in (h.0, (object_out json h.0).0 h.1, h.2),
-    λ h. row ∙ level.1 (h.0, (object_out json h.0).1 h.1, h.2))
+    let level = digits_level (out-Json json) digits in (
+      λ e. let h = level.0 (sym row ∙ e) in (h.0, (object_out json h.0).0 h.1, h.2),
+      λ h. row ∙ level.1 (h.0, (object_out json h.0).1 h.1, h.2),
+    )
 
 frame_row : (json : Json) → means json frame_desc ≡ first_of (means json any_text) (means json digits_desc)
 frame_row json = choice_row json digits_desc frame_rests
@@ -302,6 +311,7 @@ frame_agrees json (as_text text) =
     (through (first_is (means json any_text) (means json digits_desc) (trees.Text text)) (text_agrees json text))
 frame_agrees json (as_hex digits) =
     let row = frame_row json in
-    let choice = second_is (means json any_text) (means json digits_desc) (trees.Fields (trees.Text digits ∷ [])) in
-    (λ e. (digits_agree json digits).0 (choice.0 (sym row ∙ e)).1,
-    λ says. row ∙ choice.1 (object_no_text json says.0 says.1, (digits_agree json digits).1 says))
+    let choice = second_is (means json any_text) (means json digits_desc) (trees.Fields (trees.Text digits ∷ [])) in (
+      λ e. (digits_agree json digits).0 (choice.0 (sym row ∙ e)).1,
+      λ says. row ∙ choice.1 (object_no_text json says.0 says.1, (digits_agree json digits).1 says),
+    )

@@ -35,11 +35,7 @@ pub(crate) fn variables_of(alloc: Global, members: List<Member>) -> Result<Varia
 }
 
 // Puts in one more variable. Names are distinct, so it replaces none.
-fn put(
-    variables: &mut VariableSet,
-    name: Text,
-    value: VariableValue,
-) -> Result<(), AllocError>
+fn put(variables: &mut VariableSet, name: Text, value: VariableValue) -> Result<(), AllocError>
     ensures { OnOk result (variables.new.entries
         ≡ insert_entry (slice_cmp nat_cmp) variables.old.entries name value) }
 {

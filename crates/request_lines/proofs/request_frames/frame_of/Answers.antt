@@ -12,8 +12,15 @@ returns-in-Text-clause-frame c = (as_text c.in-Text.text, c.in-Text.is, ap Bytes
 pub returns-in-Object-clause-frame : goal.returns-in-Object-clause-frame
 returns-in-Object-clause-frame c =
     IfOk-weaker c.frame_of_digits-in-Object.result _ _
-    (λ frame is. (as_hex c.in_ok-digits_of-in-Object.field-0, (c.in-Object.members, c.in-Object.is,
-    c.in_ok-digits_of-in-Object.ensures.digits), is)) c.frame_of_digits-in-Object.ensures.frame
+    (λ frame is. (
+      as_hex c.in_ok-digits_of-in-Object.field-0,
+      (
+        c.in-Object.members,
+        c.in-Object.is,
+        c.in_ok-digits_of-in-Object.ensures.digits,
+      ),
+      is,
+    )) c.frame_of_digits-in-Object.ensures.frame
 
 pub returns-in-Object-clause-bad : goal.returns-in-Object-clause-bad
 returns-in-Object-clause-bad c bad frame of =

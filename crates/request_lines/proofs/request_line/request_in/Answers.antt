@@ -19,8 +19,15 @@ returns-in_default-clause-bad c bad said says at request frames made = c.in_defa
 pub returns-clause-made : goal.returns-clause-made
 returns-clause-made c =
     IfOk-weaker c.request_of.result _ _
-    (λ asked made. (made.0, (c.in-Object.members, c.in-Object.is,
-    subst (λ (ms : List Member). Says ms made.0) c.into_vec-members.ensures made.1), made.2)) c.request_of.ensures.made
+    (λ asked made. (
+      made.0,
+      (
+        c.in-Object.members,
+        c.in-Object.is,
+        subst (λ (ms : List Member). Says ms made.0) c.into_vec-members.ensures made.1,
+      ),
+      made.2,
+    )) c.request_of.ensures.made
 
 pub returns-clause-bad : goal.returns-clause-bad
 returns-clause-bad c bad said says at request frames made =
