@@ -1,6 +1,6 @@
 -- Variables in the order of their names, one by one.
 use Rattle.std.proofs.Common.{◌≡◌, ◌≢◌, ℕ, zero, suc, ◌<◌, List, [], ◌∷◌, ◌++◌, length, map, get_or, take, fold, refl, sym}
-use Rattle.std.proofs.Common.{ap, subst, arith, Less, Equal, Greater, nat_cmp}
+use Rattle.std.proofs.Common.{subst, arith, Less, Equal, Greater, nat_cmp}
 use Rattle.std.specs.BTreeMap.{insert_entry}
 use Rattle.std.specs.Cmp.Lexicographic.{slice_cmp}
 use Rattle.std.specs.declared.cmp.Ordering.{Ordering}

@@ -24,7 +24,7 @@ use Rattle.api_types.specs.Heads.{with_default}
 use Rattle.api_types.specs.Maps.{pair_of}
 use Rattle.api_types.specs.StructTypes.{field_with}
 use Rattle.request_parts.specs.Requests.{Variables}
-use Rattle.request_lines.specs.RequestLines.{HasMembers, Members, WrittenFrame, WrittenLine, any_text, frame_desc}
+use Rattle.request_lines.specs.RequestLines.{HasMembers, Members, any_text, frame_desc}
 use Rattle.request_lines.specs.RequestLines.{frame_tree, line_desc, line_tree, members_desc, members_fields, members_tree}
 use Rattle.request_lines.specs.RequestLines.{variable_desc, variable_tree}
 use Rattle.request_lines.specs.Said.{IsText, Says, SaysEntry, SaysFrame, SaysLine, SaysMembers}

@@ -1,17 +1,14 @@
 -- What the values of a line say, they say of one thing alone.
 use Rattle.std.proofs.Common.{◌≡◌, ℕ, List, [], ◌∷◌, false, length, codes, Option, Some, None, refl, sym}
 use Rattle.std.proofs.Common.{bytes_eq, ap, ap₂, subst, ◌∙◌}
-use Rattle.std.specs.List.{AllZip}
 use Rattle.schema_values.specs.declared.json_value.Json.{Json}
 use Rattle.schema_values.specs.declared.json_value.Json.TheOpen.{Json-F}
 use Rattle.schema_values.specs.declared.json_value.Json.TheVariants as jsons
 use Rattle.schema_values.specs.declared.json_value.Member.{Member}
-use Rattle.schema_values.specs.declared.variables.VariableValue.{VariableValue}
-use Rattle.schema_values.specs.declared.variables.VariableValue.TheVariants.{String, Components}
 use Rattle.typed_values.specs.Denotes.{value_named}
 use Rattle.request_lines.specs.RequestLines.{WrittenFrame, WrittenLine, as_hex, as_text}
 use Rattle.request_lines.specs.Said.{AreItems, AreMembers, IsText, KeepsOthers, SaysFrame, SaysHead, SaysLine}
-use Rattle.request_lines.specs.Said.{SaysTarget, SaysVariable}
+use Rattle.request_lines.specs.Said.{SaysTarget}
 use Rattle.request_lines.proofs.ValueForms.{list_out, object_out, text_out}
 
 -- ---- a value is one thing
@@ -28,11 +25,6 @@ pub object_same : (json : Json) (ms ns : List Member) → json ≡ jsons.Object 
 object_same json ms ns p q =
     let levels : Json-F.Object ms ≡ Json-F.Object ns = sym ((object_out json ms).1 p) ∙ (object_out json ns).1 q in
     cc levels
-
-text_no_list : (json : Json) (text : List ℕ) (xs : List Json) → json ≡ jsons.Text text → json ≡ jsons.List xs → ⊥
-text_no_list json text xs p q =
-    let levels : Json-F.Text text ≡ Json-F.List xs = sym ((text_out json text).1 p) ∙ (list_out json xs).1 q in
-    absurd (cc levels)
 
 text_no_object : (json : Json) (text : List ℕ) (ms : List Member) → json ≡ jsons.Text text → json ≡ jsons.Object ms → ⊥
 text_no_object json text ms p q =
@@ -54,20 +46,7 @@ pub members_same : (value : Option Json) (ms ns : List Member) → AreMembers va
 members_same None ms ns p q = p ∙ sym q
 members_same (Some json) ms ns p q = object_same json ms ns p q
 
--- ---- variables and frames
-
--- a list says components, and nothing else a variable
-pub list_says : (json : Json) (items : List Json) (value : VariableValue) → json ≡ jsons.List items
-    → SaysVariable json value → (texts : List (List ℕ)) × AllZip IsText items texts
-list_says json items (String text) is said = absurd (text_no_list json text items said is)
-list_says json items (Components texts) is said =
-    (texts, subst (λ (xs : List Json). AllZip IsText xs texts) (list_same json said.0 items said.1 is) said.2)
-
--- what is neither a text nor a list says no variable
-pub no_variable : (json : Json) (value : VariableValue) → ((text : List ℕ) → json ≡ jsons.Text text → ⊥)
-    → ((items : List Json) → json ≡ jsons.List items → ⊥) → SaysVariable json value → ⊥
-no_variable json (String text) no_text no_list said = no_text text said
-no_variable json (Components texts) no_text no_list said = no_list said.0 said.1
+-- ---- frames
 
 -- an object says digits, and nothing else a frame
 pub object_says : (json : Json) (members : List Member) (written : WrittenFrame) → json ≡ jsons.Object members
@@ -81,24 +60,13 @@ object_says json members (as_hex digits) is said = (
       (object_same json said.0 members said.1 is) said.2,
 )
 
--- what is neither a text nor an object says no frame
-pub no_frame : (json : Json) (written : WrittenFrame) → ((text : List ℕ) → json ≡ jsons.Text text → ⊥)
-    → ((members : List Member) → json ≡ jsons.Object members → ⊥) → SaysFrame json written → ⊥
-no_frame json (as_text text) no_text no_object said = no_text text said
-no_frame json (as_hex digits) no_text no_object said = no_object said.0 said.1
-
 -- ---- header lines
 
 module _ (json : Json) (items : List Json) (one two : Json) (is : json ≡ jsons.List items)
     (are : items ≡ one ∷ two ∷ []) where
+  -- two texts are a line
   pub two_say : (name value : List ℕ) → IsText one name → IsText two value → SaysLine json (name, value)
   two_say name value first second = is ∙ ap jsons.List (are ∙ ap₂ (λ (x y : Json). x ∷ y ∷ []) first second)
-
-  pub two_said : (line : WrittenLine) → SaysLine json line → IsText one line.0 × IsText two line.1
-  two_said line said =
-      let same : one ∷ two ∷ [] ≡ jsons.Text line.0 ∷ jsons.Text line.1 ∷ [] =
-      sym are ∙ list_same json items (jsons.Text line.0 ∷ jsons.Text line.1 ∷ []) is said in
-      (cc same, cc same)
 
 -- a line is a list of two
 pub line_length : (json : Json) (items : List Json) (line : WrittenLine) → json ≡ jsons.List items

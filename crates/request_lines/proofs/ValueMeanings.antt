@@ -1,16 +1,15 @@
 -- What the value of a member says is what it denotes under the member's descriptor.
-use Rattle.std.proofs.Common.{◌≡◌, ◌↔◌, ◌≤◌, ℕ, zero, suc, Bool, true, false, ◌&&◌, List, [], ◌∷◌, codes, map, length, Option}
+use Rattle.std.proofs.Common.{◌≡◌, ◌↔◌, ◌≤◌, ℕ, suc, Bool, true, false, List, [], ◌∷◌, codes, map, length, Option}
 use Rattle.std.proofs.Common.{Some, None, refl, sym, ap, subst, ◌∙◌, arith}
 use Rattle.std.specs.Prelude.{Contains, nat_le}
 use Rattle.std.specs.List.{AllZip}
-use Rattle.std.specs.declared.result.Result.TheVariants.{Ok, Err}
+use Rattle.std.specs.declared.result.Result.TheVariants.{Ok}
 use Rattle.std.proofs.lemmas.Bool.{and_parts}
 use Rattle.std.proofs.lemmas.Bool.Decides.{nat_tests}
 use Rattle.schema_values.specs.declared.json_value.Json.{Json, out-Json}
 use Rattle.schema_values.specs.declared.json_value.Json.TheOpen.{Json-F}
 use Rattle.schema_values.specs.declared.json_value.Json.TheVariants as jsons
 use Rattle.schema_values.specs.declared.json_value.Member.{Member}
-use Rattle.schema_values.specs.declared.variables.VariableValue.{VariableValue}
 use Rattle.schema_values.specs.declared.variables.VariableValue.TheVariants.{String, Components}
 use Rattle.schema_values.specs.Member.{name_of}
 use Rattle.schema_values.specs.Order.{sorted_by}
@@ -34,7 +33,7 @@ use Rattle.api_types.specs.Heads.{required, with_default}
 use Rattle.api_types.specs.Maps.{pair_of}
 use Rattle.api_types.specs.StructTypes.{field_with}
 use Rattle.request_parts.specs.Requests.{Variables}
-use Rattle.request_lines.specs.RequestLines.{WrittenFrame, WrittenLine, any_text, as_hex, as_text, digits_desc, frame_desc}
+use Rattle.request_lines.specs.RequestLines.{WrittenLine, any_text, as_hex, as_text, digits_desc, frame_desc}
 use Rattle.request_lines.specs.RequestLines.{frame_tree, line_desc, line_tree, members_desc, members_fields, texts}
 use Rattle.request_lines.specs.RequestLines.{variable_desc, variable_tree}
 use Rattle.request_lines.specs.Said.{IsText, SaysEntry, SaysFrame, SaysLine, SaysVariable}

@@ -11,7 +11,6 @@ use Rattle.schema_values.specs.Member.{name_of}
 use Rattle.schema_values.specs.Order.{sorted_by}
 use Rattle.typed_values.specs.Denotes.{value_named}
 use Rattle.http_bodies.specs.declared.frame.Frame.{Frame}
-use Rattle.request_parts.specs.Requests.{Variables}
 use Rattle.request_parts.specs.declared.info.RequestInfo.{RequestInfo}
 use Rattle.request_lines.specs.RequestLines.{IsFieldLine, IsFrame, IsHeadOf, Members, WrittenFrame, WrittenLine}
 use Rattle.request_lines.specs.RequestLines.{as_hex, as_text, field_line}

@@ -1,5 +1,6 @@
 //! The head of a request, made of the members of a line.
-ghost use Rattle.std.specs.Prelude.{◌≡◌, IfOk, IsErrOf, List as ListOf, OnOk, codes, ℕ};
+ghost use Rattle.std.specs.Prelude.{◌≡◌, ◌≢◌, [], ◌∷◌, IfNone, IfOk, IfSome, IsErrOf, List as ListOf, OnOk};
+ghost use Rattle.std.specs.Prelude.{codes, length, ℕ};
 ghost use Rattle.std.specs.List.{AllZip};
 ghost use Rattle.std.specs.Str.{encode_utf8_all};
 ghost use Rattle.header_lists.specs.HeaderLists.{Line};
@@ -93,14 +94,28 @@ fn line_of(alloc: Global, json: Json) -> Result<(HeaderName, HeaderValue), LineE
     let Json::List(items) = json else {
         return Err(LineError::Bad);
     };
-    match <[Json; 2]>::try_from(items.into_vec()) {
-        Ok([name, value]) => {
+    match two_of(items) {
+        Some((name, value)) => {
             let name = text_in(name)?;
             let value = text_in(value)?;
             header_line(alloc, &name, value)
         }
-        Err(_items) => Err(LineError::Bad),
+        None => Err(LineError::Bad),
     }
+}
+
+// The items of a list of two.
+fn two_of(items: List<Json>) -> Option<(Json, Json)>
+    ensures two { IfSome result (λ two. items ≡ two.0 ∷ two.1 ∷ []) }
+    ensures other { IfNone result (length items ≢ 2) }
+{
+    if items.len() != 2 {
+        return None;
+    }
+    let mut items = items.into_vec();
+    let second = items.pop()?;
+    let first = items.pop()?;
+    Some((first, second))
 }
 
 // The header line of a name and a value; the name is put in lower case, and the value is not copied.

@@ -1,4 +1,4 @@
-use Rattle.std.proofs.Common.{◌≡◌, ◌∙◌, ℕ, List, ap₂, chars, sym}
+use Rattle.std.proofs.Common.{◌∙◌, ℕ, List, ap₂, sym}
 use Rattle.schema_values.specs.declared.json_value.Member.{Member}
 use Rattle.schema_values.proofs.CallerLemmas.{chars-all_ascii}
 use Rattle.request_lines.proofs.NamedValues.{others_kept, place_in, value_absent, value_taken}

@@ -1,4 +1,4 @@
-use Rattle.std.proofs.Common.{◌∙◌, ℕ, List, Option, codes, map, refl, subst, sym}
+use Rattle.std.proofs.Common.{◌∙◌, ℕ, List, Option, ap, codes, map, refl, subst, sym}
 use Rattle.std.specs.List.{AllZip}
 use Rattle.std.specs.Str.{encode_utf8_all}
 use Rattle.std.proofs.lemmas.Result.{err_from_is_err_and}
@@ -7,7 +7,7 @@ use Rattle.schema_values.specs.declared.json_value.Json.{Json}
 use Rattle.typed_values.specs.Denotes.{value_named}
 use Rattle.request_lines.specs.RequestLines.{field_line}
 use Rattle.request_lines.specs.Said.{AreItems, IsLineOf, SaysTarget}
-use Rattle.request_lines.proofs.MadeLemmas.{lines_made, lines_said}
+use Rattle.request_lines.proofs.MadeLemmas.{head_with, lines_made, lines_said}
 use Rattle.request_lines.proofs.SaidLemmas.{items_same, some_text_same}
 use Rattle.request_lines.proofs.request_head.head_of.Goals as goal
 
@@ -19,7 +19,7 @@ returns-in_err-text_named-clause-bad c bad info in_members =
 pub returns-in_err-method-clause-bad : goal.returns-in_err-method-clause-bad
 returns-in_err-method-clause-bad c bad info in_members =
     let (method, target, lines, says, head) = in_members in
-    let told = err_from_is_err_and c.from_residual.result c.from_residual.ensures.1 in
+    let told = err_from_is_err_and c.from_residual-in_err-method.result c.from_residual-in_err-method.ensures.1 in
     let same = some_text_same (value_named c.args.members.now.items (codes "method")) method
     c.in_ok-text_named.field-0 says.method_said c.in_ok-text_named.ensures.text in
     c.in_err-method.ensures.bad (cc (told.1, told.2, bad))
@@ -28,7 +28,7 @@ returns-in_err-method-clause-bad c bad info in_members =
 pub returns-in_err-uri-clause-bad : goal.returns-in_err-uri-clause-bad
 returns-in_err-uri-clause-bad c bad info in_members =
     let (method, target, lines, says, head) = in_members in
-    let told = err_from_is_err_and c.from_residual.result c.from_residual.ensures.1 in
+    let told = err_from_is_err_and c.from_residual-in_err-uri.result c.from_residual-in_err-uri.ensures.1 in
     let kept = c.take_value.ensures.value ∙ c.in_ok-text_named.ensures.others (codes "uri") refl in
     c.in_err-uri.ensures.bad (cc (told.1, told.2, bad)) target
     (subst (λ (v : Option Json). SaysTarget v target) (sym kept) says.target_said) head.uri head.spelled
@@ -44,7 +44,7 @@ returns-in_err-items_named-clause-bad c bad info in_members =
 pub returns-in_err-lines-clause-bad : goal.returns-in_err-lines-clause-bad
 returns-in_err-lines-clause-bad c bad info in_members =
     let (method, target, lines, says, head) = in_members in
-    let told = err_from_is_err_and c.from_residual.result c.from_residual.ensures.1 in
+    let told = err_from_is_err_and c.from_residual-in_err-lines.result c.from_residual-in_err-lines.ensures.1 in
     let kept = c.take_value.ensures.others (codes "headers") refl
     ∙ c.in_ok-text_named.ensures.others (codes "headers") refl in
     let items = c.in_ok-items_named.field-0 in
@@ -77,6 +77,7 @@ returns-clause-head c =
         uri = c.in_ok-uri.uri;
         spelled = spelled;
         fields = fields;
-        made = rw (c.new-2.ensures, c.in_ok-method.ensures.same, are, c.new.ensures) refl;
+        made = rw (c.new-2.ensures, c.in_ok-method.ensures.same, c.new.ensures)
+            (ap (head_with (encode_utf8_all c.in_ok-text_named.field-0) c.in_ok-uri.uri) are);
       },
     )

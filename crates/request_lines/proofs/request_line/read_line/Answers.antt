@@ -1,4 +1,3 @@
-use Rattle.std.proofs.Common.{Err}
 use Rattle.std.proofs.lemmas.Result.{IfOk-weaker, err_from_is_err_and}
 use Rattle.request_lines.proofs.LineMeanings.{has_members, says_members}
 use Rattle.request_lines.proofs.request_line.read_line.Goals as goal

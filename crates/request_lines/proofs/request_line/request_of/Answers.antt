@@ -42,7 +42,7 @@ returns-in_err-frames-clause-bad c bad said says at request frames made =
     let items = c.in_ok-items_named.field-0 in
     let kept = c.in_ok-request_id.ensures.others (codes "frames") refl
     ∙ c.in_ok-template.ensures.others (codes "frames") refl in
-    let told = err_from_is_err_and c.from_residual.result c.from_residual.ensures.1 in
+    let told = err_from_is_err_and c.from_residual-in_err-frames.result c.from_residual-in_err-frames.ensures.1 in
     let same = items_same (value_named c.args.members.now.items (codes "frames")) says.frames items says.frames_are
     (subst (λ (v : Option Json). AreItems v items) kept c.in_ok-items_named.ensures.items) in
     c.in_err-frames.ensures.bad (cc (told.1, told.2, bad)) frames
@@ -63,7 +63,7 @@ returns-in_err-variables-clause-bad c bad said says at request frames made =
     let kept = c.in_ok-items_named.ensures.others (codes "variables") refl
     ∙ c.in_ok-request_id.ensures.others (codes "variables") refl
     ∙ c.in_ok-template.ensures.others (codes "variables") refl in
-    let told = err_from_is_err_and c.from_residual.result c.from_residual.ensures.1 in
+    let told = err_from_is_err_and c.from_residual-in_err-variables.result c.from_residual-in_err-variables.ensures.1 in
     let same = members_same (value_named c.args.members.now.items (codes "variables")) says.variables inner
     says.variables_are (subst (λ (v : Option Json). AreMembers v inner) kept c.in_ok-members_named.ensures.members) in
     c.in_err-variables.ensures.bad (cc (told.1, told.2, bad)) said.variables
@@ -71,7 +71,7 @@ returns-in_err-variables-clause-bad c bad said says at request frames made =
 
 pub returns-in_err-info-clause-bad : goal.returns-in_err-info-clause-bad
 returns-in_err-info-clause-bad c bad said says at request frames made =
-    let told = err_from_is_err_and c.from_residual.result c.from_residual.ensures.1 in
+    let told = err_from_is_err_and c.from_residual-in_err-info.result c.from_residual-in_err-info.ensures.1 in
     c.in_err-info.ensures.bad (cc (told.1, told.2, bad)) request.info (
       said.method,
       said.uri,
