@@ -1,5 +1,5 @@
 //! The values of an object's members, moved out of it by their names. No text is copied.
-ghost use Rattle.std.specs.Prelude.{◌≡◌, IfOk, IsTrue, List as ListOf, MatchOption, OnErr, Some, bytes_eq, ℕ};
+ghost use Rattle.std.specs.Prelude.{◌≡◌, IfOk, IsTrue, List as ListOf, OnErr, Some, bytes_eq, ℕ};
 ghost use Rattle.std.specs.List.{position};
 ghost use Rattle.std.specs.Str.{chars};
 ghost use Rattle.schema_values.specs.Ascii.{all_ascii};
