@@ -64,13 +64,19 @@ pub took_none : {K : Type 0} (sink : SinkGhosts K) (at : K) (bytes : List ℕ)
 took_none sink at bytes = ([], bytes, refl, inr (refl, record { pieces = []; calls = refl; whole = refl }))
 
 -- the bytes of a document that was made of an API, under the title of the settings
-pub written_at : {X : Type 0} {F : X → Type 0} (m : Meanings X F) (config : ToolConfig) {api made : ApiDescription X F}
-    {info : Info} {title : List ℕ} {read copied at : Parts} → made ≡ api → info ≡ info_of title copied
-    → config.title ≡ title → read ≡ copied → copied ≡ at
-    → encode_utf8_all (document_text m made.tags made.endpoints.items info read)
-    ≡ preamble_of m (service config api.tags api.endpoints.items at)
-written_at m config same_api same_info same_title same_version once =
-    rw (same_api, same_info, sym same_title, same_version, once) refl
+module _ {X : Type 0} {F : X → Type 0} (m : Meanings X F) (config : ToolConfig) where
+  abbrev bytes_at : ApiDescription X F → Info → Parts → List ℕ
+  bytes_at api info version = encode_utf8_all (document_text m api.tags api.endpoints.items info version)
+
+  pub written_at : (api : ApiDescription X F) (info : Info) (read copied at : Parts) {made : ApiDescription X F}
+      {title : List ℕ} → made ≡ api → info ≡ info_of title copied → config.title ≡ title → read ≡ copied → copied ≡ at
+      → bytes_at made info read ≡ preamble_of m (service config api.tags api.endpoints.items at)
+  written_at api info read copied at same_api same_info same_title same_version once =
+      let about = same_info ∙ ap (λ (t : List ℕ). info_of t copied) (sym same_title)
+      ∙ ap (λ (v : Parts). info_of config.title v) once in
+      ap (λ (a : ApiDescription X F). bytes_at a info read) same_api
+      ∙ ap (λ (i : Info). bytes_at api i read) about
+      ∙ ap (λ (v : Parts). bytes_at api (info_of config.title at) v) (same_version ∙ once)
 
 -- what is known behind bytes that were known
 pub appended : (taken : Option (List ℕ)) (written bytes : List ℕ) (before : Option (List ℕ)) → before ≡ Some written

@@ -11,8 +11,8 @@ returns-in-Err-WriteFault-clause-ends g c = (
   rw c.in-Err-WriteFault.field-0-is at c.in-Err-WriteFault.ensures.calls,
 )
 
-pub returns-clause-ends : goal.returns-clause-ends
-returns-clause-ends g c = (
+pub returns-in-Err-OutOfMemory-clause-ends : goal.returns-in-Err-OutOfMemory-clause-ends
+returns-in-Err-OutOfMemory-clause-ends g c = (
   c.in-Err-OutOfMemory.ensures.part,
   rw c.in-Err-OutOfMemory.field-0-is at c.in-Err-OutOfMemory.ensures.calls,
 )

@@ -37,7 +37,7 @@ pub returns-clause-ok : goal.returns-clause-ok
 returns-clause-ok g c =
     subst (λ (bytes : List ℕ). OnOk c.write.result
     (Appends (g.K.Sink.taken c.args.sink.now) (g.K.Sink.taken c.write.new.sink) bytes))
-    (written_at (λ e. goal.RouteHandler-dyn g (e.handler.vtable, e.handler.value)) c.args.config.now
+    (written_at (λ e. goal.RouteHandler-dyn g (e.handler.vtable, e.handler.value)) c.args.config.now _ _ _ _ _
     c.in_ok-definition.ensures.api c.in_ok-definition.ensures.info c.as_str.ensures
     (ap parts_of c.in_ok-definition.ensures.version) c.in_ok-version.ensures) c.write.ensures.ok
 
@@ -45,13 +45,13 @@ pub returns-clause-part : goal.returns-clause-part
 returns-clause-part g c =
     subst (λ (bytes : List ℕ). OnErr c.write.result
     (AppendsPart (g.K.Sink.taken c.args.sink.now) (g.K.Sink.taken c.write.new.sink) bytes))
-    (written_at (λ e. goal.RouteHandler-dyn g (e.handler.vtable, e.handler.value)) c.args.config.now
+    (written_at (λ e. goal.RouteHandler-dyn g (e.handler.vtable, e.handler.value)) c.args.config.now _ _ _ _ _
     c.in_ok-definition.ensures.api c.in_ok-definition.ensures.info c.as_str.ensures
     (ap parts_of c.in_ok-definition.ensures.version) c.in_ok-version.ensures) c.write.ensures.part
 
 pub returns-clause-calls : goal.returns-clause-calls
 returns-clause-calls g c =
     subst (λ (bytes : List ℕ). WritesBy g.K.Sink bytes c.args.sink.now c.write.new.sink c.write.result)
-    (written_at (λ e. goal.RouteHandler-dyn g (e.handler.vtable, e.handler.value)) c.args.config.now
+    (written_at (λ e. goal.RouteHandler-dyn g (e.handler.vtable, e.handler.value)) c.args.config.now _ _ _ _ _
     c.in_ok-definition.ensures.api c.in_ok-definition.ensures.info c.as_str.ensures
     (ap parts_of c.in_ok-definition.ensures.version) c.in_ok-version.ensures) c.write.ensures.calls
