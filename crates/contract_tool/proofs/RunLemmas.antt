@@ -1,14 +1,18 @@
 -- How a run ends, by how its session or its document ends.
 use Rattle.std.proofs.Common.{◌≡◌, ◌++◌, ℕ, List, [], append-nil, Option, None, Ok, Result, Err, Some}
-use Rattle.std.proofs.Common.{refl, sym, ap, subst, ◌∙◌, option_and_then}
+use Rattle.std.proofs.Common.{inr, refl, sym, ap, subst, ◌∙◌, option_and_then}
 use Rattle.std.specs.Io.KnownBytes.{Appends}
+use Rattle.std.specs.Str.{encode_utf8_all}
 use Rattle.schema_values.specs.Sound.{IsSound}
 use Rattle.schema_values.specs.declared.json_value.Json.{Json}
 use Rattle.openapi_values.specs.declared.info.Info.{Info}
 use Rattle.openapi_values.specs.Admits.{pagination_of}
 use Rattle.openapi_values.proofs.Stands.{pages-stand}
 use Rattle.semver.specs.Parse.{Parts}
+use Rattle.line_session.specs.Calls.{TookPart}
+use Rattle.line_session.specs.Parts.{AppendsPart}
 use Rattle.line_session.specs.declared.ends.Sink.{Ghosts as SinkGhosts}
+use Rattle.line_session.specs.declared.ends.SinkError.TheVariants as sink_error
 use Rattle.http_bodies.specs.declared.frame.Frame.{Frame}
 use Rattle.tag_config.specs.Configurations.{Configuration}
 use Rattle.tree_store.specs.Tables.{Tables}
@@ -28,14 +32,16 @@ use Rattle.endpoint_answers.specs.declared.outcome.Exchange.{Exchange}
 use Rattle.endpoint_answers.specs.declared.outcome.ExchangeError.{ExchangeError}
 use Rattle.endpoint_answers.specs.declared.outcome.ExchangeError.TheVariants as failed
 use Rattle.api_descriptions.specs.Agreement.{FollowsDocument, IsValidFor}
-use Rattle.api_descriptions.specs.Written.{document_at}
+use Rattle.api_descriptions.specs.Information.{info_of}
+use Rattle.api_descriptions.specs.Written.{document_at, document_text}
+use Rattle.api_descriptions.specs.declared.description.ApiDescription.{ApiDescription}
 use Rattle.command_line.specs.declared.config.ToolConfig.{ToolConfig}
 use Rattle.command_line.specs.declared.config.ToolStatus.{ToolStatus}
 use Rattle.command_line.specs.declared.config.ToolStatus.TheVariants.{Done}
 use Rattle.contract_tool.specs.Ends.{DocumentEnds}
 use Rattle.contract_tool.specs.LineAnswers.{IsExchanged, Service, asked_in, asked_with, service}
 use Rattle.contract_tool.specs.Outcomes.{Tells}
-use Rattle.contract_tool.specs.Sessions.{IsDocumented, IsOpened, IsValidTo, info_at, written_document}
+use Rattle.contract_tool.specs.Sessions.{IsDocumented, IsOpened, IsValidTo, info_at, preamble_of, written_document}
 
 -- ---- ends of documents
 
@@ -44,10 +50,33 @@ module _ {K : Type 0} (sink : SinkGhosts K) (before after : K) (bytes : List ℕ
       → Appends (sink.taken before) (sink.taken after) bytes
   written_whole result ends is = (subst (DocumentEnds sink before after bytes) is ends).0
 
--- nothing is a part of any bytes
-pub keeps_all : (known : Option (List ℕ)) → Appends known known []
+keeps_all : (known : Option (List ℕ)) → Appends known known []
 keeps_all None = tt
 keeps_all (Some bytes) = sym (append-nil bytes)
+
+-- nothing is a part of any bytes
+pub part_none : (known : Option (List ℕ)) (bytes : List ℕ) → AppendsPart known known bytes
+part_none known bytes = record { part = []; more = bytes; appended = keeps_all known; front = refl }
+
+-- no call took nothing
+pub took_none : {K : Type 0} (sink : SinkGhosts K) (at : K) (bytes : List ℕ)
+    → TookPart sink at bytes sink_error.OutOfMemory at
+took_none sink at bytes = ([], bytes, refl, inr (refl, record { pieces = []; calls = refl; whole = refl }))
+
+-- the bytes of a document that was made of an API, under the title of the settings
+module _ {X : Type 0} {F : X → Type 0} (m : Meanings X F) (config : ToolConfig) where
+  abbrev bytes_at : ApiDescription X F → Info → Parts → List ℕ
+  bytes_at api info version = encode_utf8_all (document_text m api.tags api.endpoints.items info version)
+
+  pub written_at : (api : ApiDescription X F) (info : Info) (read copied at : Parts) {made : ApiDescription X F}
+      {title : List ℕ} → made ≡ api → info ≡ info_of title copied → config.title ≡ title → read ≡ copied → copied ≡ at
+      → bytes_at made info read ≡ preamble_of m (service config api.tags api.endpoints.items at)
+  written_at api info read copied at same_api same_info same_title same_version once =
+      let about = same_info ∙ ap (λ (t : List ℕ). info_of t copied) (sym same_title)
+      ∙ ap (λ (v : Parts). info_of config.title v) once in
+      ap (λ (a : ApiDescription X F). bytes_at a info read) same_api
+      ∙ ap (λ (i : Info). bytes_at api i read) about
+      ∙ ap (λ (v : Parts). bytes_at api (info_of config.title at) v) (same_version ∙ once)
 
 -- what is known behind bytes that were known
 pub appended : (taken : Option (List ℕ)) (written bytes : List ℕ) (before : Option (List ℕ)) → before ≡ Some written

@@ -1,10 +1,14 @@
 //! The two commands: a session over lines, and a document alone.
-ghost use Rattle.std.specs.Prelude.{◌≡◌, ◌-◌, ◌^◌, ◌<◌, ◌≤◌, IfOk, List as ListOf, ℕ, Some};
+ghost use Rattle.std.specs.Prelude.{◌≡◌, ◌-◌, ◌^◌, ◌<◌, ◌≤◌, IfOk, IsErrOf, OnErr, OnOk};
+ghost use Rattle.std.specs.Prelude.{List as ListOf, ℕ, Some};
+ghost use Rattle.std.specs.Io.KnownBytes.{Appends};
 ghost use Rattle.schema_values.specs.Causes.{HasRisen};
+ghost use Rattle.line_session.specs.Parts.{AppendsPart};
 ghost use Rattle.line_session.specs.Session.{IsAnswered};
 ghost use Rattle.semver.specs.Identifiers.{parts_of};
 ghost use Rattle.api_endpoints.specs.Endpoints.{boxed};
 ghost use Rattle.api_descriptions.specs.Ready.{IsReady};
+ghost use Rattle.api_descriptions.specs.Written.{WritesBy};
 ghost use Rattle.command_line.specs.declared.config.ToolStatus.{ToolStatus as StatusValue};
 ghost use Rattle.command_line.specs.Serving.{CallsFor, EndsBy, outside};
 ghost use Rattle.contract_tool.specs.Ends.{DocumentEnds, SessionEnds};
@@ -12,10 +16,10 @@ ghost use Rattle.contract_tool.specs.LineAnswers.{LineAnswers, service};
 ghost use Rattle.contract_tool.specs.Sessions.{preamble_of};
 
 use crate::answering::LineAnswerer;
-use api_descriptions::ApiDescription;
+use api_descriptions::{ApiDescription, WriteError};
 use api_respond::RouteHandler;
 use command_line::{ToolConfig, ToolStatus, serve_within};
-use line_session::{Sink, SinkError, Source, write_all};
+use line_session::{Sink, Source};
 use schema_values::List;
 use semver::Version;
 use std::alloc::{AllocError, Global};
@@ -116,12 +120,36 @@ pub(crate) fn write_document<K: Sink>(
     ensures later { K.faults sink.old ≤ K.faults sink.new }
     ensures risen { K.faults sink.old < K.faults sink.new → result ≡ ToolStatus.WriteFault }
 {
-    let Ok(preamble) = preamble_text(alloc, api, config, version) else {
-        return ToolStatus::OutOfMemory;
-    };
-    match write_all(sink, preamble.as_slice()) {
+    match write_preamble(alloc, api, version, config, sink) {
         Ok(()) => ToolStatus::Done,
-        Err(SinkError::Failed) => ToolStatus::WriteFault,
-        Err(SinkError::OutOfMemory) => ToolStatus::OutOfMemory,
+        Err(WriteError::WriteFault) => ToolStatus::WriteFault,
+        Err(WriteError::OutOfMemory) => ToolStatus::OutOfMemory,
     }
+}
+
+// Writes the pretty text of the document, and a newline.
+fn write_preamble<K: Sink>(
+    alloc: Global,
+    api: &ApiDescription,
+    version: &Version,
+    config: &ToolConfig,
+    sink: &mut K,
+) -> Result<(), WriteError>
+    requires { IsReady (boxed ⟦<dyn RouteHandler as RouteHandler>⟧) api.now }
+    ensures ok { OnOk result (Appends (K.taken sink.old) (K.taken sink.new)
+        (preamble_of (boxed ⟦<dyn RouteHandler as RouteHandler>⟧)
+        (service config.now api.now.tags api.now.endpoints.items (parts_of version.now)))) }
+    ensures part { OnErr result (AppendsPart (K.taken sink.old) (K.taken sink.new)
+        (preamble_of (boxed ⟦<dyn RouteHandler as RouteHandler>⟧)
+        (service config.now api.now.tags api.now.endpoints.items (parts_of version.now)))) }
+    ensures calls { WritesBy K.Sink (preamble_of (boxed ⟦<dyn RouteHandler as RouteHandler>⟧)
+        (service config.now api.now.tags api.now.endpoints.items (parts_of version.now)))
+        sink.old sink.new result }
+    ensures later { K.faults sink.old ≤ K.faults sink.new }
+    ensures failed { IsErrOf result WriteError.WriteFault → HasRisen (K.faults sink.old) (K.faults sink.new) }
+    ensures counts { ¬ IsErrOf result WriteError.WriteFault → K.faults sink.new ≡ K.faults sink.old }
+{
+    let version = copy_version(version)?;
+    let definition = api.openapi(alloc, config.title.as_str(), version)?;
+    definition.write(alloc, sink)
 }
