@@ -36,7 +36,7 @@ fn admitted(alloc: Global, case: &Json, document: &Json) -> Result<Json, CaseErr
     Ok(Json::Bool(check_admits(alloc, document, template, method, &request)?))
 }
 
-// The request as a document sees it.
+// A copy of the request as a document sees it.
 fn wire_request(
     alloc: Global,
     noted: &Json,
@@ -50,7 +50,8 @@ fn wire_request(
         headers: read_lines(&mut reader, parts.info.headers()),
         body: read_content(&mut reader, noted),
     };
-    Ok(Box::new(alloc, reader.finish(request)?)?)
+    let request = Box::new(alloc, reader.finish(request)?)?;
+    Ok(Box::new(alloc, request.copy(alloc)?)?)
 }
 
 fn read_query(reader: &mut Reader, parts: &RequestParts) -> Text {

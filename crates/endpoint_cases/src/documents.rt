@@ -1,97 +1,79 @@
-//! The document of an API at the version and the title of a case.
+//! The document of an API at the version and the title of a case, with what is said of the API as a whole.
 ghost use Rattle.std.specs.Prelude.{IfOk};
 ghost use Rattle.schema_values.specs.Sound.{IsSound};
 ghost use Rattle.api_endpoints.specs.Endpoints.{boxed};
 ghost use Rattle.api_descriptions.specs.Ready.{IsReady};
 
-use crate::streams::{read_sink, written_told};
-use api_descriptions::{ApiDescription, WriteError};
+use crate::ends::CaseSink;
+use crate::information::say_of;
+use crate::streams::{ends_of, written_told};
+use api_descriptions::{ApiDescription, OpenApiDefinition, WriteError};
 use api_respond::RouteHandler;
-use case_notation::{CaseError, Reader, Record};
+use case_notation::{CaseError, Record, say};
 use endpoint_notation::{text_or, version_at};
-use line_session::MemorySink;
 use schema_values::{Json, Text};
-use semver::Version;
 use std::alloc::Global;
-
-/// The title and the version of a document.
-#[derive(Drop)]
-pub struct Head {
-    /// The title.
-    pub title: Text,
-    /// The version.
-    pub version: Version,
-}
-
-/// The title and the version of the document of a case.
-pub fn head_of(alloc: Global, case: &Json) -> Result<Head, CaseError> {
-    let title = text_or(alloc, case, "title", "sample")?;
-    let version = version_at(alloc, case)?;
-    Ok(Head { title, version })
-}
 
 /// The document.
 pub fn document(alloc: Global, case: &Json, api: &ApiDescription) -> Result<Json, CaseError>
     requires { IsReady (boxed ⟦<dyn RouteHandler as RouteHandler>⟧) api.now }
     ensures { IfOk result IsSound }
 {
-    let Head { title, version } = head_of(alloc, case)?;
-    let json = {
-        let definition = api.openapi(alloc, title.as_str(), version)?;
-        definition.json(alloc)
-    };
-    Ok(json?)
+    let definition = definition_of(alloc, case, api)?;
+    Ok(definition.json(alloc)?)
 }
 
 /// The text of the document.
 pub fn document_text(alloc: Global, case: &Json, api: &ApiDescription) -> Result<Text, CaseError>
     requires { IsReady (boxed ⟦<dyn RouteHandler as RouteHandler>⟧) api.now }
 {
-    let Head { title, version } = head_of(alloc, case)?;
-    let text = {
-        let definition = api.openapi(alloc, title.as_str(), version)?;
-        definition.text(alloc)
-    };
-    Ok(text?)
+    let definition = definition_of(alloc, case, api)?;
+    Ok(definition.text(alloc)?)
 }
 
-/// How the document is written to a sink of which some calls fail, and what the sink has taken then.
+// What the document of a case says, in a box, since all that is done with it may fail.
+fn definition_of<'a>(
+    alloc: Global,
+    case: &Json,
+    api: &'a ApiDescription,
+) -> Result<Box<OpenApiDefinition<'a>>, CaseError>
+    requires { IsReady (boxed ⟦<dyn RouteHandler as RouteHandler>⟧) api.now }
+    ensures { IfOk result (λ definition. IsReady (boxed ⟦<dyn RouteHandler as RouteHandler>⟧)
+        definition.value.api.now) }
+{
+    let title = text_or(alloc, case, "title", "sample")?;
+    let version = version_at(alloc, case)?;
+    let mut definition = Box::new(alloc, api.openapi(alloc, title.as_str(), version)?)?;
+    say_of(alloc, case, &mut definition)?;
+    Ok(definition)
+}
+
+/// How the document is written to the sink of a case, and what the sink has taken then.
 pub fn written(alloc: Global, case: &Json, api: &ApiDescription) -> Result<Json, CaseError>
     requires { IsReady (boxed ⟦<dyn RouteHandler as RouteHandler>⟧) api.now }
 {
     let document = document_text(alloc, case, api)?;
-    let mut sink = sink_of(alloc, case)?;
-    let ended = write(alloc, case, api, &mut sink)?;
+    let mut ends = ends_of(alloc, case)?;
+    let ended = ended(alloc, case, api, &mut ends.sink);
+    let written = written_told(alloc, ends.sink.taken(), document.as_str());
     Record::new(alloc)
-        .text("ended", ended)
-        .put(
-            "written",
-            written_told(alloc, sink.taken(), document.as_str()),
-        )
+        .put("ended", ended)
+        .put("written", written)
         .done()
 }
 
-fn sink_of(alloc: Global, case: &Json) -> Result<MemorySink, CaseError> {
-    let mut reader = Reader::new(alloc);
-    let sink = read_sink(&mut reader, case);
-    reader.finish(sink)
-}
-
-fn write(
+fn ended(
     alloc: Global,
     case: &Json,
     api: &ApiDescription,
-    sink: &mut MemorySink,
-) -> Result<&'static str, CaseError>
+    sink: &mut CaseSink,
+) -> Result<Json, CaseError>
     requires { IsReady (boxed ⟦<dyn RouteHandler as RouteHandler>⟧) api.now }
 {
-    let Head { title, version } = head_of(alloc, case)?;
-    match api
-        .openapi(alloc, title.as_str(), version)?
-        .write(alloc, sink)
-    {
-        Ok(()) => Ok("Done"),
-        Err(WriteError::WriteFault) => Ok("WriteFault"),
+    let definition = definition_of(alloc, case, api)?;
+    match definition.write(alloc, sink) {
+        Ok(()) => say(alloc, "Done"),
+        Err(WriteError::WriteFault) => say(alloc, "WriteFault"),
         Err(WriteError::OutOfMemory) => Err(CaseError::OutOfMemory),
     }
 }

@@ -1,25 +1,103 @@
-//! The input and the output of runs. `"lines"` is the input, with a newline between each two lines; a line is a text,
-//! or `{"hex":DIGITS}` where it is no UTF-8. `"failing_reads"` and `"failing_writes"` are the numbers, from 0, of the
-//! calls that fail. What was written is told as lines too, `"document"` in place of those of the document, and what
-//! stands behind the last newline as `{"cut":TEXT}`.
-use crate::members::read_numbers;
+//! The input and the output of runs and of sessions. `"lines"` is the input, with a newline between each two lines; a line
+//! is a text, or `{"hex":DIGITS}` where it is no UTF-8. `"source"` and `"sink"` are the kinds of its ends: `"memory"`, which
+//! stands where it is left out; `"safe"`, whose calls never fail; or `"std"`, a reader or a writer of std, which gives or
+//! takes at most `"at_once"` bytes in one call, three where that is left out. `"failing_reads"` and `"failing_writes"` are
+//! the numbers, from 0, of the calls that fail. What was written is told as lines too, `"document"` in place of those of the
+//! document, and what stands behind the last newline as `{"cut":TEXT}`.
+use crate::ends::{CaseSink, CaseSource, MemoryReader, MemoryWriter, SinkKind, SourceKind};
+use crate::limits::{Limits, read_limits};
+use crate::members::{read_number_or, read_numbers};
 use case_notation::{CaseError, Reader, Row, labelled, say};
 use endpoint_notation::content_of;
-use line_session::{MemorySink, MemorySource};
+use line_session::{MemorySink, MemorySource, SafeSink, SafeSource, StdSource};
 use schema_values::{Json, List};
 use std::alloc::Global;
 use std::str;
 
-/// Reads the source of the lines of a case.
-pub fn read_source(reader: &mut Reader, case: &Json) -> MemorySource {
-    let failing = read_numbers(reader, case, "failing_reads");
-    MemorySource::new(read_content(reader, case), failing)
+/// The two ends of a run or of a session, with its limits.
+#[derive(Drop)]
+pub struct Ends {
+    /// The limits.
+    pub limits: Limits,
+    /// Where lines are read.
+    pub source: CaseSource,
+    /// Where lines are written.
+    pub sink: CaseSink,
 }
 
-/// Reads the sink of a case.
-pub fn read_sink(reader: &mut Reader, case: &Json) -> MemorySink {
+/// The ends of a case.
+pub fn ends_of(alloc: Global, case: &Json) -> Result<Box<Ends>, CaseError> {
+    let mut reader = Reader::new(alloc);
+    let ends = read_ends(&mut reader, case);
+    Ok(Box::new(alloc, reader.finish(ends)?)?)
+}
+
+/// Reads the ends of a case.
+pub fn read_ends(reader: &mut Reader, case: &Json) -> Ends {
+    Ends {
+        limits: read_limits(reader, case),
+        source: CaseSource::new(read_source(reader, case)),
+        sink: CaseSink::new(read_sink(reader, case)),
+    }
+}
+
+fn read_source(reader: &mut Reader, case: &Json) -> SourceKind {
+    let content = read_content(reader, case);
+    match kind_at(case, "source") {
+        "memory" => SourceKind::Memory(source_over(reader, case, content)),
+        "std" => SourceKind::Std(StdSource::new(MemoryReader {
+            source: source_over(reader, case, content),
+            at_once: read_at_once(reader, case),
+        })),
+        kind => {
+            check_safe(reader, kind);
+            SourceKind::Safe(SafeSource::new(content))
+        }
+    }
+}
+
+fn source_over(reader: &mut Reader, case: &Json, content: List<u8>) -> MemorySource {
+    MemorySource::new(content, read_numbers(reader, case, "failing_reads"))
+}
+
+fn read_sink(reader: &mut Reader, case: &Json) -> SinkKind {
+    let alloc = reader.alloc();
+    match kind_at(case, "sink") {
+        "memory" => SinkKind::Memory(memory_sink(reader, case)),
+        "std" => SinkKind::Std(MemoryWriter {
+            alloc,
+            sink: memory_sink(reader, case),
+            at_once: read_at_once(reader, case),
+        }),
+        kind => {
+            check_safe(reader, kind);
+            SinkKind::Safe(SafeSink::new(alloc))
+        }
+    }
+}
+
+fn memory_sink(reader: &mut Reader, case: &Json) -> MemorySink {
     let failing = read_numbers(reader, case, "failing_writes");
     MemorySink::new(reader.alloc(), failing)
+}
+
+// The word for the kind of an end, empty where it is none.
+fn kind_at<'a>(case: &'a Json, name: &str) -> &'a str {
+    match case.get(name) {
+        None => "memory",
+        Some(Json::Text(kind)) => kind.as_str(),
+        Some(_) => "",
+    }
+}
+
+fn check_safe(reader: &mut Reader, kind: &str) {
+    if kind != "safe" {
+        reader.expected("the kind of an end");
+    }
+}
+
+fn read_at_once(reader: &mut Reader, case: &Json) -> usize {
+    read_number_or(reader, case, "at_once", 3) as usize
 }
 
 fn read_content(reader: &mut Reader, case: &Json) -> List<u8> {
