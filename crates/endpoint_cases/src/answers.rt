@@ -7,7 +7,7 @@ use crate::serving::served;
 use crate::shipped::config_told;
 use crate::sources::over_endpoints;
 use case_notation::{AnswersCases, CaseError, given, text_of};
-use schema_values::{Json, Text};
+use schema_values::Json;
 use std::alloc::Global;
 
 /// The names that members of a case have.
@@ -79,14 +79,6 @@ fn call_of(name: &str) -> Result<Call<'_>, CaseError> {
 
 // A run, of which the document of the endpoints is known.
 fn ran(alloc: Global, case: &Json) -> Result<Json, CaseError> {
-    let document = text_over(alloc, case)?;
-    over_endpoints(alloc, case, Call::Run(document.as_str()))
-}
-
-// The text of the document of the endpoints, or an empty one where they have none.
-fn text_over(alloc: Global, case: &Json) -> Result<Text, CaseError> {
-    match over_endpoints(alloc, case, Call::OverApi(ApiCall::Text))? {
-        Json::Text(document) => Ok(document),
-        _ => Ok(Text::new(alloc)),
-    }
+    let document = over_endpoints(alloc, case, Call::OverApi(ApiCall::Text))?;
+    over_endpoints(alloc, case, Call::Run(&document))
 }

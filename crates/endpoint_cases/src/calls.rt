@@ -15,8 +15,8 @@ pub enum Call<'a> {
     New,
     /// The parts of each, of which something was said.
     Said,
-    /// A run over them, with the text of their document, or none where they have none.
-    Run(&'a str),
+    /// A run over them, with what is told where the text of their document is asked for.
+    Run(&'a Json),
     /// What is asked of them as they are registered one by one.
     Registered(Asked),
     /// A call over the API of all of them, where they may all be registered, else the first refusal is told; or, with

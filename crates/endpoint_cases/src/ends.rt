@@ -54,7 +54,7 @@ pub struct MemoryReader {
     /// Where its bytes come from.
     pub source: MemorySource,
     /// How many bytes it gives at most in one call.
-    pub at_once: usize,
+    pub at_once: u32,
 }
 
 /// A writer of std, which errs where its sink fails.
@@ -65,12 +65,12 @@ pub struct MemoryWriter {
     /// Where its bytes go.
     pub sink: MemorySink,
     /// How many bytes it takes at most in one call.
-    pub at_once: usize,
+    pub at_once: u32,
 }
 
 impl io::Read for MemoryReader {
     fn read(&mut self, buf: &mut [u8]) -> io::Result<usize> {
-        let most = buf.len().min(self.at_once);
+        let most = buf.len().min(self.at_once as usize);
         match self.source.read(&mut buf[..most]) {
             Ok(count) => Ok(count),
             Err(Failed) => Err(io::Error::from(io::ErrorKind::Other)),
@@ -80,7 +80,7 @@ impl io::Read for MemoryReader {
 
 impl io::Write for MemoryWriter {
     fn write(&mut self, piece: &[u8]) -> io::Result<usize> {
-        let most = piece.len().min(self.at_once);
+        let most = piece.len().min(self.at_once as usize);
         match self.sink.write(&piece[..most]) {
             Ok(count) => Ok(count),
             Err(_) => Err(io::Error::from(io::ErrorKind::Other)),

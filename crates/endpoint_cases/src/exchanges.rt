@@ -92,17 +92,16 @@ fn outcome_of(
     let budget = reading.budget;
     let config = config_of(reading.limit);
     let room = &mut Scratch::new(alloc);
-    let Sent {
-        request,
-        source,
-        store,
-    } = sent;
+    let (request, store) = (&sent.request, &mut sent.store);
     match way {
         Way::Body => {
-            let body = &mut source.body;
+            let body = &mut sent.source.body;
             api.exchange(alloc, room, store, request, body, budget, &config)
         }
-        Way::Source => api.exchange_from(alloc, room, store, request, source, budget, &config),
+        Way::Source => {
+            let source = &mut sent.source;
+            api.exchange_from(alloc, room, store, request, source, budget, &config)
+        }
     }
 }
 

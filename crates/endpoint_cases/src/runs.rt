@@ -61,7 +61,7 @@ pub fn run_told(
     alloc: Global,
     case: &Json,
     endpoints: Vec<ApiEndpoint>,
-    document: &str,
+    document: &Json,
 ) -> Result<Json, CaseError> {
     let tags = settings_at(alloc, case)?;
     let mut setting = setting_of(alloc, case)?;
@@ -107,7 +107,7 @@ fn ran_told(
     case: &Json,
     setting: &Setting,
     status: &ToolStatus,
-    document: &str,
+    document: &Json,
 ) -> Result<Json, CaseError> {
     let written = setting.ends.sink.taken();
     let told = status_told(alloc, status)?.put("written", written_told(alloc, written, document));

@@ -14,6 +14,14 @@ use schema_values::{Json, List};
 use std::alloc::Global;
 use std::str;
 
+// What an end is.
+#[derive(Drop)]
+enum EndKind {
+    Memory,
+    Safe,
+    Std,
+}
+
 /// The two ends of a run or of a session, with its limits.
 #[derive(Drop)]
 pub struct Ends {
@@ -43,61 +51,44 @@ pub fn read_ends(reader: &mut Reader, case: &Json) -> Ends {
 
 fn read_source(reader: &mut Reader, case: &Json) -> SourceKind {
     let content = read_content(reader, case);
-    match kind_at(case, "source") {
-        "memory" => SourceKind::Memory(source_over(reader, case, content)),
-        "std" => SourceKind::Std(StdSource::new(MemoryReader {
-            source: source_over(reader, case, content),
-            at_once: read_at_once(reader, case),
+    let failing = read_numbers(reader, case, "failing_reads");
+    match read_kind(reader, case, "source") {
+        EndKind::Safe => SourceKind::Safe(SafeSource::new(content)),
+        EndKind::Memory => SourceKind::Memory(MemorySource::new(content, failing)),
+        EndKind::Std => SourceKind::Std(StdSource::new(MemoryReader {
+            source: MemorySource::new(content, failing),
+            at_once: read_number_or(reader, case, "at_once", 3),
         })),
-        kind => {
-            check_safe(reader, kind);
-            SourceKind::Safe(SafeSource::new(content))
-        }
     }
-}
-
-fn source_over(reader: &mut Reader, case: &Json, content: List<u8>) -> MemorySource {
-    MemorySource::new(content, read_numbers(reader, case, "failing_reads"))
 }
 
 fn read_sink(reader: &mut Reader, case: &Json) -> SinkKind {
     let alloc = reader.alloc();
-    match kind_at(case, "sink") {
-        "memory" => SinkKind::Memory(memory_sink(reader, case)),
-        "std" => SinkKind::Std(MemoryWriter {
+    let failing = read_numbers(reader, case, "failing_writes");
+    match read_kind(reader, case, "sink") {
+        EndKind::Safe => SinkKind::Safe(SafeSink::new(alloc)),
+        EndKind::Memory => SinkKind::Memory(MemorySink::new(alloc, failing)),
+        EndKind::Std => SinkKind::Std(MemoryWriter {
             alloc,
-            sink: memory_sink(reader, case),
-            at_once: read_at_once(reader, case),
+            sink: MemorySink::new(alloc, failing),
+            at_once: read_number_or(reader, case, "at_once", 3),
         }),
-        kind => {
-            check_safe(reader, kind);
-            SinkKind::Safe(SafeSink::new(alloc))
+    }
+}
+
+fn read_kind(reader: &mut Reader, case: &Json, name: &str) -> EndKind {
+    let Some(noted) = case.get(name) else {
+        return EndKind::Memory;
+    };
+    match noted {
+        Json::Text(kind) if kind.equals_str("memory") => EndKind::Memory,
+        Json::Text(kind) if kind.equals_str("safe") => EndKind::Safe,
+        Json::Text(kind) if kind.equals_str("std") => EndKind::Std,
+        _ => {
+            reader.expected("the kind of an end");
+            EndKind::Memory
         }
     }
-}
-
-fn memory_sink(reader: &mut Reader, case: &Json) -> MemorySink {
-    let failing = read_numbers(reader, case, "failing_writes");
-    MemorySink::new(reader.alloc(), failing)
-}
-
-// The word for the kind of an end, empty where it is none.
-fn kind_at<'a>(case: &'a Json, name: &str) -> &'a str {
-    match case.get(name) {
-        None => "memory",
-        Some(Json::Text(kind)) => kind.as_str(),
-        Some(_) => "",
-    }
-}
-
-fn check_safe(reader: &mut Reader, kind: &str) {
-    if kind != "safe" {
-        reader.expected("the kind of an end");
-    }
-}
-
-fn read_at_once(reader: &mut Reader, case: &Json) -> usize {
-    read_number_or(reader, case, "at_once", 3) as usize
 }
 
 fn read_content(reader: &mut Reader, case: &Json) -> List<u8> {
@@ -123,19 +114,19 @@ fn add_bytes(reader: &mut Reader, content: &mut Vec<u8>, bytes: &[u8]) {
     reader.or(content.extend_from_slice(bytes), ())
 }
 
-/// What was written, before which the text of a document may stand.
-pub fn written_told(alloc: Global, written: &[u8], document: &str) -> Result<Json, CaseError> {
+/// What was written, before which a document may stand, where it is a text.
+pub fn written_told(alloc: Global, written: &[u8], document: &Json) -> Result<Json, CaseError> {
     match str::from_utf8(written) {
         Ok(text) => lines_told(alloc, text, document),
         Err(_) => Err(CaseError::Expected("lines of text")),
     }
 }
 
-fn lines_told(alloc: Global, written: &str, document: &str) -> Result<Json, CaseError> {
+fn lines_told(alloc: Global, written: &str, document: &Json) -> Result<Json, CaseError> {
     let mut told = Row::new(alloc);
     let mut lines = written;
-    if let Some(behind) = written.strip_prefix(document) {
-        if !document.is_empty() {
+    if let Json::Text(document) = document {
+        if let Some(behind) = written.strip_prefix(document.as_str()) {
             told.push(say(alloc, "document"));
             lines = behind;
         }
