@@ -9,8 +9,7 @@ use line_session::{
 };
 use schema_values::List;
 use std::alloc::Global;
-use std::io;
-use std::mem;
+use std::{io, mem};
 
 /// The kinds of sources.
 #[derive(Drop)]

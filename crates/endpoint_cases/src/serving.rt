@@ -52,7 +52,10 @@ pub fn served(alloc: Global, case: &Json) -> Result<Json, CaseError> {
     Record::new(alloc)
         .put("ended", string_told(format!(in alloc; "{end:?}")))
         .number("answered", lines.into())
-        .put("written", written_told(alloc, ends.sink.taken(), &Json::Null))
+        .put(
+            "written",
+            written_told(alloc, ends.sink.taken(), &Json::Null),
+        )
         .done()
 }
 
