@@ -1,5 +1,5 @@
-//! The ends of runs and of sessions, of the kind that a case asks for: an end in memory, with calls that fail or without,
-//! or a reader or a writer of std. An end counts its own faults, and does not tell its bytes.
+//! The ends of runs and of sessions, of the kind that a case asks for: an end in memory, with calls that fail or
+//! without, or a reader or a writer of std. An end counts its own faults, and does not tell its bytes.
 ghost use Rattle.std.specs.Prelude.{◌<◌, IfOk, length};
 ghost use Rattle.std.specs.Io.{ReadsAtMost, WritesAtMost};
 

@@ -1,5 +1,5 @@
-//! What endpoints are made of, and how they are made. `"media_type"` is the media type of their typed bodies where it is
-//! not that of the kind that is noted; with `"for_types"` they are made for documents alone.
+//! What endpoints are made of, and how they are made. `"media_type"` is the media type of their typed bodies where it
+//! is not that of the kind that is noted; with `"for_types"` they are made for documents alone.
 use api_declarations::{Declaration, Declared};
 use api_descriptions::{ApiEndpoint, NewEndpointError};
 use api_respond::RouteHandler;

@@ -1,9 +1,9 @@
-//! The input and the output of runs and of sessions. `"lines"` is the input, with a newline between each two lines; a line
-//! is a text, or `{"hex":DIGITS}` where it is no UTF-8. `"source"` and `"sink"` are the kinds of its ends: `"memory"`, which
-//! stands where it is left out; `"safe"`, whose calls never fail; or `"std"`, a reader or a writer of std, which gives or
-//! takes at most `"at_once"` bytes in one call, three where that is left out. `"failing_reads"` and `"failing_writes"` are
-//! the numbers, from 0, of the calls that fail. What was written is told as lines too, `"document"` in place of those of the
-//! document, and what stands behind the last newline as `{"cut":TEXT}`.
+//! The input and the output of runs and of sessions. `"lines"` is the input, with a newline between each two lines; a
+//! line is a text, or `{"hex":DIGITS}` where it is no UTF-8. `"source"` and `"sink"` are the kinds of its ends:
+//! `"memory"`, which stands where it is left out; `"safe"`, whose calls never fail; or `"std"`, a reader or a writer of
+//! std, which gives or takes at most `"at_once"` bytes in one call, three where that is left out. `"failing_reads"` and
+//! `"failing_writes"` are the numbers, from 0, of the calls that fail. What was written is told as lines too,
+//! `"document"` in place of those of the document, and what stands behind the last newline as `{"cut":TEXT}`.
 use crate::ends::{CaseSink, CaseSource, MemoryReader, MemoryWriter, SinkKind, SourceKind};
 use crate::limits::{Limits, read_limits};
 use crate::members::{read_number_or, read_numbers};
