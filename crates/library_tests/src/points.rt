@@ -17,7 +17,7 @@ fn read<T: ApiType>(alloc: Global, text: &str) -> Option<T> {
 /// Whether a tree is this variant, with nothing in it.
 fn is_variant(tree: &Tree, place: u32) -> bool {
     match tree {
-        Tree::Variant(at, inner) => *at == place && matches!(**inner, Tree::Unit),
+        Tree::Variant(at, inner) => *at == place && matches!(inner.get(), Tree::Unit),
         _ => false,
     }
 }
