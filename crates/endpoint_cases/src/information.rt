@@ -15,7 +15,7 @@ pub fn say_of(
     case: &Json,
     definition: &mut OpenApiDefinition<'_>,
 ) -> Result<(), CaseError>
-    ensures { definition.new.api ≡ definition.old.api }
+    ensures { definition.new.api.now ≡ definition.old.api.now }
 {
     let says = items_at(case, "says")?;
     let mut reader = Reader::new(alloc);
