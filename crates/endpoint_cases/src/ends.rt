@@ -31,6 +31,8 @@ pub enum SinkKind {
     Safe(SafeSink),
     /// A writer of std.
     Std(MemoryWriter),
+    /// One that finds no memory for what it is to take.
+    Full,
 }
 
 /// A source of one of the kinds.
@@ -130,6 +132,7 @@ impl SinkKind {
             SinkKind::Memory(sink) => sink.write(piece),
             SinkKind::Safe(sink) => sink.write(piece),
             SinkKind::Std(writer) => writer.write_by_std(piece),
+            SinkKind::Full => Err(SinkError::OutOfMemory),
         }
     }
 }
@@ -153,6 +156,7 @@ impl CaseSink {
             SinkKind::Memory(sink) => sink.taken(),
             SinkKind::Safe(sink) => sink.taken(),
             SinkKind::Std(writer) => writer.sink.taken(),
+            SinkKind::Full => &[],
         }
     }
 }

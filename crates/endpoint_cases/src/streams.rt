@@ -1,9 +1,10 @@
 //! The input and the output of runs and of sessions. `"lines"` is the input, with a newline between each two lines; a
 //! line is a text, or `{"hex":DIGITS}` where it is no UTF-8. `"source"` and `"sink"` are the kinds of its ends:
 //! `"memory"`, which stands where it is left out; `"safe"`, whose calls never fail; or `"std"`, a reader or a writer of
-//! std, which gives or takes at most `"at_once"` bytes in one call, three where that is left out. `"failing_reads"` and
-//! `"failing_writes"` are the numbers, from 0, of the calls that fail. What was written is told as lines too,
-//! `"document"` in place of those of the document, and what stands behind the last newline as `{"cut":TEXT}`.
+//! std, which gives or takes at most `"at_once"` bytes in one call, three where that is left out; a sink may also be
+//! `"full"`, which finds no memory. `"failing_reads"` and `"failing_writes"` are the numbers, from 0, of the calls that
+//! fail. What was written is told as lines too, `"document"` in place of those of the document, and what stands behind
+//! the last newline as `{"cut":TEXT}`.
 use crate::ends::{CaseSink, CaseSource, MemoryReader, MemoryWriter, SinkKind, SourceKind};
 use crate::limits::{Limits, read_limits};
 use crate::members::{read_number_or, read_numbers};
@@ -63,6 +64,9 @@ fn read_source(reader: &mut Reader, case: &Json) -> SourceKind {
 }
 
 fn read_sink(reader: &mut Reader, case: &Json) -> SinkKind {
+    if is_full(case) {
+        return SinkKind::Full;
+    }
     let alloc = reader.alloc();
     let failing = read_numbers(reader, case, "failing_writes");
     match read_kind(reader, case, "sink") {
@@ -73,6 +77,13 @@ fn read_sink(reader: &mut Reader, case: &Json) -> SinkKind {
             sink: MemorySink::new(alloc, failing),
             at_once: read_number_or(reader, case, "at_once", 3),
         }),
+    }
+}
+
+fn is_full(case: &Json) -> bool {
+    match case.get("sink") {
+        Some(Json::Text(kind)) => kind.equals_str("full"),
+        _ => false,
     }
 }
 
