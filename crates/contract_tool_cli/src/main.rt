@@ -56,8 +56,9 @@ fn sample_config(alloc: Global) -> Result<ToolConfig, AllocError>
 // allowed.
 fn run_sample(rt: &HostRuntime, words: &[String]) -> Result<ToolStatus, NewEndpointError> {
     let alloc = rt.alloc();
+    let sample = sample_api::endpoints(alloc)?;
     let mut endpoints = Vec::new(alloc);
-    for endpoint in sample_api::endpoints(alloc)? {
+    for endpoint in sample {
         let SampleEndpoint {
             handler,
             operation_id,
@@ -67,9 +68,7 @@ fn run_sample(rt: &HostRuntime, words: &[String]) -> Result<ToolStatus, NewEndpo
             body_limit,
             visible,
         } = endpoint;
-        let Ok(handler) = Box::new(alloc, handler) else {
-            return Err(NewEndpointError::OutOfMemory);
-        };
+        let handler = Box::new(alloc, handler).map_err(AllocError::from)?;
         let mut made = ApiEndpoint::new(
             alloc,
             operation_id,
@@ -81,9 +80,7 @@ fn run_sample(rt: &HostRuntime, words: &[String]) -> Result<ToolStatus, NewEndpo
         )?;
         made.request_body_max_bytes = body_limit;
         made.visible = visible;
-        if endpoints.push(made).is_err() {
-            return Err(NewEndpointError::OutOfMemory);
-        }
+        endpoints.push(made).map_err(AllocError::from)?;
     }
     Ok(run_over(rt, words, endpoints)?)
 }

@@ -34,15 +34,9 @@ fn value_told<T: ApiType>(
     answer: Result<T, HttpRefusal>,
 ) -> Result<Json, CaseError> {
     match answer {
-        Ok(value) => tree_told(alloc, &value),
-        Err(refusal) => refusal_told(alloc, &refusal),
-    }
-}
-
-fn refusal_told(alloc: Global, refusal: &HttpRefusal) -> Result<Json, CaseError> {
-    match refusal {
-        HttpRefusal::Http(error) => error_told(alloc, error),
-        HttpRefusal::OutOfMemory => Err(CaseError::OutOfMemory),
+        Ok(value) => labelled(alloc, "tree", tree_noted(alloc, &value.to_tree(alloc)?)),
+        Err(HttpRefusal::Http(error)) => error_told(alloc, &error),
+        Err(HttpRefusal::OutOfMemory) => Err(CaseError::OutOfMemory),
     }
 }
 
@@ -51,10 +45,6 @@ fn error_told(alloc: Global, error: &HttpError) -> Result<Json, CaseError> {
         .number("refused", error.status_code.as_u16().into())
         .text("message", error.external_message.as_str())
         .done()
-}
-
-fn tree_told<T: ApiType>(alloc: Global, value: &T) -> Result<Json, CaseError> {
-    labelled(alloc, "tree", tree_noted(alloc, &value.to_tree(alloc)?))
 }
 
 /// A text.

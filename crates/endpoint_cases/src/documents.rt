@@ -1,97 +1,65 @@
-//! The document of an API at the version and the title of a case.
-ghost use Rattle.std.specs.Prelude.{IfOk};
-ghost use Rattle.schema_values.specs.Sound.{IsSound};
+//! The document of an API at the version and the title of a case, with what is said of the API as a whole.
 ghost use Rattle.api_endpoints.specs.Endpoints.{boxed};
 ghost use Rattle.api_descriptions.specs.Ready.{IsReady};
 
-use crate::streams::{read_sink, written_told};
+use crate::ends::CaseSink;
+use crate::information::say_of;
+use crate::streams::{ends_of, written_told};
 use api_descriptions::{ApiDescription, WriteError};
 use api_respond::RouteHandler;
-use case_notation::{CaseError, Reader, Record};
+use case_notation::{CaseError, Record, say, text_told};
 use endpoint_notation::{text_or, version_at};
-use line_session::MemorySink;
-use schema_values::{Json, Text};
-use semver::Version;
+use schema_values::Json;
 use std::alloc::Global;
 
-/// The title and the version of a document.
+/// What is asked of a document.
 #[derive(Drop)]
-pub struct Head {
-    /// The title.
-    pub title: Text,
-    /// The version.
-    pub version: Version,
+pub enum Wanted<'a> {
+    /// The document itself.
+    Json,
+    /// Its text.
+    Text,
+    /// How it is written to this sink.
+    Written(&'a mut CaseSink),
 }
 
-/// The title and the version of the document of a case.
-pub fn head_of(alloc: Global, case: &Json) -> Result<Head, CaseError> {
-    let title = text_or(alloc, case, "title", "sample")?;
-    let version = version_at(alloc, case)?;
-    Ok(Head { title, version })
-}
-
-/// The document.
-pub fn document(alloc: Global, case: &Json, api: &ApiDescription) -> Result<Json, CaseError>
-    requires { IsReady (boxed ⟦<dyn RouteHandler as RouteHandler>⟧) api.now }
-    ensures { IfOk result IsSound }
-{
-    let Head { title, version } = head_of(alloc, case)?;
-    let json = {
-        let definition = api.openapi(alloc, title.as_str(), version)?;
-        definition.json(alloc)
-    };
-    Ok(json?)
-}
-
-/// The text of the document.
-pub fn document_text(alloc: Global, case: &Json, api: &ApiDescription) -> Result<Text, CaseError>
-    requires { IsReady (boxed ⟦<dyn RouteHandler as RouteHandler>⟧) api.now }
-{
-    let Head { title, version } = head_of(alloc, case)?;
-    let text = {
-        let definition = api.openapi(alloc, title.as_str(), version)?;
-        definition.text(alloc)
-    };
-    Ok(text?)
-}
-
-/// How the document is written to a sink of which some calls fail, and what the sink has taken then.
-pub fn written(alloc: Global, case: &Json, api: &ApiDescription) -> Result<Json, CaseError>
-    requires { IsReady (boxed ⟦<dyn RouteHandler as RouteHandler>⟧) api.now }
-{
-    let document = document_text(alloc, case, api)?;
-    let mut sink = sink_of(alloc, case)?;
-    let ended = write(alloc, case, api, &mut sink)?;
-    Record::new(alloc)
-        .text("ended", ended)
-        .put(
-            "written",
-            written_told(alloc, sink.taken(), document.as_str()),
-        )
-        .done()
-}
-
-fn sink_of(alloc: Global, case: &Json) -> Result<MemorySink, CaseError> {
-    let mut reader = Reader::new(alloc);
-    let sink = read_sink(&mut reader, case);
-    reader.finish(sink)
-}
-
-fn write(
+/// What is asked of the document of a case.
+pub fn document(
     alloc: Global,
     case: &Json,
     api: &ApiDescription,
-    sink: &mut MemorySink,
-) -> Result<&'static str, CaseError>
+    wanted: Wanted<'_>,
+) -> Result<Json, CaseError>
     requires { IsReady (boxed ⟦<dyn RouteHandler as RouteHandler>⟧) api.now }
 {
-    let Head { title, version } = head_of(alloc, case)?;
-    match api
-        .openapi(alloc, title.as_str(), version)?
-        .write(alloc, sink)
-    {
-        Ok(()) => Ok("Done"),
-        Err(WriteError::WriteFault) => Ok("WriteFault"),
+    let title = text_or(alloc, case, "title", "sample")?;
+    let version = version_at(alloc, case)?;
+    let mut definition = Box::new(alloc, api.openapi(alloc, title.as_str(), version)?)?;
+    say_of(alloc, case, &mut definition)?;
+    match wanted {
+        Wanted::Json => Ok(definition.json(alloc)?),
+        Wanted::Text => text_told(definition.text(alloc)),
+        Wanted::Written(sink) => end_told(alloc, definition.write(alloc, sink)),
+    }
+}
+
+fn end_told(alloc: Global, end: Result<(), WriteError>) -> Result<Json, CaseError> {
+    match end {
+        Ok(()) => say(alloc, "Done"),
+        Err(WriteError::WriteFault) => say(alloc, "WriteFault"),
         Err(WriteError::OutOfMemory) => Err(CaseError::OutOfMemory),
     }
+}
+
+/// How the document is written to the sink of a case, and what the sink has taken then.
+pub fn written(alloc: Global, case: &Json, api: &ApiDescription) -> Result<Json, CaseError>
+    requires { IsReady (boxed ⟦<dyn RouteHandler as RouteHandler>⟧) api.now }
+{
+    let mut ends = ends_of(alloc, case)?;
+    let text = document(alloc, case, api, Wanted::Text)?;
+    let ended = document(alloc, case, api, Wanted::Written(&mut ends.sink));
+    Record::new(alloc)
+        .put("ended", ended)
+        .put("written", written_told(alloc, ends.sink.taken(), &text))
+        .done()
 }

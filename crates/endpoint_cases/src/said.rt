@@ -1,35 +1,35 @@
 //! What is said of the endpoint under `"endpoint"`, call by call. `"says"` is a list of the names of calls, each with
 //! what it says, in turn: `["summary",TEXT]`, `["description",TEXT]`, `["tag",TEXT]`,
 //! `["request_body_max_bytes",NUMBER]`, `["visible",TRUTH]` or `["deprecated",TRUTH]`.
-use crate::making::{Noted, noted_of};
 use crate::parts::all_shown;
 use api_descriptions::ApiEndpoint;
-use case_notation::{CaseError, Reader, given, truth_of};
+use case_notation::{CaseError, Reader, truth_of};
 use endpoint_notation::{items_at, u64_of};
 use schema_values::Json;
-use std::alloc::Global;
+use std::alloc::{AllocError, Global};
 
-/// The parts of the endpoint of a case, of which this was said in place of what is noted.
-pub fn said_shown(alloc: Global, case: &Json) -> Result<Json, CaseError> {
-    let noted = given(case, "endpoint")?;
+/// The parts of endpoints of which this was said.
+pub fn said_shown(
+    alloc: Global,
+    case: &Json,
+    endpoints: Vec<ApiEndpoint>,
+) -> Result<Json, CaseError> {
     let says = items_at(case, "says")?;
-    let Noted {
-        words,
-        id,
-        method,
-        path,
-        versions,
-        kind,
-        handler,
-    } = noted_of(alloc, case, noted)?;
-    drop(words);
-    let made = ApiEndpoint::new(alloc, id, handler, method, kind.as_str(), path, versions);
-    let Ok(mut endpoint) = made else {
-        return Err(CaseError::Expected("an endpoint that can be made"));
-    };
     let mut reader = Reader::new(alloc);
+    let mut said = Vec::new(alloc);
+    for endpoint in endpoints {
+        said.push(with_said(&mut reader, endpoint, says)?)?;
+    }
+    reader.finish(all_shown(alloc, &said)?)
+}
+
+fn with_said(
+    reader: &mut Reader,
+    mut endpoint: ApiEndpoint,
+    says: &[Json],
+) -> Result<ApiEndpoint, AllocError> {
     for one in says {
-        let (name, said) = read_said(&mut reader, one);
+        let (name, said) = read_said(reader, one);
         endpoint = match name {
             "summary" => endpoint.summary(reader.text(said)),
             "description" => endpoint.description(reader.text(said)),
@@ -45,9 +45,7 @@ pub fn said_shown(alloc: Global, case: &Json) -> Result<Json, CaseError> {
             }
         };
     }
-    let mut made = Vec::new(alloc);
-    made.push(endpoint)?;
-    reader.finish(all_shown(alloc, &made)?)
+    Ok(endpoint)
 }
 
 // The name of a call, and what it says.

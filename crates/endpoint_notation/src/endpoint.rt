@@ -18,7 +18,6 @@ use handler_shapes::HandlerShape;
 use http::Method;
 use request_parts::ApiEndpointBodyContentType;
 use schema_values::{Json, List, Text};
-use semver::Version;
 use std::alloc::Global;
 
 /// An endpoint without its handler.
@@ -114,13 +113,14 @@ pub fn endpoint_of(alloc: Global, noted: &Json) -> Result<PlainEndpoint, CaseErr
 }
 
 fn read_endpoint(reader: &mut Reader, noted: &Json) -> PlainEndpoint {
+    let alloc = reader.alloc();
     reader.check_names(noted, &MEMBERS);
     PlainEndpoint {
         operation_id: read_text_or(reader, noted, "operation_id", "o"),
-        method: read_method(reader, noted),
+        method: reader.or(method_at(alloc, noted, "POST"), Method::POST),
         path: read_text_or(reader, noted, "path", "/a"),
-        body_content_type: read_kind(reader, noted),
-        versions: read_versions(reader, noted),
+        body_content_type: reader.or(kind_at(alloc, noted), ApiEndpointBodyContentType::Json),
+        versions: reader.or(versions_at(alloc, noted), ApiEndpointVersions::all()),
         visible: reader.or(truth_or(noted, "visible", true), true),
         deprecated: reader.or(truth_or(noted, "deprecated", false), false),
         tags: read_tags(reader, noted),
@@ -129,17 +129,6 @@ fn read_endpoint(reader: &mut Reader, noted: &Json) -> PlainEndpoint {
         body_limit: reader.or(body_limit_at(noted), None),
         shape: read_shape(reader, noted),
     }
-}
-
-fn read_method(reader: &mut Reader, noted: &Json) -> Method {
-    reader.or(method_at(reader.alloc(), noted, "POST"), Method::POST)
-}
-
-fn read_kind(reader: &mut Reader, noted: &Json) -> ApiEndpointBodyContentType {
-    reader.or(
-        kind_at(reader.alloc(), noted),
-        ApiEndpointBodyContentType::Json,
-    )
 }
 
 fn body_limit_at(noted: &Json) -> Result<Option<u64>, CaseError> {
@@ -156,13 +145,6 @@ fn read_tags(reader: &mut Reader, noted: &Json) -> List<Text> {
     }
 }
 
-fn read_versions(reader: &mut Reader, noted: &Json) -> ApiEndpointVersions {
-    reader.or(
-        versions_at(reader.alloc(), noted),
-        ApiEndpointVersions::all(),
-    )
-}
-
 fn versions_at(alloc: Global, noted: &Json) -> Result<ApiEndpointVersions, CaseError> {
     let Some(versions) = noted.get("versions") else {
         return Ok(ApiEndpointVersions::all());
@@ -170,39 +152,30 @@ fn versions_at(alloc: Global, noted: &Json) -> Result<ApiEndpointVersions, CaseE
     let [first, end] = items_of(versions)? else {
         return Err(CaseError::Expected("two bounds"));
     };
-    let first = version_or_none(alloc, first)?;
-    versions_between(first, version_or_none(alloc, end)?)
+    match (bound_of(first)?, bound_of(end)?) {
+        (None, None) => Ok(ApiEndpointVersions::all()),
+        (None, Some(end)) => Ok(ApiEndpointVersions::until(version_of(alloc, end)?)),
+        (Some(first), None) => Ok(ApiEndpointVersions::from(version_of(alloc, first)?)),
+        (Some(first), Some(end)) => versions_between(alloc, first, end),
+    }
 }
 
 fn versions_between(
-    first: Option<Version>,
-    end: Option<Version>,
+    alloc: Global,
+    first: &str,
+    end: &str,
 ) -> Result<ApiEndpointVersions, CaseError> {
-    match first {
-        Some(first) => versions_from(first, end),
-        None => Ok(versions_until(end)),
-    }
+    let first = version_of(alloc, first)?;
+    let end = version_of(alloc, end)?;
+    ApiEndpointVersions::from_until(first, end)
+        .ok()
+        .ok_or(CaseError::Expected("versions in order"))
 }
 
-fn versions_from(first: Version, end: Option<Version>) -> Result<ApiEndpointVersions, CaseError> {
-    match end {
-        Some(end) => ApiEndpointVersions::from_until(first, end)
-            .ok()
-            .ok_or(CaseError::Expected("versions in order")),
-        None => Ok(ApiEndpointVersions::from(first)),
-    }
-}
-
-fn versions_until(end: Option<Version>) -> ApiEndpointVersions {
-    match end {
-        Some(end) => ApiEndpointVersions::until(end),
-        None => ApiEndpointVersions::all(),
-    }
-}
-
-fn version_or_none(alloc: Global, noted: &Json) -> Result<Option<Version>, CaseError> {
+// The text of a version, none where null stands.
+fn bound_of(noted: &Json) -> Result<Option<&str>, CaseError> {
     match noted {
         Json::Null => Ok(None),
-        _ => Ok(Some(version_of(alloc, text_of(noted)?.as_str())?)),
+        _ => Ok(Some(text_of(noted)?.as_str())),
     }
 }

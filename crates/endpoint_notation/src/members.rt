@@ -3,12 +3,17 @@ use case_notation::{CaseError, Reader, items_of, number_of, text_of, truth_of};
 use schema_values::{Json, Text};
 use std::alloc::Global;
 
+/// The text under a name, or another where there is none, lent.
+pub fn str_or<'a>(noted: &'a Json, name: &str, other: &'a str) -> Result<&'a str, CaseError> {
+    match noted.get(name) {
+        Some(text) => Ok(text_of(text)?.as_str()),
+        None => Ok(other),
+    }
+}
+
 /// The text under a name, or another where there is none.
 pub fn text_or(alloc: Global, noted: &Json, name: &str, other: &str) -> Result<Text, CaseError> {
-    match noted.get(name) {
-        Some(text) => Ok(text_of(text)?.copy(alloc)?),
-        None => Ok(Text::from_str(alloc, other)?),
-    }
+    Ok(Text::from_str(alloc, str_or(noted, name, other)?)?)
 }
 
 /// Reads the text under a name, or another where there is none.

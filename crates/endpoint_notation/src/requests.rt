@@ -2,7 +2,7 @@
 //! `"template"`, `"request_id"`, `"uri"`, `"variables"`, `"headers"` and `"frames"`, each of which
 //! may be left out. A frame is a text, `{"hex":DIGITS}` or `{"trailers":LINES}`; `"failing"` are
 //! the numbers of the calls on the body that fail.
-use crate::members::{items_at, read_text_or, text_or, u64_of};
+use crate::members::{items_at, read_text_or, str_or, u64_of};
 use case_notation::{CaseError, Reader, check_names, given, given_text, items_of, read_variable};
 use header_lists::HeaderList;
 use hex::FromHexError;
@@ -75,8 +75,7 @@ pub fn info_of(alloc: Global, noted: &Json) -> Result<RequestInfo, CaseError> {
 
 /// The method under `method`, or another where it is left out.
 pub fn method_at(alloc: Global, noted: &Json, other: &str) -> Result<Method, CaseError> {
-    let text = text_or(alloc, noted, "method", other)?;
-    match Method::from_bytes(alloc, text.as_bytes()) {
+    match Method::from_bytes(alloc, str_or(noted, "method", other)?.as_bytes()) {
         Ok(method) => Ok(method),
         Err(MethodError::Invalid) => Err(CaseError::Expected("a method")),
         Err(MethodError::OutOfMemory) => Err(CaseError::OutOfMemory),
@@ -84,16 +83,14 @@ pub fn method_at(alloc: Global, noted: &Json, other: &str) -> Result<Method, Cas
 }
 
 fn uri_at(alloc: Global, noted: &Json) -> Result<Uri, CaseError> {
-    let text = text_or(alloc, noted, "uri", "/")?;
-    Uri::from_bytes(alloc, text.as_bytes())
+    Uri::from_bytes(alloc, str_or(noted, "uri", "/")?.as_bytes())
         .ok()
         .ok_or(CaseError::Expected("the target of a request"))
 }
 
 /// The version of a case.
 pub fn version_at(alloc: Global, case: &Json) -> Result<Version, CaseError> {
-    let text = text_or(alloc, case, "version", "1.0.0")?;
-    version_of(alloc, text.as_str())
+    version_of(alloc, str_or(case, "version", "1.0.0")?)
 }
 
 /// The version that is noted.

@@ -18,7 +18,7 @@ use handler_shapes::{ArgList, Slot};
 use own_types::{Color, Pin, Point, Span};
 use request_parts::RequestParts;
 use result_pages::EmptyScanParams;
-use schema_values::{Json, List, Scratch, Text};
+use schema_values::{Json, List, Scratch};
 use std::alloc::Global;
 use typed_extractors::{Header, PagedQuery, Path, Query, RequestExtractor, TypedBody, UntypedBody};
 use typed_values::{AddError, DescTable};
@@ -114,13 +114,9 @@ fn outcome<X: RequestExtractor + Told>(
     let mut table = DescTable::new(alloc);
     match X::slots(alloc, &mut table) {
         Ok(slots) => served::<X>(alloc, case, &table, &slots, request, source),
-        Err(AddError::Clash(name)) => Ok(clash_told(alloc, &name)),
+        Err(AddError::Clash(name)) => Ok(Record::new(alloc).text("clash", name.as_str())),
         Err(AddError::OutOfMemory) => Err(CaseError::OutOfMemory),
     }
-}
-
-fn clash_told(alloc: Global, name: &Text) -> Record {
-    Record::new(alloc).text("clash", name.as_str())
 }
 
 fn served<X: RequestExtractor + Told>(

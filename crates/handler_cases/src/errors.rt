@@ -3,13 +3,11 @@ ghost use Rattle.std.specs.Prelude.{IfOk};
 ghost use Rattle.handler_shapes.specs.ShapeChecks.{ShapePasses};
 ghost use Rattle.api_respond.specs.Replies.{ErrorFits};
 
-use crate::problem::Problem;
 use api_respond::ErrorReply;
-use api_types::ApiType;
 use endpoint_notation::own_fits;
 use handler_shapes::{HandlerShape, shape_passes};
 use http_status::HttpError;
-use schema_values::Text;
+use schema_values::{List, Text};
 use std::alloc::{AllocError, Global};
 use typed_values::Tree;
 
@@ -69,6 +67,10 @@ fn problem_reply(
     })
 }
 
-fn problem_tree(alloc: Global, status: u16, problem: Text) -> Result<Tree, AllocError> {
-    Problem { status, problem }.to_tree(alloc)
+// The fields of a problem: its status and its message for the client.
+fn problem_tree(alloc: Global, status: u16, message: Text) -> Result<Tree, AllocError> {
+    let mut fields = List::new(alloc);
+    fields.push(Tree::Int(status.into()))?;
+    fields.push(Tree::Text(message))?;
+    Ok(Tree::Fields(fields))
 }

@@ -14,7 +14,6 @@ mod metadata;
 mod outcomes;
 mod paged;
 mod pieces;
-mod problem;
 mod replies;
 mod schemas;
 mod told;

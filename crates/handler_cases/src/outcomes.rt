@@ -7,21 +7,20 @@
 //! "message":TEXT, "headers":LINES}`, of which the message alone has to stand.
 use crate::contexts::context_told;
 use api_respond::{Content, RequestContext, SuccessReply};
-use case_notation::{CaseError, check_names, given, given_text, maybe_text, tree_of};
+use case_notation::{CaseError, Reader, check_names, given, tree_of};
 use endpoint_notation::{content_of, items_at, lines_of, number_or};
 use handler_shapes::Arg;
 use http::StatusCode;
 use http_status::{Body, ErrorStatusCode, HeaderList, HttpError};
-use schema_values::{Json, List, Text};
+use schema_values::{Json, List};
 use std::alloc::{AllocError, Global};
 use typed_values::Tree;
 
 /// The error that a handler fails with.
 pub fn error_of(alloc: Global, noted: &Json) -> Result<HttpError, CaseError> {
     check_names(noted, &["status", "code", "message", "headers"])?;
-    let message = given_text(noted, "message")?;
     match error_status(number_or(noted, "status", 500)?) {
-        Some(status) => error_with(alloc, status, message, noted),
+        Some(status) => error_with(alloc, status, noted),
         None => Err(CaseError::Expected("the status of an error")),
     }
 }
@@ -29,21 +28,22 @@ pub fn error_of(alloc: Global, noted: &Json) -> Result<HttpError, CaseError> {
 fn error_with(
     alloc: Global,
     status_code: ErrorStatusCode,
-    message: &Text,
     noted: &Json,
 ) -> Result<HttpError, CaseError> {
-    Ok(HttpError {
+    let mut reader = Reader::new(alloc);
+    let error = HttpError {
         status_code,
-        error_code: maybe_text(alloc, noted.get("code"))?,
-        external_message: message.copy(alloc)?,
-        internal_message: Text::from_str(alloc, "for the log alone")?,
-        headers: error_lines(alloc, noted)?,
-    })
+        error_code: reader.maybe_text(noted.get("code")),
+        external_message: reader.text_at(noted, "message"),
+        internal_message: reader.text_from("for the log alone"),
+        headers: reader.or(error_lines(alloc, noted), None),
+    };
+    reader.finish(error)
 }
 
 fn error_lines(alloc: Global, noted: &Json) -> Result<Option<HeaderList>, CaseError> {
     match noted.get("headers") {
-        Some(_) => Ok(Some(lines_of(alloc, items_at(noted, "headers")?)?)),
+        Some(_) => Ok(Some(lines_at(alloc, noted, "headers")?)),
         None => Ok(None),
     }
 }
@@ -75,12 +75,18 @@ fn success_with(
     context: &RequestContext,
     args: &[Arg],
 ) -> Result<SuccessReply, CaseError> {
-    Ok(SuccessReply {
+    let mut reader = Reader::new(alloc);
+    let reply = SuccessReply {
         status,
-        others: lines_of(alloc, items_at(noted, "others")?)?,
-        named: named_at(alloc, noted)?,
-        content: content_given(alloc, noted, context, args)?,
-    })
+        others: reader.or(lines_at(alloc, noted, "others"), HeaderList::new(alloc)),
+        named: reader.or(named_at(alloc, noted), None),
+        content: reader.or(content_given(alloc, noted, context, args), Content::Empty),
+    };
+    reader.finish(reply)
+}
+
+fn lines_at(alloc: Global, noted: &Json, name: &str) -> Result<HeaderList, CaseError> {
+    lines_of(alloc, items_at(noted, name)?)
 }
 
 fn success_status(number: u64) -> Option<StatusCode> {

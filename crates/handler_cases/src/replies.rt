@@ -7,7 +7,7 @@ ghost use Rattle.api_respond.specs.Replies.{ReplyFits};
 
 use crate::content::content_told;
 use crate::handler::handler_of;
-use api_extract::{ExtractError, extract};
+use api_extract::{ExtractError, extract_from};
 use api_respond::{
     Reply, RequestContext, RequestEndpointMetadata, RouteHandler, encode_refusal, encode_reply,
 };
@@ -36,24 +36,13 @@ pub fn reply_told(alloc: Global, case: &Json) -> Result<Json, CaseError> {
     answer_by(alloc, case, noted, &shape)
 }
 
-// A copy of the shape that is noted.
+// A copy of the shape that is noted, without errors where none are noted.
 fn shape_at(alloc: Global, noted: &Json) -> Result<Box<HandlerShape>, CaseError> {
-    let shape = shape_of(alloc, noted)?;
-    let shape = Box::new(alloc, with_errors_of(noted, shape))?;
-    copied(alloc, &shape)
-}
-
-// The shape, without errors where none are noted.
-fn with_errors_of(noted: &Json, shape: HandlerShape) -> HandlerShape {
-    match noted.get("error") {
-        Some(_) => shape,
-        None => HandlerShape {
-            table: shape.table,
-            slots: shape.slots,
-            response: shape.response,
-            error: None,
-        },
+    let mut shape = Box::new(alloc, shape_of(alloc, noted)?)?;
+    if noted.get("error").is_none() {
+        shape.error = None;
     }
+    copied(alloc, &shape)
 }
 
 fn copied(alloc: Global, shape: &HandlerShape) -> Result<Box<HandlerShape>, CaseError> {
@@ -120,7 +109,7 @@ fn response_to(
     if !are_served(&shape.table, shape.slots.as_slice()) {
         return Err(CaseError::Expected("slots that can be served"));
     }
-    match extract(
+    match extract_from(
         alloc,
         &mut Scratch::new(alloc),
         &shape.slots,

@@ -3,7 +3,7 @@ use crate::bodies::{body_told, dump_told};
 use crate::error_bodies::error_body_told;
 use crate::errors::{constants_told, error_told, request_id_told};
 use crate::line_lists::headers_told;
-use crate::maps::{map_read, map_read_without_case, map_written, tree_map_written};
+use crate::maps::{map_read, map_written, tree_map_written};
 use crate::page_types::page_type_told;
 use crate::pages::{long_page_told, page_told};
 use crate::ranges::{matches_told, overlaps_told, request_version_told};
@@ -57,8 +57,8 @@ impl AnswersCases for HttpCases {
 
     fn answer(&self, alloc: Global, case: &Json) -> Result<Json, CaseError> {
         match given_text(case, "call")?.as_str() {
-            "from_map" => map_read(alloc, case),
-            "from_map_insensitive" => map_read_without_case(alloc, case),
+            "from_map" => map_read(alloc, case, false),
+            "from_map_insensitive" => map_read(alloc, case, true),
             "to_map" => map_written(alloc, case),
             "to_map_tree" => tree_map_written(alloc, case),
             "headers" => headers_told(alloc, case),

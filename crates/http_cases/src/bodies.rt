@@ -2,7 +2,9 @@
 //! `"failing"`, the numbers of the calls that fail, where some do. A frame is a text, or
 //! `{"trailers": LINES}`.
 use crate::lines::{bytes_noted, lines_noted, lines_of};
-use case_notation::{CaseError, Reader, Row, given, given_number, labelled, number_of, say};
+use case_notation::{
+    CaseError, Reader, Row, count_of, given, given_items, given_number, labelled, number_of, say,
+};
 use http_status::{
     Body, DumpError, Frame, FrameError, HeaderList, MemoryFrames, SafeFrames, http_dump_body,
 };
@@ -43,9 +45,7 @@ fn dropped_told(alloc: Global, body: &mut Body, budget: u32) -> Result<Json, Cas
 
 /// The count of 32 bits under a name.
 pub fn count_at(case: &Json, name: &'static str) -> Result<u32, CaseError> {
-    u32::try_from(given_number(case, name)?)
-        .ok()
-        .ok_or(CaseError::Expected("a count of 32 bits"))
+    count_of(given(case, name)?)
 }
 
 // What a call for the next frame gives.
@@ -80,26 +80,15 @@ pub fn body_at(alloc: Global, case: &Json) -> Result<Body, CaseError> {
 
 fn read_body(reader: &mut Reader, noted: &Json) -> Body {
     match noted {
-        Json::Text(word) if word.equals_str("empty") => Body::empty(),
-        noted => read_body_with(reader, noted),
+        Json::Text(word) if word.equals_str("empty") => return Body::empty(),
+        noted => reader.check_names(noted, &["content", "frames", "failing"]),
     }
-}
-
-fn read_body_with(reader: &mut Reader, noted: &Json) -> Body {
-    reader.check_names(noted, &["content", "frames", "failing"]);
     match noted.get("content") {
-        Some(content) => read_content(reader, content),
-        None => read_frames_body(reader, noted),
-    }
-}
-
-fn read_content(reader: &mut Reader, noted: &Json) -> Body {
-    match noted {
-        Json::Text(text) => Body::with_content(read_bytes(reader, text)),
-        _ => {
-            reader.expected("a text");
-            Body::empty()
+        Some(content) => {
+            let content = reader.text(content);
+            Body::with_content(read_bytes(reader, &content))
         }
+        None => read_frames_body(reader, noted),
     }
 }
 
@@ -145,7 +134,7 @@ fn read_trailers(reader: &mut Reader, noted: &Json) -> HeaderList {
 }
 
 fn trailers_of(alloc: Global, noted: &Json) -> Result<HeaderList, CaseError> {
-    lines_of(alloc, given(noted, "trailers")?)
+    lines_of(alloc, given_items(noted, "trailers")?)
 }
 
 fn read_calls(reader: &mut Reader, noted: &Json) -> List<u64> {

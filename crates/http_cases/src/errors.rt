@@ -1,28 +1,25 @@
 //! Calls on errors, their responses, and the ids of requests.
 use crate::lines::{bytes_noted, lines_noted};
+use body_reading::{BodyError, read_whole};
 use case_notation::{
     CaseError, Record, Row, given_items, given_text, items_of, labelled, maybe_text, say,
     string_told, text_or_null,
 };
 use http_status::{
     Body, CONTENT_TYPE_JSON, CONTENT_TYPE_MULTIPART_FORM_DATA, CONTENT_TYPE_NDJSON,
-    CONTENT_TYPE_OCTET_STREAM, CONTENT_TYPE_URL_ENCODED, ClientErrorStatusCode, Frame, FrameError,
-    HEADER_REQUEST_ID, HeaderError, HeaderList, HttpError, RequestId, RequestIdError, Response,
+    CONTENT_TYPE_OCTET_STREAM, CONTENT_TYPE_URL_ENCODED, ClientErrorStatusCode, HEADER_REQUEST_ID,
+    HeaderError, HeaderList, HttpError, RequestId, RequestIdError, Response,
 };
-use schema_values::{Json, List, Text};
+use schema_values::{Json, Text};
 use std::alloc::Global;
 
 /// An error that is made as the case says, its text and its response to the request of an id.
 pub fn error_told(alloc: Global, case: &Json) -> Result<Json, CaseError> {
-    let id = request_id_of(alloc, given_text(case, "id")?)?;
-    answer_to(alloc, case, &id)
-}
-
-fn answer_to(alloc: Global, case: &Json, id: &RequestId) -> Result<Json, CaseError> {
     let steps = given_items(case, "steps")?;
     let noted = given_items(case, "made")?;
+    let id = request_id_of(alloc, given_text(case, "id")?)?;
     let mut error = Box::new(alloc, made(alloc, noted)?)?;
-    changed_told(alloc, &mut error, steps, id)
+    changed_told(alloc, &mut error, steps, &id)
 }
 
 // What is told of an error after some steps: what the first that is refused is refused as, if one is.
@@ -59,9 +56,9 @@ fn made(alloc: Global, noted: &[Json]) -> Result<HttpError, CaseError> {
             code,
             Json::Int(status),
             Json::Text(message),
-        ] if kind.equals_str("client") => { client_error(alloc, code, *status, message) }
+        ] if kind.equals_str("client") => { client_error(alloc, code, *status, Some(message)) }
         [Json::Text(kind), code, Json::Int(status)] if kind.equals_str("client_with_status") => {
-            client_error_with_status(alloc, code, *status)
+            client_error(alloc, code, *status, None)
         }
         _ => Err(CaseError::Expected("how an error is made")),
     }
@@ -71,25 +68,15 @@ fn client_error(
     alloc: Global,
     code: &Json,
     status: i128,
-    message: &Text,
+    message: Option<&Text>,
 ) -> Result<HttpError, CaseError> {
+    let status = client_status(status)?;
     let code = maybe_text(alloc, Some(code))?;
-    match client_status(status) {
-        Some(status) => Ok(HttpError::for_client_error(alloc, code, status, message.copy(alloc)?)?),
-        None => Err(CaseError::Expected("a status from 400 to 499")),
-    }
-}
-
-fn client_error_with_status(
-    alloc: Global,
-    code: &Json,
-    status: i128,
-) -> Result<HttpError, CaseError> {
-    let code = maybe_text(alloc, Some(code))?;
-    match client_status(status) {
-        Some(status) => Ok(HttpError::for_client_error_with_status(alloc, code, status)?),
-        None => Err(CaseError::Expected("a status from 400 to 499")),
-    }
+    let made = match message {
+        Some(message) => HttpError::for_client_error(alloc, code, status, message.copy(alloc)?),
+        None => HttpError::for_client_error_with_status(alloc, code, status),
+    };
+    Ok(made?)
 }
 
 fn made_with(
@@ -108,9 +95,13 @@ fn made_with(
     Ok(made?)
 }
 
-fn client_status(number: i128) -> Option<ClientErrorStatusCode> {
-    let number = u16::try_from(number).ok()?;
-    ClientErrorStatusCode::from_u16(number).ok()
+fn client_status(number: i128) -> Result<ClientErrorStatusCode, CaseError> {
+    match u16::try_from(number) {
+        Ok(number) => ClientErrorStatusCode::from_u16(number)
+            .ok()
+            .ok_or(CaseError::Expected("a status from 400 to 499")),
+        Err(_) => Err(CaseError::Expected("a status from 400 to 499")),
+    }
 }
 
 // Changes an error by one step, or tells what the step is refused as.
@@ -208,25 +199,10 @@ fn response_noted(alloc: Global, response: &mut Response) -> Result<Json, CaseEr
 
 // The text of a body of one frame.
 fn only_frame(alloc: Global, body: &mut Body) -> Result<Json, CaseError> {
-    let content = content_of(next_frame(alloc, body)?)?;
-    match next_frame(alloc, body)? {
-        None => bytes_noted(alloc, content.as_slice()),
-        Some(_) => Err(CaseError::Expected("a body of one frame")),
-    }
-}
-
-fn next_frame(alloc: Global, body: &mut Body) -> Result<Option<Frame>, CaseError> {
-    match body.next_frame(alloc) {
-        Ok(frame) => Ok(frame),
-        Err(FrameError::Failed) => Err(CaseError::Expected("a body without faults")),
-        Err(FrameError::OutOfMemory) => Err(CaseError::OutOfMemory),
-    }
-}
-
-fn content_of(frame: Option<Frame>) -> Result<List<u8>, CaseError> {
-    match frame {
-        Some(Frame::Bytes(content)) => Ok(content),
-        _ => Err(CaseError::Expected("a frame of content")),
+    match read_whole(alloc, body, 65_536, 1) {
+        Ok(content) => bytes_noted(alloc, content.as_slice()),
+        Err(BodyError::OutOfMemory) => Err(CaseError::OutOfMemory),
+        Err(_) => Err(CaseError::Expected("a body of one frame")),
     }
 }
 

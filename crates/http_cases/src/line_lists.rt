@@ -1,6 +1,6 @@
 //! Calls on lists of header lines. A step is a list: its name, and what it takes.
-use crate::lines::{lines_in, lines_noted, lines_of, name_of, value_noted, value_of};
-use case_notation::{CaseError, Row, given, given_items, items_of, say};
+use crate::lines::{bytes_noted, lines_noted, lines_of, name_of, value_of};
+use case_notation::{CaseError, Row, given_items, items_of, say};
 use http_header::HeaderValue;
 use http_status::HeaderList;
 use schema_values::{Json, Text};
@@ -9,7 +9,7 @@ use std::alloc::Global;
 /// What each of the steps of a case answers, from the lines of the case on.
 pub fn headers_told(alloc: Global, case: &Json) -> Result<Json, CaseError> {
     let steps = given_items(case, "steps")?;
-    let mut lines = lines_of(alloc, given(case, "lines")?)?;
+    let mut lines = lines_of(alloc, given_items(case, "lines")?)?;
     steps_told(alloc, &mut lines, steps)
 }
 
@@ -28,7 +28,7 @@ fn step_told(alloc: Global, lines: &mut HeaderList, step: &Json) -> Result<Json,
             lines_noted(alloc, lines)
         }
         [Json::Text(step), Json::List(others)] if step.equals_str("extend") => {
-            lines.extend(lines_in(alloc, others.as_slice())?)?;
+            lines.extend(lines_of(alloc, others.as_slice())?)?;
             lines_noted(alloc, lines)
         }
         [Json::Text(step), Json::Text(name)] => {
@@ -56,7 +56,7 @@ fn looked_up<'a>(
 
 fn value_told(alloc: Global, value: Option<&HeaderValue>) -> Result<Json, CaseError> {
     match value {
-        Some(value) => value_noted(alloc, value),
+        Some(value) => bytes_noted(alloc, value.as_bytes()),
         None => say(alloc, "absent"),
     }
 }

@@ -7,12 +7,7 @@ use std::alloc::Global;
 use std::str;
 
 /// The lines that are noted, in order.
-pub fn lines_of(alloc: Global, noted: &Json) -> Result<HeaderList, CaseError> {
-    lines_in(alloc, items_of(noted)?)
-}
-
-/// The lines of a list, in order.
-pub fn lines_in(alloc: Global, noted: &[Json]) -> Result<HeaderList, CaseError> {
+pub fn lines_of(alloc: Global, noted: &[Json]) -> Result<HeaderList, CaseError> {
     let mut lines = HeaderList::new(alloc);
     for line in noted {
         append(alloc, &mut lines, line)?;
@@ -47,14 +42,10 @@ pub fn value_of(alloc: Global, text: &Text) -> Result<HeaderValue, CaseError> {
 pub fn lines_noted(alloc: Global, lines: &HeaderList) -> Result<Json, CaseError> {
     let mut noted = Row::new(alloc);
     for (name, value) in lines.lines() {
-        noted.push(both(alloc, say(alloc, name.as_str()), value_noted(alloc, value)));
+        let name = say(alloc, name.as_str());
+        noted.push(both(alloc, name, bytes_noted(alloc, value.as_bytes())));
     }
     noted.done()
-}
-
-/// How the value of a line is noted.
-pub fn value_noted(alloc: Global, value: &HeaderValue) -> Result<Json, CaseError> {
-    bytes_noted(alloc, value.as_bytes())
 }
 
 /// The text of bytes.

@@ -6,6 +6,7 @@ mod answers;
 mod bodies;
 mod error_bodies;
 mod errors;
+mod field_names;
 mod line_lists;
 mod lines;
 mod maps;
@@ -15,8 +16,9 @@ mod pages;
 mod ranges;
 mod reading;
 mod sample;
-mod selectors;
+mod single;
 mod tokens;
+mod trees;
 
 use crate::answers::HttpCases;
 use case_notation::run;

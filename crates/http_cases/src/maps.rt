@@ -2,8 +2,10 @@
 ghost use Rattle.api_types.specs.Types.{IsTableOf};
 ghost use Rattle.typed_values.specs.Checks.{TablePasses, DescPasses};
 
-use crate::named_types::{Holder, Marked, Names, Texts};
+use crate::field_names::{B, HeaderA};
+use crate::named_types::{Names, Texts};
 use crate::sample::Sample;
+use crate::single::Single;
 use api_types::{ApiType, table_of};
 use case_notation::{
     CaseError, Row, Scope, both, given, given_text, labelled, map_of, say, scope_of, text_told,
@@ -18,32 +20,21 @@ use type_wire::json_value;
 use typed_values::{Tree, fits};
 
 /// The tree of the value that the map of a case is read as, of the type of the case, or what it is
-/// refused as.
-pub fn map_read(alloc: Global, case: &Json) -> Result<Json, CaseError> {
+/// refused as. Without case, the names of fields are compared in lower case, in which those of the
+/// map are.
+pub fn map_read(alloc: Global, case: &Json, without_case: bool) -> Result<Json, CaseError> {
     let name = given_text(case, "type")?;
     let map = map_of(alloc, given(case, "map")?)?;
     match name.as_str() {
-        "Sample" => read_as::<Sample>(alloc, &map),
-        "Names" => read_as::<Names>(alloc, &map),
-        "Marked" => read_as::<Marked>(alloc, &map),
-        "Holder" => read_as::<Holder>(alloc, &map),
-        "Point" => read_as::<Point>(alloc, &map),
-        "Pin" => read_as::<Pin>(alloc, &map),
-        "Folder" => read_as::<Folder>(alloc, &map),
-        "String" => read_as::<Text>(alloc, &map),
-        _ => Err(CaseError::Expected("the name of a type")),
-    }
-}
-
-/// The same of a map whose names are in lower case, and compared with those of fields in lower
-/// case.
-pub fn map_read_without_case(alloc: Global, case: &Json) -> Result<Json, CaseError> {
-    let name = given_text(case, "type")?;
-    let map = map_of(alloc, given(case, "map")?)?;
-    match name.as_str() {
-        "Sample" => read_lowered::<Sample>(alloc, &map),
-        "Marked" => read_lowered::<Marked>(alloc, &map),
-        "Array_of_String" => { read_lowered::<List<Text>>(alloc, &map) }
+        "Sample" => read_as::<Sample>(alloc, &map, without_case),
+        "Names" => read_as::<Names>(alloc, &map, without_case),
+        "Marked" => read_as::<Single<HeaderA, Text>>(alloc, &map, without_case),
+        "Holder" => read_as::<Single<B, Point>>(alloc, &map, without_case),
+        "Point" => read_as::<Point>(alloc, &map, without_case),
+        "Pin" => read_as::<Pin>(alloc, &map, without_case),
+        "Folder" => read_as::<Folder>(alloc, &map, without_case),
+        "String" => read_as::<Text>(alloc, &map, without_case),
+        "Array_of_String" => { read_as::<List<Text>>(alloc, &map, without_case) }
         _ => Err(CaseError::Expected("the name of a type")),
     }
 }
@@ -51,32 +42,22 @@ pub fn map_read_without_case(alloc: Global, case: &Json) -> Result<Json, CaseErr
 fn read_as<T: ApiType>(
     alloc: Global,
     map: &BTreeMap<Text, VariableValue>,
+    without_case: bool,
 ) -> Result<Json, CaseError> {
     match table_of::<T>(alloc) {
+        Ok(_) if without_case => {
+            read_told(alloc, from_map_insensitive::<T, VariableValue>(alloc, map))
+        }
         Ok(_) => read_told(alloc, from_map::<T, VariableValue>(alloc, map)),
-        Err(_) => Err(CaseError::Expected("a type that passes its checks")),
-    }
-}
-
-fn read_lowered<T: ApiType>(
-    alloc: Global,
-    map: &BTreeMap<Text, VariableValue>,
-) -> Result<Json, CaseError> {
-    match table_of::<T>(alloc) {
-        Ok(_) => read_told(alloc, from_map_insensitive::<T, VariableValue>(alloc, map)),
         Err(_) => Err(CaseError::Expected("a type that passes its checks")),
     }
 }
 
 fn read_told<T: ApiType>(alloc: Global, answer: Result<T, MapError>) -> Result<Json, CaseError> {
     match answer {
-        Ok(value) => value_told(alloc, &value),
+        Ok(value) => tree_told(alloc, &value.to_tree(alloc)?),
         Err(error) => refused(alloc, error),
     }
-}
-
-fn value_told<T: ApiType>(alloc: Global, value: &T) -> Result<Json, CaseError> {
-    tree_told(alloc, &value.to_tree(alloc)?)
 }
 
 /// A tree that is told.

@@ -1,9 +1,9 @@
-//! Structs of texts, and a struct that holds one.
+//! Structs of texts.
 ghost use Rattle.std.specs.Prelude.{◌∷◌, [], codes};
 ghost use Rattle.api_types.specs.Heads.{nullable, required, struct_of};
 
+use crate::trees::push_tree;
 use api_types::{ApiStruct, ApiType, StructHead};
-use own_types::Point;
 use schema_values::{List, Text};
 use std::alloc::{AllocError, Global};
 use typed_values::Tree;
@@ -42,8 +42,8 @@ impl ApiStruct for Names {
 
     fn trees(&self, alloc: Global) -> Result<List<Tree>, AllocError> {
         let mut trees = List::new(alloc);
-        trees.push(self.sss.to_tree(alloc)?)?;
-        trees.push(self.aaa.to_tree(alloc)?)?;
+        push_tree(alloc, &mut trees, &self.sss)?;
+        push_tree(alloc, &mut trees, &self.aaa)?;
         Ok(trees)
     }
 
@@ -54,49 +54,6 @@ impl ApiStruct for Names {
 
     fn from_fields((sss, (aaa, ())): Self::Fields) -> Names {
         Names { sss, aaa }
-    }
-}
-
-/// A text under the name of a header.
-#[derive(Drop)]
-pub struct Marked {
-    /// The text.
-    pub value: Text,
-}
-
-impl ApiStruct for Marked {
-    type Fields = (Text, ());
-
-    ghost struct_name = { codes "Marked" };
-
-    ghost head_of = { struct_of (required (codes "X-Header-A") ∷ []) };
-
-    ghost fields_of = { λ value. (value.value, tt) };
-
-    fn name() -> &'static str {
-        "Marked"
-    }
-
-    fn in_place() -> bool {
-        false
-    }
-
-    fn head(alloc: Global) -> Result<StructHead, AllocError> {
-        StructHead::new(alloc).required(alloc, "X-Header-A")
-    }
-
-    fn trees(&self, alloc: Global) -> Result<List<Tree>, AllocError> {
-        let mut trees = List::new(alloc);
-        trees.push(self.value.to_tree(alloc)?)?;
-        Ok(trees)
-    }
-
-    fn each_fits(&self) {
-        self.value.fits();
-    }
-
-    fn from_fields((value, ()): Self::Fields) -> Marked {
-        Marked { value }
     }
 }
 
@@ -138,9 +95,9 @@ impl ApiStruct for Texts {
 
     fn trees(&self, alloc: Global) -> Result<List<Tree>, AllocError> {
         let mut trees = List::new(alloc);
-        trees.push(self.a.to_tree(alloc)?)?;
-        trees.push(self.b.to_tree(alloc)?)?;
-        trees.push(self.c.to_tree(alloc)?)?;
+        push_tree(alloc, &mut trees, &self.a)?;
+        push_tree(alloc, &mut trees, &self.b)?;
+        push_tree(alloc, &mut trees, &self.c)?;
         Ok(trees)
     }
 
@@ -152,48 +109,5 @@ impl ApiStruct for Texts {
 
     fn from_fields((a, (b, (c, ()))): Self::Fields) -> Texts {
         Texts { a, b, c }
-    }
-}
-
-/// A struct in a struct.
-#[derive(Drop)]
-pub struct Holder {
-    /// The struct.
-    pub b: Point,
-}
-
-impl ApiStruct for Holder {
-    type Fields = (Point, ());
-
-    ghost struct_name = { codes "Holder" };
-
-    ghost head_of = { struct_of (required (codes "b") ∷ []) };
-
-    ghost fields_of = { λ value. (value.b, tt) };
-
-    fn name() -> &'static str {
-        "Holder"
-    }
-
-    fn in_place() -> bool {
-        false
-    }
-
-    fn head(alloc: Global) -> Result<StructHead, AllocError> {
-        StructHead::new(alloc).required(alloc, "b")
-    }
-
-    fn trees(&self, alloc: Global) -> Result<List<Tree>, AllocError> {
-        let mut trees = List::new(alloc);
-        trees.push(self.b.to_tree(alloc)?)?;
-        Ok(trees)
-    }
-
-    fn each_fits(&self) {
-        self.b.fits();
-    }
-
-    fn from_fields((b, ()): Self::Fields) -> Holder {
-        Holder { b }
     }
 }

@@ -1,10 +1,10 @@
 //! Calls on the types of pages.
-use api_types::ApiType;
-use case_notation::{CaseError, Record, given_text, noted_desc, table_of, text_told};
+use api_types::{ApiType, table_of};
+use case_notation::{self, CaseError, Record, given_text, noted_desc, text_told};
 use result_pages::{EmptyScanParams, PaginationOrder, ResultsPage};
 use schema_values::Json;
 use std::alloc::Global;
-use typed_values::{AddError, Definition, Desc, DescTable};
+use typed_values::{Definition, Desc};
 
 /// The name of the type of a case, and whether its descriptor and its definitions are those of the
 /// case.
@@ -34,18 +34,10 @@ fn is_noted(alloc: Global, desc: &Desc, case: &Json) -> Result<bool, CaseError> 
 }
 
 fn has_definitions<T: ApiType>(alloc: Global, case: &Json) -> Result<bool, CaseError> {
-    let table = added::<T>(alloc)?;
-    let noted = table_of(alloc, case)?;
-    Ok(same_definitions(table.definitions(), noted.definitions()))
-}
-
-// The definitions of a type, in an empty table.
-fn added<T: ApiType>(alloc: Global) -> Result<DescTable, CaseError> {
-    let mut table = DescTable::new(alloc);
-    match T::add_definitions(alloc, &mut table) {
-        Ok(()) => Ok(table),
-        Err(AddError::Clash(_)) => Err(CaseError::Expected("definitions that do not clash")),
-        Err(AddError::OutOfMemory) => Err(CaseError::OutOfMemory),
+    let noted = case_notation::table_of(alloc, case)?;
+    match table_of::<T>(alloc) {
+        Ok(table) => Ok(same_definitions(table.definitions(), noted.definitions())),
+        Err(_) => Err(CaseError::Expected("a type that passes its checks")),
     }
 }
 

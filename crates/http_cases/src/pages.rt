@@ -2,7 +2,8 @@
 ghost use Rattle.typed_values.specs.Checks.{TablePasses, DescPasses};
 
 use crate::errors::error_noted;
-use crate::selectors::{Previous, Start};
+use crate::field_names::{Prev, S};
+use crate::single::Single;
 use api_types::{ApiType, table_of};
 use case_notation::{
     CaseError, Record, Row, given, given_items, given_number, labelled, number_of, text_or_null,
@@ -14,6 +15,12 @@ use result_pages::ResultsPage;
 use schema_values::{Json, List, Text};
 use std::alloc::{AllocError, Global};
 use typed_values::{Desc, DescTable};
+
+/// A selector of a page: a number that the next page begins behind.
+type Previous = Single<Prev, u64>;
+
+/// A selector of a page: a text that the next page begins behind.
+type Start = Single<S, Text>;
 
 /// A page of the numbers of a case, whose selector is the sum of the last and that of the scan.
 pub fn page_told(alloc: Global, case: &Json) -> Result<Json, CaseError> {
@@ -33,7 +40,7 @@ pub fn page_told(alloc: Global, case: &Json) -> Result<Json, CaseError> {
 
 fn previous(last: u64, scan: u64) -> Result<Previous, AllocError> {
     match last.checked_add(scan) {
-        Some(prev) => Ok(Previous { prev }),
+        Some(prev) => Ok(Single::new(prev)),
         None => Err(AllocError),
     }
 }
@@ -137,7 +144,5 @@ fn letters_of(alloc: Global, count: i128) -> Result<Text, CaseError> {
 }
 
 fn start(alloc: Global, text: &Text) -> Result<Start, AllocError> {
-    Ok(Start {
-        s: text.copy(alloc)?,
-    })
+    Ok(Single::new(text.copy(alloc)?))
 }

@@ -5,7 +5,8 @@ use api_versions::{
     ApiEndpointVersions, ClientSpecifiesVersionInHeader, DynamicVersionPolicy, VersionPolicy,
 };
 use case_notation::{
-    CaseError, Record, both, given, given_text, items_of, labelled, say, string_told, text_of,
+    CaseError, Record, both, given, given_items, given_text, items_of, labelled, say, string_told,
+    text_of,
 };
 use http_status::{HeaderList, HttpError, HttpRefusal};
 use schema_values::{Json, Text};
@@ -38,12 +39,9 @@ fn overlap_told(
     range: &ApiEndpointVersions,
     noted: &Json,
 ) -> Result<Json, CaseError> {
-    let (overlaps, back) = both_ways(range, &ordered_range(alloc, noted)?);
-    both(alloc, Ok(Json::Bool(overlaps)), Ok(Json::Bool(back)))
-}
-
-fn both_ways(range: &ApiEndpointVersions, other: &ApiEndpointVersions) -> (bool, bool) {
-    (range.overlaps_with(other), other.overlaps_with(range))
+    let other = ordered_range(alloc, noted)?;
+    let overlaps = Ok(Json::Bool(range.overlaps_with(&other)));
+    both(alloc, overlaps, Ok(Json::Bool(other.overlaps_with(range))))
 }
 
 fn ordered_range(alloc: Global, noted: &Json) -> Result<ApiEndpointVersions, CaseError> {
@@ -60,39 +58,36 @@ fn range_of(
     let [first, end] = items_of(noted)? else {
         return Err(CaseError::Expected("two bounds"));
     };
-    let first = version_or_none(alloc, first)?;
-    let end = version_or_none(alloc, end)?;
-    Ok(range_between(first, end))
+    match (bound_of(first)?, bound_of(end)?) {
+        (None, None) => Ok(Ok(ApiEndpointVersions::all())),
+        (None, Some(end)) => Ok(Ok(ApiEndpointVersions::until(version_of(alloc, end)?))),
+        (Some(first), None) => Ok(Ok(ApiEndpointVersions::from(version_of(alloc, first)?))),
+        (Some(first), Some(end)) => range_between(alloc, first, end),
+    }
 }
 
 fn range_between(
-    first: Option<Version>,
-    end: Option<Version>,
-) -> Result<ApiEndpointVersions, &'static str> {
-    match first {
-        Some(first) => range_from(first, end),
-        None => Ok(range_until(end)),
-    }
+    alloc: Global,
+    first: &Text,
+    end: &Text,
+) -> Result<Result<ApiEndpointVersions, &'static str>, CaseError> {
+    let first = version_of(alloc, first)?;
+    let end = version_of(alloc, end)?;
+    Ok(ApiEndpointVersions::from_until(first, end))
 }
 
-fn range_from(first: Version, end: Option<Version>) -> Result<ApiEndpointVersions, &'static str> {
-    match end {
-        Some(end) => ApiEndpointVersions::from_until(first, end),
-        None => Ok(ApiEndpointVersions::from(first)),
-    }
-}
-
-fn range_until(end: Option<Version>) -> ApiEndpointVersions {
-    match end {
-        Some(end) => ApiEndpointVersions::until(end),
-        None => ApiEndpointVersions::all(),
+// The text of a version, none where null stands.
+fn bound_of(noted: &Json) -> Result<Option<&Text>, CaseError> {
+    match noted {
+        Json::Null => Ok(None),
+        _ => Ok(Some(text_of(noted)?)),
     }
 }
 
 fn version_or_none(alloc: Global, noted: &Json) -> Result<Option<Version>, CaseError> {
-    match noted {
-        Json::Null => Ok(None),
-        _ => Ok(Some(version_of(alloc, text_of(noted)?)?)),
+    match bound_of(noted)? {
+        Some(text) => Ok(Some(version_of(alloc, text)?)),
+        None => Ok(None),
     }
 }
 
@@ -105,7 +100,7 @@ fn version_of(alloc: Global, text: &Text) -> Result<Version, CaseError> {
 /// The version that a request with the lines of a case asks for, by the header of the case, or what
 /// it is refused as. Where the case has no header, versions are not looked at.
 pub fn request_version_told(alloc: Global, case: &Json) -> Result<Json, CaseError> {
-    let lines = lines_of(alloc, given(case, "lines")?)?;
+    let lines = lines_of(alloc, given_items(case, "lines")?)?;
     match case.get("header") {
         Some(_) => version_by_header(alloc, case, &lines),
         None => version_of_any(alloc, &lines),
@@ -136,7 +131,7 @@ fn asked(
 }
 
 fn policy_of(alloc: Global, case: &Json) -> Result<ClientSpecifiesVersionInHeader, CaseError> {
-    let missing = version_at(alloc, case, "missing")?;
+    let missing = version_or_none(alloc, case.get("missing").unwrap_or(&Json::Null))?;
     let policy = greatest_policy(alloc, case)?;
     match missing {
         Some(version) => Ok(policy.on_missing(version)),
@@ -152,13 +147,6 @@ fn greatest_policy(
     let name = name_of(alloc, header)?;
     let greatest = version_of(alloc, greatest)?;
     Ok(ClientSpecifiesVersionInHeader::new(name, greatest))
-}
-
-fn version_at(alloc: Global, case: &Json, name: &str) -> Result<Option<Version>, CaseError> {
-    match case.get(name) {
-        Some(noted) => Ok(Some(version_of(alloc, text_of(noted)?)?)),
-        None => Ok(None),
-    }
 }
 
 fn version_told(alloc: Global, version: &Version) -> Result<Json, CaseError> {

@@ -25,14 +25,10 @@ fn read_told(alloc: Global, body: &mut Body, limit: u32, budget: u32) -> Result<
 fn error_told(alloc: Global, error: BodyError) -> Result<Json, CaseError> {
     match error {
         BodyError::BodyFault => say(alloc, "fault"),
-        BodyError::BodyTooLarge(sum) => labelled_number(alloc, "too large", sum.into()),
-        BodyError::FrameBudget(count) => labelled_number(alloc, "frames", count.into()),
+        BodyError::BodyTooLarge(sum) => Record::new(alloc).number("too large", sum.into()).done(),
+        BodyError::FrameBudget(count) => Record::new(alloc).number("frames", count.into()).done(),
         BodyError::OutOfMemory => Err(CaseError::OutOfMemory),
     }
-}
-
-fn labelled_number(alloc: Global, name: &str, number: i128) -> Result<Json, CaseError> {
-    Record::new(alloc).number(name, number).done()
 }
 
 /// What each of so many calls of a body that is gathered of the body of a case gives.
@@ -74,18 +70,10 @@ fn contents_told(
 }
 
 fn stream_of(alloc: Global, case: &Json) -> Result<StreamingBody, CaseError> {
-    match case.get("bytes") {
-        Some(content) => stream_of_bytes(alloc, content),
-        None => stream_of_body(alloc, case),
+    if let Some(content) = case.get("bytes") {
+        let content = List::from_bytes(alloc, text_of(content)?.as_bytes())?;
+        return Ok(StreamingBody::from_bytes(content));
     }
-}
-
-fn stream_of_bytes(alloc: Global, noted: &Json) -> Result<StreamingBody, CaseError> {
-    let bytes = List::from_bytes(alloc, text_of(noted)?.as_bytes())?;
-    Ok(StreamingBody::from_bytes(bytes))
-}
-
-fn stream_of_body(alloc: Global, case: &Json) -> Result<StreamingBody, CaseError> {
     let cap = count_at(case, "limit")?;
     let budget = count_at(case, "budget")?;
     let body = body_at(alloc, case)?;

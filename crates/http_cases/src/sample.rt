@@ -2,6 +2,7 @@
 ghost use Rattle.std.specs.Prelude.{◌∷◌, [], codes};
 ghost use Rattle.api_types.specs.Heads.{nullable, required, struct_of};
 
+use crate::trees::push_tree;
 use api_types::{ApiStruct, ApiType, StructHead};
 use schema_values::{List, Text};
 use std::alloc::{AllocError, Global};
@@ -86,14 +87,14 @@ impl ApiStruct for Sample {
 
     fn trees(&self, alloc: Global) -> Result<List<Tree>, AllocError> {
         let mut trees = List::new(alloc);
-        trees.push(self.astring.to_tree(alloc)?)?;
-        trees.push(self.au32.to_tree(alloc)?)?;
-        trees.push(self.ai16.to_tree(alloc)?)?;
-        trees.push(self.abool.to_tree(alloc)?)?;
-        trees.push(self.aoption.to_tree(alloc)?)?;
-        trees.push(self.anew.to_tree(alloc)?)?;
-        trees.push(self.bstring.to_tree(alloc)?)?;
-        trees.push(self.boption.to_tree(alloc)?)?;
+        push_tree(alloc, &mut trees, &self.astring)?;
+        push_tree(alloc, &mut trees, &self.au32)?;
+        push_tree(alloc, &mut trees, &self.ai16)?;
+        push_tree(alloc, &mut trees, &self.abool)?;
+        push_tree(alloc, &mut trees, &self.aoption)?;
+        push_tree(alloc, &mut trees, &self.anew)?;
+        push_tree(alloc, &mut trees, &self.bstring)?;
+        push_tree(alloc, &mut trees, &self.boption)?;
         Ok(trees)
     }
 

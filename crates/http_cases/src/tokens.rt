@@ -24,11 +24,7 @@ fn written(alloc: Global, scope: &Scope, noted: &Json) -> Result<Json, CaseError
     if !fits(&scope.table, &scope.desc, &tree) {
         return Err(CaseError::Expected("a tree that fits"));
     }
-    token_told(alloc, write_token(alloc, &scope.table, &scope.desc, &tree))
-}
-
-fn token_told(alloc: Global, answer: Result<Text, TokenError>) -> Result<Json, CaseError> {
-    match answer {
+    match write_token(alloc, &scope.table, &scope.desc, &tree) {
         Ok(token) => labelled(alloc, "token", text_told(Ok(token))),
         Err(error) => refused(alloc, error),
     }
@@ -52,14 +48,12 @@ fn read(alloc: Global, scope: &Scope, token: &Text) -> Result<Json, CaseError>
 
 fn refused(alloc: Global, error: TokenError) -> Result<Json, CaseError> {
     let why = match error {
-        TokenError::TooLarge(length) => too_large(alloc, length),
+        TokenError::TooLarge(length) => {
+            both(alloc, say(alloc, "too large"), Ok(Json::Int(length.into())))
+        }
         TokenError::NotBase64 => say(alloc, "not base64"),
         TokenError::Corrupted => say(alloc, "corrupted"),
         TokenError::OutOfMemory => Err(CaseError::OutOfMemory),
     };
     labelled(alloc, "refused", why)
-}
-
-fn too_large(alloc: Global, length: u64) -> Result<Json, CaseError> {
-    both(alloc, say(alloc, "too large"), Ok(Json::Int(length.into())))
 }
