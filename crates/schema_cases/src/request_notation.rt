@@ -35,8 +35,15 @@ fn read_body(reader: &mut Reader, noted: &Json) -> List<u8> {
     }
 }
 
-/// The bytes that are noted.
-pub fn bytes_of(alloc: Global, noted: &Json) -> Result<List<u8>, CaseError> {
+/// The bytes that are noted under a name.
+pub fn bytes_at(alloc: Global, case: &Json, name: &'static str) -> Result<List<u8>, CaseError> {
+    match case.get(name) {
+        Some(noted) => bytes_of(alloc, noted),
+        None => Err(CaseError::Expected(name)),
+    }
+}
+
+fn bytes_of(alloc: Global, noted: &Json) -> Result<List<u8>, CaseError> {
     let mut reader = Reader::new(alloc);
     let bytes = read_bytes(&mut reader, noted);
     reader.finish(bytes)

@@ -4,7 +4,7 @@
 //! stands twice, a list of objects stands for one object of all their members:
 //! `[{"b": true}, {"a": true}]`. Subschemas of no kind are noted as `{"subschemas": {}}`. A member
 //! of another name than a schema's parts is an extension.
-use case_notation::{CaseError, Reader, Row, given, number_of, say, text_of, truth_of};
+use case_notation::{CaseError, Reader, Row, count_of, given, number_of, say, text_of, truth_of};
 use schema_values::{
     ArrayParts, Definitions, InstanceType, InstanceTypes, Items, Json, LengthBounds, List, Member,
     NumberBounds, ObjectParts, Property, Schema, SchemaObject, Subschemas, Text,
@@ -289,13 +289,6 @@ fn read_count(reader: &mut Reader, noted: &Json) -> u32 {
     reader.or(count_of(noted), 0)
 }
 
-fn count_of(noted: &Json) -> Result<u32, CaseError> {
-    match u32::try_from(number_of(noted)?) {
-        Ok(count) => Ok(count),
-        Err(_) => Err(CaseError::Expected("a count of 32 bits")),
-    }
-}
-
 fn read_values(reader: &mut Reader, noted: &Json) -> List<Json> {
     let mut values = List::new(reader.alloc());
     for value in reader.items(noted) {
@@ -337,10 +330,12 @@ const TYPES: [(&str, InstanceType); 7] = [
 
 fn type_of(noted: &Json) -> Result<InstanceType, CaseError> {
     let word = text_of(noted)?;
-    match TYPES.iter().find(|(name, _)| word.equals_str(name)) {
-        Some((_, kind)) => Ok(*kind),
-        None => Err(CaseError::Expected("a type")),
+    for (name, kind) in &TYPES {
+        if word.equals_str(name) {
+            return Ok(*kind);
+        }
     }
+    Err(CaseError::Expected("a type"))
 }
 
 /// Types as they are noted, or null where there is none.
@@ -361,8 +356,10 @@ fn all_told(alloc: Global, kinds: &[InstanceType]) -> Result<Json, CaseError> {
 }
 
 fn type_told(alloc: Global, kind: InstanceType) -> Result<Json, CaseError> {
-    match TYPES.iter().find(|(_, other)| *other == kind) {
-        Some((name, _)) => say(alloc, name),
-        None => Ok(Json::Null),
+    for (name, other) in &TYPES {
+        if *other == kind {
+            return say(alloc, name);
+        }
     }
+    Ok(Json::Null)
 }

@@ -1,9 +1,9 @@
 //! Calls on values.
 use crate::answers::error_told;
-use crate::request_notation::bytes_of;
+use crate::request_notation::bytes_at;
 use case_notation::{
-    CaseError, Row, both, given, given_items, given_text, labelled, made_of, string_told, text_of,
-    text_told,
+    CaseError, Reader, Row, both, given, given_items, given_text, labelled, made_of, string_told,
+    text_of, text_told,
 };
 use schema_values::{
     Json, List, ReadError, Scratch, Text, ValueError, write_member, write_number_member,
@@ -22,7 +22,7 @@ pub fn noted_value(alloc: Global, case: &Json) -> Result<Json, CaseError> {
 
 /// What the text of a case is read as, `{"json": VALUE}`, or why it is not read.
 pub fn read(alloc: Global, case: &Json) -> Result<Json, CaseError> {
-    let bytes = bytes_of(alloc, given(case, "text")?)?;
+    let bytes = bytes_at(alloc, case, "text")?;
     read_told(alloc, bytes.as_slice())
 }
 
@@ -66,19 +66,21 @@ pub fn compact(alloc: Global, case: &Json) -> Result<Json, CaseError> {
 /// The compact text of an object with the text and the value of the case, and with how many characters
 /// the text has, written member by member.
 pub fn written(alloc: Global, case: &Json) -> Result<Json, CaseError> {
-    let (text, json) = (given_text(case, "text")?, given(case, "json")?);
-    let mut out = Text::with_capacity(alloc, 64)?;
-    write_members(alloc, text, json, &mut out)?;
-    Ok(Json::Text(out))
+    members_written(alloc, given_text(case, "text")?, given(case, "json")?)
 }
 
-fn write_members(alloc: Global, text: &Text, json: &Json, out: &mut Text) -> Result<(), CaseError> {
-    out.push('{')?;
-    write_text_member(0, "text", text.as_str(), out)?;
-    write_number_member(alloc, 1, "count", count_of(text)?, out)?;
-    write_member(alloc, 2, "json", json, out)?;
-    out.push('}')?;
-    Ok(())
+fn members_written(alloc: Global, text: &Text, json: &Json) -> Result<Json, CaseError> {
+    let mut reader = Reader::new(alloc);
+    let mut out = Text::new(alloc);
+    reader.or(out.push('{'), ());
+    reader.or(write_text_member(0, "text", text.as_str(), &mut out), ());
+    reader.or(
+        write_number_member(alloc, 1, "count", count_of(text), &mut out),
+        (),
+    );
+    reader.or(write_member(alloc, 2, "json", json, &mut out), ());
+    reader.or(out.push('}'), ());
+    reader.finish(Json::Text(out))
 }
 
 /// The value's text in lines.
@@ -100,14 +102,11 @@ pub fn read_pretty(alloc: Global, case: &Json) -> Result<Json, CaseError> {
 
 /// How many characters a text has.
 pub fn chars_count(case: &Json) -> Result<Json, CaseError> {
-    Ok(Json::Int(count_of(given_text(case, "text")?)?))
+    Ok(Json::Int(count_of(given_text(case, "text")?)))
 }
 
-fn count_of(text: &Text) -> Result<i128, CaseError> {
-    match i128::try_from(text.chars_count()) {
-        Ok(count) => Ok(count),
-        Err(_) => Err(CaseError::Expected("a count")),
-    }
+fn count_of(text: &Text) -> i128 {
+    text.chars_count() as i128
 }
 
 /// The value's member of a name, `{"json": MEMBER}`, or null.

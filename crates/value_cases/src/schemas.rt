@@ -5,8 +5,8 @@ use crate::case::value_of;
 use case_notation::{CaseError, Record, Row, checked_table, given_text, labelled, noted_desc};
 use openapi_values::{J2oasError, j2oas_schema, json_admits};
 use schema_values::{Json, Schema, Text};
-use std::alloc::Global;
-use typed_values::{Definition, DescTable, SchemaPlace, schema_of, schema_of_definition};
+use std::alloc::{AllocError, Global};
+use typed_values::{Definition, Desc, DescTable, SchemaPlace, schema_of, schema_of_definition};
 use written_schemas::{definition_schema, titled_schema};
 
 /// The schema of the descriptor of a case at its place, `plain`, `header` or `query`.
@@ -26,8 +26,18 @@ fn schema_in(
 ) -> Result<Json, CaseError>
     requires { TablePasses table.now }
 {
-    let desc = noted_desc(alloc, case)?;
-    written(alloc, &schema_of(alloc, table, &desc, place)?)
+    desc_written(alloc, table, &noted_desc(alloc, case)?, place)
+}
+
+fn desc_written(
+    alloc: Global,
+    table: &DescTable,
+    desc: &Desc,
+    place: SchemaPlace,
+) -> Result<Json, CaseError>
+    requires { TablePasses table.now }
+{
+    written(alloc, &schema_of(alloc, table, desc, place)?)
 }
 
 fn place_of(case: &Json) -> Result<SchemaPlace, CaseError> {
@@ -57,7 +67,11 @@ fn titled_in(alloc: Global, table: &DescTable, case: &Json, title: &Text) -> Res
     requires { TablePasses table.now }
 {
     let desc = noted_desc(alloc, case)?;
-    Ok(titled_schema(alloc, table, &desc, title)?)
+    json_told(titled_schema(alloc, table, &desc, title))
+}
+
+fn json_told(json: Result<Json, AllocError>) -> Result<Json, CaseError> {
+    Ok(json?)
 }
 
 /// The schema of the definition of a name.
@@ -70,7 +84,7 @@ fn definition_in(alloc: Global, table: &DescTable, name: &Text) -> Result<Json, 
     requires { TablePasses table.now }
 {
     match table.entry_named(name.as_str()) {
-        Some(definition) => Ok(definition_schema(alloc, table, definition)?),
+        Some(definition) => json_told(definition_schema(alloc, table, definition)),
         None => Err(CaseError::Expected("the name of a definition")),
     }
 }

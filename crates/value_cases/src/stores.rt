@@ -1,5 +1,7 @@
 //! Calls on a store of trees. A step is a list: its name, the name of a table, and what it takes.
-use case_notation::{CaseError, Row, given_items, items_of, labelled, say, tree_noted, tree_of};
+use case_notation::{
+    CaseError, Row, count_of, given_items, items_of, labelled, say, tree_noted, tree_of,
+};
 use schema_values::{Json, List, Text};
 use std::alloc::Global;
 use tree_store::Store;
@@ -28,8 +30,8 @@ fn step_told(alloc: Global, store: &mut Store, step: &Json) -> Result<Json, Case
         [Json::Text(name), Json::Text(table), Json::Text(key)] => {
             key_told(alloc, store, name.as_str(), table.as_str(), key.as_str())
         }
-        [Json::Text(name), Json::Text(table), Json::Int(count)] if name.equals_str("first") => {
-            let pairs = store.first(alloc, table.as_str(), count_of(*count)?)?;
+        [Json::Text(name), Json::Text(table), count] if name.equals_str("first") => {
+            let pairs = store.first(alloc, table.as_str(), count_of(count)?)?;
             page_told(alloc, pairs)
         }
         [Json::Text(name), Json::Text(table), Json::Text(key), value] => {
@@ -68,23 +70,16 @@ fn value_told(
     value: &Json,
 ) -> Result<Json, CaseError> {
     let (table, key) = (table.as_str(), key.as_str());
-    match (name, value) {
-        ("insert", tree) => {
-            let old = store.insert(table, key, tree_of(alloc, tree)?)?;
+    match name {
+        "insert" => {
+            let old = store.insert(table, key, tree_of(alloc, value)?)?;
             tree_told(alloc, old.as_ref())
         }
-        ("after", Json::Int(count)) => {
-            let pairs = store.after(alloc, table, key, count_of(*count)?)?;
+        "after" => {
+            let pairs = store.after(alloc, table, key, count_of(value)?)?;
             page_told(alloc, pairs)
         }
         _ => Err(CaseError::Expected("a step at a key with a value")),
-    }
-}
-
-fn count_of(count: i128) -> Result<u32, CaseError> {
-    match u32::try_from(count) {
-        Ok(count) => Ok(count),
-        Err(_) => Err(CaseError::Expected("a count of 32 bits")),
     }
 }
 

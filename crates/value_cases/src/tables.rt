@@ -2,7 +2,7 @@
 use crate::refusals::told;
 use api_types::add_all;
 use case_notation::{
-    CaseError, Row, definition_of, given, given_items, items_of, labelled, say, table_of, text_told,
+    CaseError, Reader, Row, definition_of, given, given_items, labelled, say, table_of, text_told,
 };
 use schema_values::{Json, List};
 use std::alloc::Global;
@@ -92,11 +92,12 @@ fn batch_told(alloc: Global, table: &mut DescTable, batch: &Json) -> Result<Json
 }
 
 fn definitions_of(alloc: Global, noted: &Json) -> Result<List<Definition>, CaseError> {
+    let mut reader = Reader::new(alloc);
     let mut definitions = List::new(alloc);
-    for noted in items_of(noted)? {
-        add_definition(alloc, noted, &mut definitions)?;
+    for noted in reader.items(noted) {
+        reader.or(add_definition(alloc, noted, &mut definitions), ());
     }
-    Ok(definitions)
+    reader.finish(definitions)
 }
 
 fn add_definition(

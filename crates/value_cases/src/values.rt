@@ -27,8 +27,15 @@ fn desc_told_in(alloc: Global, table: &DescTable, case: &Json) -> Result<Json, C
 
 /// The tree that the value of a case denotes, as its copy is noted, or the fault that is told.
 pub fn decode(alloc: Global, case: &Json) -> Result<Json, CaseError> {
+    value_decoded(alloc, &scope_of(alloc, case)?, case)
+}
+
+fn value_decoded(alloc: Global, scope: &Scope, case: &Json) -> Result<Json, CaseError>
+    requires table { TablePasses scope.now.table }
+    requires desc { DescPasses scope.now.table scope.now.desc }
+{
     match value_of(alloc, case)? {
-        Some(json) => tree_told(alloc, &scope_of(alloc, case)?, &json),
+        Some(json) => decoded_told(alloc, decode_json(alloc, &scope.table, &scope.desc, &json)),
         None => no_json(alloc),
     }
 }
@@ -37,40 +44,42 @@ fn no_json(alloc: Global) -> Result<Json, CaseError> {
     labelled(alloc, "fault", text_told(FaultKind::NotJson.text(alloc)))
 }
 
-fn tree_told(alloc: Global, scope: &Scope, json: &Json) -> Result<Json, CaseError>
-    requires table { TablePasses scope.now.table }
-    requires desc { DescPasses scope.now.table scope.now.desc }
-{
-    decoded_told(alloc, decode_json(alloc, &scope.table, &scope.desc, json))
-}
-
 /// What decoding answered: a tree, as its copy is noted, or a fault.
 pub fn decoded_told(alloc: Global, answer: Result<Tree, DecodeError>) -> Result<Json, CaseError> {
     match answer {
-        Ok(tree) => noted(alloc, &tree.copy(alloc)?),
+        Ok(tree) => copy_noted(alloc, &tree),
         Err(error) => refused(alloc, error),
     }
 }
 
-fn noted(alloc: Global, tree: &Tree) -> Result<Json, CaseError> {
-    labelled(alloc, "tree", tree_noted(alloc, tree))
+fn copy_noted(alloc: Global, tree: &Tree) -> Result<Json, CaseError> {
+    let copy = tree.copy(alloc)?;
+    labelled(alloc, "tree", tree_noted(alloc, &copy))
 }
 
 fn refused(alloc: Global, error: DecodeError) -> Result<Json, CaseError> {
     match error {
-        DecodeError::Fault(fault) => fault_told(alloc, &fault.copy(alloc)?),
+        DecodeError::Fault(fault) => copy_told(alloc, &fault),
         DecodeError::OutOfMemory => Err(CaseError::OutOfMemory),
     }
 }
 
-fn fault_told(alloc: Global, fault: &Fault) -> Result<Json, CaseError> {
-    labelled(alloc, "fault", text_told(fault.text(alloc)))
+fn copy_told(alloc: Global, fault: &Fault) -> Result<Json, CaseError> {
+    let copy = fault.copy(alloc)?;
+    labelled(alloc, "fault", text_told(copy.text(alloc)))
 }
 
 /// What a copy of the tree of the value of a case is written as, or the fault that is told.
 pub fn decode_and_encode(alloc: Global, case: &Json) -> Result<Json, CaseError> {
+    value_encoded(alloc, &scope_of(alloc, case)?, case)
+}
+
+fn value_encoded(alloc: Global, scope: &Scope, case: &Json) -> Result<Json, CaseError>
+    requires table { TablePasses scope.now.table }
+    requires desc { DescPasses scope.now.table scope.now.desc }
+{
     match value_of(alloc, case)? {
-        Some(json) => json_told(alloc, &scope_of(alloc, case)?, &json),
+        Some(json) => json_told(alloc, scope, &json),
         None => no_json(alloc),
     }
 }
@@ -80,12 +89,12 @@ fn json_told(alloc: Global, scope: &Scope, json: &Json) -> Result<Json, CaseErro
     requires desc { DescPasses scope.now.table scope.now.desc }
 {
     match decode_json(alloc, &scope.table, &scope.desc, json) {
-        Ok(tree) => written(alloc, scope, &tree.copy(alloc)?),
+        Ok(tree) => copy_written(alloc, scope, &tree),
         Err(error) => refused(alloc, error),
     }
 }
 
-/// What the tree of a case is written as, where it fits.
+/// What a copy of the tree of a case is written as, where it fits.
 pub fn encode(alloc: Global, case: &Json) -> Result<Json, CaseError> {
     tree_written(alloc, &scope_of(alloc, case)?, case)
 }
@@ -94,19 +103,17 @@ fn tree_written(alloc: Global, scope: &Scope, case: &Json) -> Result<Json, CaseE
     requires table { TablePasses scope.now.table }
     requires desc { DescPasses scope.now.table scope.now.desc }
 {
-    written(alloc, scope, &tree_of(alloc, given(case, "tree")?)?)
+    copy_written(alloc, scope, &tree_of(alloc, given(case, "tree")?)?)
 }
 
-fn written(alloc: Global, scope: &Scope, tree: &Tree) -> Result<Json, CaseError>
+fn copy_written(alloc: Global, scope: &Scope, tree: &Tree) -> Result<Json, CaseError>
     requires table { TablePasses scope.now.table }
     requires desc { DescPasses scope.now.table scope.now.desc }
 {
-    if fits(&scope.table, &scope.desc, tree) {
-        labelled(
-            alloc,
-            "json",
-            encode_json(alloc, &scope.table, &scope.desc, tree),
-        )
+    let copy = tree.copy(alloc)?;
+    if fits(&scope.table, &scope.desc, &copy) {
+        let json = encode_json(alloc, &scope.table, &scope.desc, &copy);
+        labelled(alloc, "json", json)
     } else {
         say(alloc, "no fit")
     }
