@@ -7,7 +7,7 @@ use crate::information::say_of;
 use crate::streams::{ends_of, written_told};
 use api_descriptions::{ApiDescription, WriteError};
 use api_respond::RouteHandler;
-use case_notation::{CaseError, Record, say, text_told};
+use case_notation::{CaseError, Reader, Record, say, text_told};
 use endpoint_notation::{text_or, version_at};
 use schema_values::Json;
 use std::alloc::Global;
@@ -34,13 +34,20 @@ pub fn document(
 {
     let title = text_or(alloc, case, "title", "sample")?;
     let version = version_at(alloc, case)?;
-    let mut definition = Box::new(alloc, api.openapi(alloc, title.as_str(), version)?)?;
-    say_of(alloc, case, &mut definition)?;
-    match wanted {
-        Wanted::Json => Ok(definition.json(alloc)?),
-        Wanted::Text => text_told(definition.text(alloc)),
-        Wanted::Written(sink) => end_told(alloc, definition.write(alloc, sink)),
-    }
+    let mut reader = Reader::new(alloc);
+    let told = {
+        let mut definition = api.openapi(alloc, title.as_str(), version)?;
+        say_of(&mut reader, case, &mut definition);
+        match wanted {
+            Wanted::Json => reader.or(definition.json(alloc), Json::Null),
+            Wanted::Text => reader.or(text_told(definition.text(alloc)), Json::Null),
+            Wanted::Written(sink) => {
+                let end = definition.write(alloc, sink);
+                reader.or(end_told(alloc, end), Json::Null)
+            }
+        }
+    };
+    reader.finish(told)
 }
 
 fn end_told(alloc: Global, end: Result<(), WriteError>) -> Result<Json, CaseError> {

@@ -4,23 +4,20 @@
 ghost use Rattle.std.specs.Prelude.{◌≡◌};
 
 use api_descriptions::OpenApiDefinition;
-use case_notation::{CaseError, Reader};
-use endpoint_notation::items_at;
+use case_notation::Reader;
 use schema_values::Json;
-use std::alloc::{AllocError, Global};
+use std::alloc::AllocError;
 
 /// Says what the case says of an API; nothing where it says nothing.
-pub fn say_of(
-    alloc: Global,
-    case: &Json,
-    definition: &mut OpenApiDefinition<'_>,
-) -> Result<(), CaseError>
+pub fn say_of(reader: &mut Reader, case: &Json, definition: &mut OpenApiDefinition<'_>)
     ensures { definition.new.api.now ≡ definition.old.api.now }
 {
-    let says = items_at(case, "says")?;
-    let mut reader = Reader::new(alloc);
+    let says = match case.get("says") {
+        Some(says) => reader.items(says),
+        None => &[],
+    };
     for noted in says {
-        let (name, text, url) = read_said(&mut reader, noted);
+        let (name, text, url) = read_said(reader, noted);
         let outcome = match name {
             "description" => definition.description(text),
             "terms_of_service" => definition.terms_of_service(text),
@@ -29,11 +26,10 @@ pub fn say_of(
             "contact_email" => definition.contact_email(text),
             "license_name" => definition.license_name(text),
             "license" => definition.license(text, url),
-            _ => unread(&mut reader),
+            _ => unread(reader),
         };
         reader.or(outcome, ());
     }
-    reader.finish(())
 }
 
 // The name of a call, and what it says: a licence its name and where it is found, any other call one text.

@@ -18,7 +18,10 @@ pub fn said_shown(
     let mut reader = Reader::new(alloc);
     let mut said = Vec::new(alloc);
     for endpoint in endpoints {
-        said.push(with_said(&mut reader, endpoint, says)?)?;
+        let endpoint = with_said(&mut reader, endpoint, says)?;
+        if said.push(endpoint).is_err() {
+            reader.keep(CaseError::OutOfMemory);
+        }
     }
     reader.finish(all_shown(alloc, &said)?)
 }
