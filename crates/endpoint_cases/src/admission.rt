@@ -2,7 +2,7 @@
 ghost use Rattle.api_endpoints.specs.Endpoints.{boxed};
 ghost use Rattle.api_descriptions.specs.Ready.{IsReady};
 
-use crate::documents::{Wanted, document};
+use crate::information::document_said;
 use api_descriptions::ApiDescription;
 use api_respond::RouteHandler;
 use body_reading::read_whole;
@@ -21,7 +21,7 @@ use std::collections::BTreeMap;
 pub fn admits(alloc: Global, case: &Json, api: &ApiDescription) -> Result<Json, CaseError>
     requires { IsReady (boxed ⟦<dyn RouteHandler as RouteHandler>⟧) api.now }
 {
-    let document = document(alloc, case, api, Wanted::Json)?;
+    let document = document_said(alloc, case, api)?;
     admitted(alloc, case, &document)
 }
 

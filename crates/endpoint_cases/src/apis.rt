@@ -3,8 +3,9 @@ ghost use Rattle.api_endpoints.specs.Endpoints.{boxed};
 ghost use Rattle.api_descriptions.specs.Ready.{IsReady};
 
 use crate::admission::admits;
-use crate::documents::{Wanted, document, written};
+use crate::documents::{document_text, written};
 use crate::exchanges::{Way, exchanged};
+use crate::information::document_said;
 use crate::parts::all_shown;
 use crate::registering::{Outcomes, errors_told, refusal_told};
 use crate::settings::settings_told;
@@ -110,8 +111,8 @@ fn over_api(
 {
     match call {
         ApiCall::Exchange(way) => exchanged(alloc, case, api, way),
-        ApiCall::Document => document(alloc, case, api, Wanted::Json),
-        ApiCall::Text => document(alloc, case, api, Wanted::Text),
+        ApiCall::Document => document_said(alloc, case, api),
+        ApiCall::Text => Ok(Json::Text(document_text(alloc, case, api)?)),
         ApiCall::Write => written(alloc, case, api),
         ApiCall::Admits => admits(alloc, case, api),
         ApiCall::Settings => settings_told(alloc, api),

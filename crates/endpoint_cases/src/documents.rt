@@ -1,72 +1,73 @@
-//! The document of an API at the version and the title of a case, with what is said of the API as a whole.
+//! The document of an API at the version and the title of a case.
 ghost use Rattle.api_endpoints.specs.Endpoints.{boxed};
 ghost use Rattle.api_descriptions.specs.Ready.{IsReady};
 
 use crate::ends::CaseSink;
-use crate::information::say_of;
 use crate::streams::{ends_of, written_told};
 use api_descriptions::{ApiDescription, WriteError};
 use api_respond::RouteHandler;
-use case_notation::{CaseError, Reader, Record, say, text_told};
+use case_notation::{CaseError, Record};
 use endpoint_notation::{text_or, version_at};
-use schema_values::Json;
+use schema_values::{Json, Text};
+use semver::Version;
 use std::alloc::Global;
 
-/// What is asked of a document.
+/// The title and the version of a document.
 #[derive(Drop)]
-pub enum Wanted<'a> {
-    /// The document itself.
-    Json,
-    /// Its text.
-    Text,
-    /// How it is written to this sink.
-    Written(&'a mut CaseSink),
+pub struct Head {
+    /// The title.
+    pub title: Text,
+    /// The version.
+    pub version: Version,
 }
 
-/// What is asked of the document of a case.
-pub fn document(
-    alloc: Global,
-    case: &Json,
-    api: &ApiDescription,
-    wanted: Wanted<'_>,
-) -> Result<Json, CaseError>
-    requires { IsReady (boxed ⟦<dyn RouteHandler as RouteHandler>⟧) api.now }
-{
+/// The title and the version of the document of a case.
+pub fn head_of(alloc: Global, case: &Json) -> Result<Head, CaseError> {
     let title = text_or(alloc, case, "title", "sample")?;
     let version = version_at(alloc, case)?;
-    let mut reader = Reader::new(alloc);
-    let told = {
-        let mut definition = api.openapi(alloc, title.as_str(), version)?;
-        say_of(&mut reader, case, &mut definition);
-        match wanted {
-            Wanted::Json => reader.or(definition.json(alloc), Json::Null),
-            Wanted::Text => reader.or(text_told(definition.text(alloc)), Json::Null),
-            Wanted::Written(sink) => {
-                let end = definition.write(alloc, sink);
-                reader.or(end_told(alloc, end), Json::Null)
-            }
-        }
-    };
-    reader.finish(told)
+    Ok(Head { title, version })
 }
 
-fn end_told(alloc: Global, end: Result<(), WriteError>) -> Result<Json, CaseError> {
-    match end {
-        Ok(()) => say(alloc, "Done"),
-        Err(WriteError::WriteFault) => say(alloc, "WriteFault"),
-        Err(WriteError::OutOfMemory) => Err(CaseError::OutOfMemory),
-    }
+/// The text of the document.
+pub fn document_text(alloc: Global, case: &Json, api: &ApiDescription) -> Result<Text, CaseError>
+    requires { IsReady (boxed ⟦<dyn RouteHandler as RouteHandler>⟧) api.now }
+{
+    let Head { title, version } = head_of(alloc, case)?;
+    let text = {
+        let definition = api.openapi(alloc, title.as_str(), version)?;
+        definition.text(alloc)
+    };
+    Ok(text?)
 }
 
 /// How the document is written to the sink of a case, and what the sink has taken then.
 pub fn written(alloc: Global, case: &Json, api: &ApiDescription) -> Result<Json, CaseError>
     requires { IsReady (boxed ⟦<dyn RouteHandler as RouteHandler>⟧) api.now }
 {
+    let document = Json::Text(document_text(alloc, case, api)?);
     let mut ends = ends_of(alloc, case)?;
-    let text = document(alloc, case, api, Wanted::Text)?;
-    let ended = document(alloc, case, api, Wanted::Written(&mut ends.sink));
+    let ended = write(alloc, case, api, &mut ends.sink)?;
     Record::new(alloc)
-        .put("ended", ended)
-        .put("written", written_told(alloc, ends.sink.taken(), &text))
+        .text("ended", ended)
+        .put("written", written_told(alloc, ends.sink.taken(), &document))
         .done()
+}
+
+fn write(
+    alloc: Global,
+    case: &Json,
+    api: &ApiDescription,
+    sink: &mut CaseSink,
+) -> Result<&'static str, CaseError>
+    requires { IsReady (boxed ⟦<dyn RouteHandler as RouteHandler>⟧) api.now }
+{
+    let Head { title, version } = head_of(alloc, case)?;
+    match api
+        .openapi(alloc, title.as_str(), version)?
+        .write(alloc, sink)
+    {
+        Ok(()) => Ok("Done"),
+        Err(WriteError::WriteFault) => Ok("WriteFault"),
+        Err(WriteError::OutOfMemory) => Ok("OutOfMemory"),
+    }
 }

@@ -1,35 +1,43 @@
 //! What a document says of an API as a whole. `"says"` is a list of the names of calls, each with what it says, in
 //! turn: `["description",TEXT]`, `["terms_of_service",TEXT]`, `["contact_name",TEXT]`, `["contact_url",TEXT]`,
 //! `["contact_email",TEXT]`, `["license_name",TEXT]` or `["license",TEXT,TEXT]`.
-ghost use Rattle.std.specs.Prelude.{◌≡◌};
+ghost use Rattle.api_endpoints.specs.Endpoints.{boxed};
+ghost use Rattle.api_descriptions.specs.Ready.{IsReady};
 
-use api_descriptions::OpenApiDefinition;
-use case_notation::Reader;
+use crate::documents::{Head, head_of};
+use api_descriptions::ApiDescription;
+use api_respond::RouteHandler;
+use case_notation::{CaseError, Reader};
+use endpoint_notation::items_at;
 use schema_values::Json;
-use std::alloc::AllocError;
+use std::alloc::{AllocError, Global};
 
-/// Says what the case says of an API; nothing where it says nothing.
-pub fn say_of(reader: &mut Reader, case: &Json, definition: &mut OpenApiDefinition<'_>)
-    ensures { definition.new.api.now ≡ definition.old.api.now }
+/// The document of an API of which this was said, if anything.
+pub fn document_said(alloc: Global, case: &Json, api: &ApiDescription) -> Result<Json, CaseError>
+    requires { IsReady (boxed ⟦<dyn RouteHandler as RouteHandler>⟧) api.now }
 {
-    let says = match case.get("says") {
-        Some(says) => reader.items(says),
-        None => &[],
+    let says = items_at(case, "says")?;
+    let Head { title, version } = head_of(alloc, case)?;
+    let mut reader = Reader::new(alloc);
+    let json = {
+        let mut definition = api.openapi(alloc, title.as_str(), version)?;
+        for noted in says {
+            let (name, text, url) = read_said(&mut reader, noted);
+            let outcome = match name {
+                "description" => definition.description(text),
+                "terms_of_service" => definition.terms_of_service(text),
+                "contact_name" => definition.contact_name(text),
+                "contact_url" => definition.contact_url(text),
+                "contact_email" => definition.contact_email(text),
+                "license_name" => definition.license_name(text),
+                "license" => definition.license(text, url),
+                _ => unread(&mut reader),
+            };
+            reader.or(outcome, ());
+        }
+        definition.json(alloc)
     };
-    for noted in says {
-        let (name, text, url) = read_said(reader, noted);
-        let outcome = match name {
-            "description" => definition.description(text),
-            "terms_of_service" => definition.terms_of_service(text),
-            "contact_name" => definition.contact_name(text),
-            "contact_url" => definition.contact_url(text),
-            "contact_email" => definition.contact_email(text),
-            "license_name" => definition.license_name(text),
-            "license" => definition.license(text, url),
-            _ => unread(reader),
-        };
-        reader.or(outcome, ());
-    }
+    reader.finish(json?)
 }
 
 // The name of a call, and what it says: a licence its name and where it is found, any other call one text.

@@ -6,33 +6,21 @@ use api_descriptions::ApiEndpoint;
 use case_notation::{CaseError, Reader, truth_of};
 use endpoint_notation::{items_at, u64_of};
 use schema_values::Json;
-use std::alloc::{AllocError, Global};
+use std::alloc::Global;
 
-/// The parts of endpoints of which this was said.
+/// The parts of the endpoint of a case, of which this was said in place of what is noted.
 pub fn said_shown(
     alloc: Global,
     case: &Json,
-    endpoints: Vec<ApiEndpoint>,
+    mut endpoints: Vec<ApiEndpoint>,
 ) -> Result<Json, CaseError> {
     let says = items_at(case, "says")?;
+    let Some(mut endpoint) = endpoints.pop() else {
+        return Err(CaseError::Expected("an endpoint that can be made"));
+    };
     let mut reader = Reader::new(alloc);
-    let mut said = Vec::new(alloc);
-    for endpoint in endpoints {
-        let endpoint = with_said(&mut reader, endpoint, says)?;
-        if said.push(endpoint).is_err() {
-            reader.keep(CaseError::OutOfMemory);
-        }
-    }
-    reader.finish(all_shown(alloc, &said)?)
-}
-
-fn with_said(
-    reader: &mut Reader,
-    mut endpoint: ApiEndpoint,
-    says: &[Json],
-) -> Result<ApiEndpoint, AllocError> {
     for one in says {
-        let (name, said) = read_said(reader, one);
+        let (name, said) = read_said(&mut reader, one);
         endpoint = match name {
             "summary" => endpoint.summary(reader.text(said)),
             "description" => endpoint.description(reader.text(said)),
@@ -48,7 +36,8 @@ fn with_said(
             }
         };
     }
-    Ok(endpoint)
+    endpoints.push(endpoint)?;
+    reader.finish(all_shown(alloc, &endpoints)?)
 }
 
 // The name of a call, and what it says.
