@@ -56,9 +56,8 @@ fn sample_config(alloc: Global) -> Result<ToolConfig, AllocError>
 // allowed.
 fn run_sample(rt: &HostRuntime, words: &[String]) -> Result<ToolStatus, NewEndpointError> {
     let alloc = rt.alloc();
-    let sample = sample_api::endpoints(alloc)?;
     let mut endpoints = Vec::new(alloc);
-    for endpoint in sample {
+    for endpoint in sample_api::endpoints(alloc)? {
         let SampleEndpoint {
             handler,
             operation_id,
@@ -68,7 +67,9 @@ fn run_sample(rt: &HostRuntime, words: &[String]) -> Result<ToolStatus, NewEndpo
             body_limit,
             visible,
         } = endpoint;
-        let handler = Box::new(alloc, handler).map_err(AllocError::from)?;
+        let Ok(handler) = Box::new(alloc, handler) else {
+            return Err(NewEndpointError::OutOfMemory);
+        };
         let mut made = ApiEndpoint::new(
             alloc,
             operation_id,
@@ -80,7 +81,9 @@ fn run_sample(rt: &HostRuntime, words: &[String]) -> Result<ToolStatus, NewEndpo
         )?;
         made.request_body_max_bytes = body_limit;
         made.visible = visible;
-        endpoints.push(made).map_err(AllocError::from)?;
+        if endpoints.push(made).is_err() {
+            return Err(NewEndpointError::OutOfMemory);
+        }
     }
     Ok(run_over(rt, words, endpoints)?)
 }

@@ -1,8 +1,9 @@
 //! Whether the document of an API admits the request of a case.
+ghost use Rattle.schema_values.specs.Sound.{IsSound};
 ghost use Rattle.api_endpoints.specs.Endpoints.{boxed};
 ghost use Rattle.api_descriptions.specs.Ready.{IsReady};
 
-use crate::information::document_said;
+use crate::documents::document;
 use api_descriptions::ApiDescription;
 use api_respond::RouteHandler;
 use body_reading::read_whole;
@@ -21,14 +22,13 @@ use std::collections::BTreeMap;
 pub fn admits(alloc: Global, case: &Json, api: &ApiDescription) -> Result<Json, CaseError>
     requires { IsReady (boxed ⟦<dyn RouteHandler as RouteHandler>⟧) api.now }
 {
-    let document = document_said(alloc, case, api)?;
+    let document = document(alloc, case, api)?;
     admitted(alloc, case, &document)
 }
 
-fn admitted(alloc: Global, case: &Json, document: &Json) -> Result<Json, CaseError> {
-    if !document.sound() {
-        return Err(CaseError::Expected("a document of sound JSON"));
-    }
+fn admitted(alloc: Global, case: &Json, document: &Json) -> Result<Json, CaseError>
+    requires { IsSound document.now }
+{
     let noted = request_at(case)?;
     let parts = Box::new(alloc, parts_of(alloc, case, noted)?)?;
     let request = wire_request(alloc, noted, &parts)?;
@@ -36,7 +36,7 @@ fn admitted(alloc: Global, case: &Json, document: &Json) -> Result<Json, CaseErr
     Ok(Json::Bool(check_admits(alloc, document, template, method, &request)?))
 }
 
-// A copy of the request as a document sees it.
+// The request as a document sees it.
 fn wire_request(
     alloc: Global,
     noted: &Json,
@@ -50,8 +50,7 @@ fn wire_request(
         headers: read_lines(&mut reader, parts.info.headers()),
         body: read_content(&mut reader, noted),
     };
-    let request = Box::new(alloc, reader.finish(request)?)?;
-    Ok(Box::new(alloc, request.copy(alloc)?)?)
+    Ok(Box::new(alloc, reader.finish(request)?)?)
 }
 
 fn read_query(reader: &mut Reader, parts: &RequestParts) -> Text {

@@ -1,17 +1,16 @@
 //! What the calls of cases answer.
-use crate::apis::{ApiCall, Asked};
+use crate::apis::ApiCall;
 use crate::calls::Call;
-use crate::exchanges::Way;
-use crate::out_of_memory::want_told;
+use crate::said::said_shown;
 use crate::serving::served;
 use crate::shipped::config_told;
 use crate::sources::over_endpoints;
 use case_notation::{AnswersCases, CaseError, given, text_of};
-use schema_values::Json;
+use schema_values::{Json, Text};
 use std::alloc::Global;
 
 /// The names that members of a case have.
-const MEMBERS: [&str; 26] = [
+const MEMBERS: [&str; 23] = [
     "case",
     "like",
     "call",
@@ -33,9 +32,6 @@ const MEMBERS: [&str; 26] = [
     "lines",
     "limits",
     "key",
-    "source",
-    "sink",
-    "at_once",
     "failing_reads",
     "failing_writes",
 ];
@@ -50,35 +46,43 @@ impl AnswersCases for EndpointCases {
 
     fn answer(&self, alloc: Global, case: &Json) -> Result<Json, CaseError> {
         match text_of(given(case, "call")?)?.as_str() {
+            "new" => over_endpoints(alloc, case, Call::New),
+            "said" => said_shown(alloc, case),
+            "register" => over_endpoints(alloc, case, Call::Register),
+            "endpoints" => over_endpoints(alloc, case, Call::Endpoints),
+            "errors" => over_endpoints(alloc, case, Call::Errors),
             "run" => ran(alloc, case),
             "serve" => served(alloc, case),
             "config" => config_told(alloc),
-            "out_of_memory" => want_told(alloc),
-            name => over_endpoints(alloc, case, call_of(name)?),
+            call => over_api(alloc, case, call),
         }
     }
 }
 
-fn call_of(name: &str) -> Result<Call<'_>, CaseError> {
-    match name {
-        "new" => Ok(Call::New),
-        "said" => Ok(Call::Said),
-        "register" => Ok(Call::Registered(Asked::Told)),
-        "endpoints" => Ok(Call::Registered(Asked::Endpoints)),
-        "errors" => Ok(Call::Registered(Asked::Errors)),
-        "exchange" => Ok(Call::OverApi(ApiCall::Exchange(Way::Body))),
-        "exchange_from" => Ok(Call::OverApi(ApiCall::Exchange(Way::Source))),
-        "document" | "document_said" => Ok(Call::OverApi(ApiCall::Document)),
-        "text" => Ok(Call::OverApi(ApiCall::Text)),
-        "write" => Ok(Call::OverApi(ApiCall::Write)),
-        "admits" => Ok(Call::OverApi(ApiCall::Admits)),
-        "settings" => Ok(Call::OverApi(ApiCall::Settings)),
-        _ => Err(CaseError::Expected("the name of a call")),
-    }
+fn over_api(alloc: Global, case: &Json, call: &str) -> Result<Json, CaseError> {
+    let call = match call {
+        "exchange" => ApiCall::Exchange,
+        "exchange_from" => ApiCall::ExchangeFrom,
+        "document" => ApiCall::Document,
+        "document_said" => ApiCall::DocumentSaid,
+        "text" => ApiCall::Text,
+        "write" => ApiCall::Write,
+        "admits" => ApiCall::Admits,
+        _ => return Err(CaseError::Expected("the name of a call")),
+    };
+    over_endpoints(alloc, case, Call::OverApi(call))
 }
 
 // A run, of which the document of the endpoints is known.
 fn ran(alloc: Global, case: &Json) -> Result<Json, CaseError> {
-    let document = over_endpoints(alloc, case, Call::OverApi(ApiCall::Text))?;
-    over_endpoints(alloc, case, Call::Run(&document))
+    let document = text_over(alloc, case)?;
+    over_endpoints(alloc, case, Call::Run(document.as_str()))
+}
+
+// The text of the document of the endpoints, or an empty one where they have none.
+fn text_over(alloc: Global, case: &Json) -> Result<Text, CaseError> {
+    match over_endpoints(alloc, case, Call::OverApi(ApiCall::Text))? {
+        Json::Text(document) => Ok(document),
+        _ => Ok(Text::new(alloc)),
+    }
 }

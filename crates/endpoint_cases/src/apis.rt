@@ -1,17 +1,17 @@
-//! Calls over an API of the endpoints of a case.
+//! Calls over an API of the endpoints of a case: of all, where they may all be registered, else the first refusal is
+//! told; or, with `"one_by_one"`, of those that may be.
 ghost use Rattle.api_endpoints.specs.Endpoints.{boxed};
 ghost use Rattle.api_descriptions.specs.Ready.{IsReady};
 
 use crate::admission::admits;
-use crate::documents::{document_text, written};
+use crate::documents::{document, document_text, written};
 use crate::exchanges::{Way, exchanged};
 use crate::information::document_said;
 use crate::parts::all_shown;
-use crate::registering::{Outcomes, errors_told, refusal_told};
-use crate::settings::settings_told;
-use api_descriptions::{ApiDescription, ApiEndpoint, RegisterError};
+use crate::registering::{outcome_told, refusal_told};
+use api_descriptions::{ApiDescription, ApiEndpoint};
 use api_respond::RouteHandler;
-use case_notation::{CaseError, labelled};
+use case_notation::{CaseError, Row, labelled};
 use endpoint_notation::settings_at;
 use schema_values::Json;
 use std::alloc::Global;
@@ -19,18 +19,20 @@ use std::alloc::Global;
 /// A call over an API.
 #[derive(Clone, Copy)]
 pub enum ApiCall {
-    /// What comes of a request whose body is given so.
-    Exchange(Way),
+    /// What comes of a request with its body.
+    Exchange,
+    /// What comes of a request whose body is a source.
+    ExchangeFrom,
     /// The document.
     Document,
+    /// The document, where something was said of the API as a whole.
+    DocumentSaid,
     /// The text of the document.
     Text,
     /// How the document is written to a sink.
     Write,
     /// Whether the document admits a request.
     Admits,
-    /// What is configured of tags.
-    Settings,
 }
 
 /// What is asked behind the last endpoint that was registered.
@@ -40,10 +42,21 @@ pub enum Asked {
     Told,
     /// The parts of those that the API then has.
     Endpoints,
-    /// The refusals together.
-    Errors,
     /// A call over the API.
-    OverApi(ApiCall),
+    Call(ApiCall),
+}
+
+/// What a call answers over an API of endpoints.
+pub fn over_accepted(
+    alloc: Global,
+    case: &Json,
+    call: ApiCall,
+    endpoints: Vec<ApiEndpoint>,
+) -> Result<Json, CaseError> {
+    match case.get("one_by_one") {
+        Some(_) => over_registered(alloc, case, Asked::Call(call), endpoints),
+        None => over_all(alloc, case, call, endpoints),
+    }
 }
 
 /// What is answered over endpoints that are registered one by one.
@@ -54,12 +67,15 @@ pub fn over_registered(
     endpoints: Vec<ApiEndpoint>,
 ) -> Result<Json, CaseError> {
     let settings = settings_at(alloc, case)?;
-    let mut outcomes = Outcomes::new(alloc);
+    let mut told = Row::new(alloc);
     let mut api = ApiDescription::new(alloc).tag_config(settings);
     for endpoint in endpoints {
-        outcomes.add(api.register(endpoint));
+        told.push(outcome_told(alloc, api.register(endpoint)));
     }
-    asked_of(alloc, case, asked, &api, outcomes)
+    match told.done() {
+        Ok(told) => asked_of(alloc, case, asked, &api, told),
+        Err(error) => Err(error),
+    }
 }
 
 // What is answered behind the last of them, where none failed for want of memory.
@@ -68,26 +84,18 @@ fn asked_of(
     case: &Json,
     asked: Asked,
     api: &ApiDescription,
-    outcomes: Outcomes,
+    told: Json,
 ) -> Result<Json, CaseError>
     requires { IsReady (boxed ⟦<dyn RouteHandler as RouteHandler>⟧) api.now }
 {
-    let Outcomes {
-        reader,
-        told,
-        refusals,
-    } = outcomes;
-    reader.finish(())?;
     match asked {
-        Asked::Told => Ok(Json::List(told)),
+        Asked::Told => Ok(told),
         Asked::Endpoints => all_shown(alloc, api.endpoints()),
-        Asked::Errors => errors_told(alloc, refusals),
-        Asked::OverApi(call) => over_api(alloc, case, call, api),
+        Asked::Call(call) => over_api(alloc, case, call, api),
     }
 }
 
-/// What a call answers over an API of all endpoints.
-pub fn over_all(
+fn over_all(
     alloc: Global,
     case: &Json,
     call: ApiCall,
@@ -96,7 +104,6 @@ pub fn over_all(
     let settings = settings_at(alloc, case)?;
     match ApiDescription::of_endpoints(alloc, settings, endpoints) {
         Ok(api) => over_api(alloc, case, call, &api),
-        Err(RegisterError::OutOfMemory) => Err(CaseError::OutOfMemory),
         Err(error) => labelled(alloc, "refused", refusal_told(alloc, &error)),
     }
 }
@@ -110,11 +117,12 @@ fn over_api(
     requires { IsReady (boxed ⟦<dyn RouteHandler as RouteHandler>⟧) api.now }
 {
     match call {
-        ApiCall::Exchange(way) => exchanged(alloc, case, api, way),
-        ApiCall::Document => document_said(alloc, case, api),
+        ApiCall::Exchange => exchanged(alloc, case, api, Way::Body),
+        ApiCall::ExchangeFrom => exchanged(alloc, case, api, Way::Source),
+        ApiCall::Document => document(alloc, case, api),
+        ApiCall::DocumentSaid => document_said(alloc, case, api),
         ApiCall::Text => Ok(Json::Text(document_text(alloc, case, api)?)),
         ApiCall::Write => written(alloc, case, api),
         ApiCall::Admits => admits(alloc, case, api),
-        ApiCall::Settings => settings_told(alloc, api),
     }
 }

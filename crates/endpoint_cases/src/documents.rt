@@ -1,13 +1,15 @@
 //! The document of an API at the version and the title of a case.
+ghost use Rattle.std.specs.Prelude.{IfOk};
+ghost use Rattle.schema_values.specs.Sound.{IsSound};
 ghost use Rattle.api_endpoints.specs.Endpoints.{boxed};
 ghost use Rattle.api_descriptions.specs.Ready.{IsReady};
 
-use crate::ends::CaseSink;
-use crate::streams::{ends_of, written_told};
+use crate::streams::{read_sink, written_told};
 use api_descriptions::{ApiDescription, WriteError};
 use api_respond::RouteHandler;
-use case_notation::{CaseError, Record};
+use case_notation::{CaseError, Reader, Record};
 use endpoint_notation::{text_or, version_at};
+use line_session::MemorySink;
 use schema_values::{Json, Text};
 use semver::Version;
 use std::alloc::Global;
@@ -28,6 +30,19 @@ pub fn head_of(alloc: Global, case: &Json) -> Result<Head, CaseError> {
     Ok(Head { title, version })
 }
 
+/// The document.
+pub fn document(alloc: Global, case: &Json, api: &ApiDescription) -> Result<Json, CaseError>
+    requires { IsReady (boxed ⟦<dyn RouteHandler as RouteHandler>⟧) api.now }
+    ensures { IfOk result IsSound }
+{
+    let Head { title, version } = head_of(alloc, case)?;
+    let json = {
+        let definition = api.openapi(alloc, title.as_str(), version)?;
+        definition.json(alloc)
+    };
+    Ok(json?)
+}
+
 /// The text of the document.
 pub fn document_text(alloc: Global, case: &Json, api: &ApiDescription) -> Result<Text, CaseError>
     requires { IsReady (boxed ⟦<dyn RouteHandler as RouteHandler>⟧) api.now }
@@ -40,24 +55,33 @@ pub fn document_text(alloc: Global, case: &Json, api: &ApiDescription) -> Result
     Ok(text?)
 }
 
-/// How the document is written to the sink of a case, and what the sink has taken then.
+/// How the document is written to a sink of which some calls fail, and what the sink has taken then.
 pub fn written(alloc: Global, case: &Json, api: &ApiDescription) -> Result<Json, CaseError>
     requires { IsReady (boxed ⟦<dyn RouteHandler as RouteHandler>⟧) api.now }
 {
-    let document = Json::Text(document_text(alloc, case, api)?);
-    let mut ends = ends_of(alloc, case)?;
-    let ended = write(alloc, case, api, &mut ends.sink)?;
+    let document = document_text(alloc, case, api)?;
+    let mut sink = sink_of(alloc, case)?;
+    let ended = write(alloc, case, api, &mut sink)?;
     Record::new(alloc)
         .text("ended", ended)
-        .put("written", written_told(alloc, ends.sink.taken(), &document))
+        .put(
+            "written",
+            written_told(alloc, sink.taken(), document.as_str()),
+        )
         .done()
+}
+
+fn sink_of(alloc: Global, case: &Json) -> Result<MemorySink, CaseError> {
+    let mut reader = Reader::new(alloc);
+    let sink = read_sink(&mut reader, case);
+    reader.finish(sink)
 }
 
 fn write(
     alloc: Global,
     case: &Json,
     api: &ApiDescription,
-    sink: &mut CaseSink,
+    sink: &mut MemorySink,
 ) -> Result<&'static str, CaseError>
     requires { IsReady (boxed ⟦<dyn RouteHandler as RouteHandler>⟧) api.now }
 {
@@ -68,6 +92,6 @@ fn write(
     {
         Ok(()) => Ok("Done"),
         Err(WriteError::WriteFault) => Ok("WriteFault"),
-        Err(WriteError::OutOfMemory) => Ok("OutOfMemory"),
+        Err(WriteError::OutOfMemory) => Err(CaseError::OutOfMemory),
     }
 }

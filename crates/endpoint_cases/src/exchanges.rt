@@ -11,7 +11,7 @@ use crate::responses::with_response;
 use crate::stores::store_of;
 use api_descriptions::{ApiDescription, Exchange, ExchangeError};
 use api_respond::RouteHandler;
-use case_notation::{CaseError, Reader, Record, say};
+use case_notation::{CaseError, Record, say};
 use endpoint_notation::{Reading, args_told, body_of, parts_of, reading_of, request_at};
 use handler_shapes::ArgList;
 use http_bodies::{Body, DumpError, http_dump_body};
@@ -32,14 +32,6 @@ pub enum Way {
     Source,
 }
 
-// A request with its body, and the store that it comes to.
-#[derive(Drop)]
-struct Sent {
-    request: RequestParts,
-    source: OwnSource,
-    store: Store,
-}
-
 /// What comes of the request of a case.
 pub fn exchanged(
     alloc: Global,
@@ -49,25 +41,11 @@ pub fn exchanged(
 ) -> Result<Json, CaseError>
     requires { IsReady (boxed ⟦<dyn RouteHandler as RouteHandler>⟧) api.now }
 {
-    let reading = reading_of(alloc, case)?;
-    let mut sent = sent_of(alloc, case)?;
-    let outcome = outcome_of(alloc, api, way, reading, &mut sent);
-    outcome_told(alloc, outcome, reading.calls)
-        .put("unread", unread_told(alloc, &mut sent.source.body))
+    let body = body_of(alloc, request_at(case)?)?;
+    let mut source = OwnSource { body };
+    let told = outcome_of(alloc, case, api, way, &mut source)?;
+    told.put("unread", unread_told(alloc, &mut source.body))
         .done()
-}
-
-fn sent_of(alloc: Global, case: &Json) -> Result<Box<Sent>, CaseError> {
-    let noted = request_at(case)?;
-    let request = parts_of(alloc, case, noted)?;
-    let mut reader = Reader::new(alloc);
-    let body = reader.or(body_of(alloc, noted), Body::empty());
-    let sent = Sent {
-        request,
-        source: OwnSource { body },
-        store: reader.or(store_of(alloc, case), Store::new(alloc)),
-    };
-    Ok(Box::new(alloc, reader.finish(sent)?)?)
 }
 
 fn unread_told(alloc: Global, body: &mut Body) -> Result<Json, CaseError> {
@@ -81,10 +59,28 @@ fn unread_told(alloc: Global, body: &mut Body) -> Result<Json, CaseError> {
 
 fn outcome_of(
     alloc: Global,
+    case: &Json,
+    api: &ApiDescription,
+    way: Way,
+    source: &mut OwnSource,
+) -> Result<Record, CaseError>
+    requires { IsReady (boxed ⟦<dyn RouteHandler as RouteHandler>⟧) api.now }
+{
+    let reading = reading_of(alloc, case)?;
+    let mut store = store_of(alloc, case)?;
+    let request = Box::new(alloc, parts_of(alloc, case, request_at(case)?)?)?;
+    let outcome = outcome_by(alloc, api, way, reading, &mut store, &request, source);
+    outcome_told(alloc, outcome, reading.calls)
+}
+
+fn outcome_by(
+    alloc: Global,
     api: &ApiDescription,
     way: Way,
     reading: Reading,
-    sent: &mut Sent,
+    store: &mut Store,
+    request: &RequestParts,
+    source: &mut OwnSource,
 ) -> Result<Exchange, ExchangeError>
     requires ready { IsReady (boxed ⟦<dyn RouteHandler as RouteHandler>⟧) api.now }
     requires budget { reading.budget < 2 ^ 64 - 1 }
@@ -92,16 +88,17 @@ fn outcome_of(
     let budget = reading.budget;
     let config = config_of(reading.limit);
     let room = &mut Scratch::new(alloc);
-    let (request, store) = (&sent.request, &mut sent.store);
     match way {
-        Way::Body => {
-            let body = &mut sent.source.body;
-            api.exchange(alloc, room, store, request, body, budget, &config)
-        }
-        Way::Source => {
-            let source = &mut sent.source;
-            api.exchange_from(alloc, room, store, request, source, budget, &config)
-        }
+        Way::Body => api.exchange(
+            alloc,
+            room,
+            store,
+            request,
+            &mut source.body,
+            budget,
+            &config,
+        ),
+        Way::Source => api.exchange_from(alloc, room, store, request, source, budget, &config),
     }
 }
 
@@ -112,9 +109,13 @@ fn config_of(limit: u64) -> ServerConfig {
     }
 }
 
-fn outcome_told(alloc: Global, outcome: Result<Exchange, ExchangeError>, calls: u64) -> Record {
+fn outcome_told(
+    alloc: Global,
+    outcome: Result<Exchange, ExchangeError>,
+    calls: u64,
+) -> Result<Record, CaseError> {
     match outcome {
-        Ok(exchange) => exchange_told(alloc, exchange, calls),
+        Ok(exchange) => Ok(exchange_told(alloc, exchange, calls)),
         Err(error) => error_told(alloc, error),
     }
 }
@@ -147,24 +148,26 @@ fn refused_told(alloc: Global, fault: &Fault, response: Response) -> Record {
     with_response(alloc, told, response)
 }
 
-fn error_told(alloc: Global, error: ExchangeError) -> Record {
+fn error_told(alloc: Global, error: ExchangeError) -> Result<Record, CaseError> {
     let told = Record::new(alloc);
     match error {
-        ExchangeError::BadRequestId => told.text("outcome", "bad-request-id"),
-        ExchangeError::NoSuchOperation => told.text("outcome", "no-such-operation"),
-        ExchangeError::WrongVariables => told.text("outcome", "wrong-variables"),
+        ExchangeError::BadRequestId => Ok(told.text("outcome", "bad-request-id")),
+        ExchangeError::NoSuchOperation => Ok(told.text("outcome", "no-such-operation")),
+        ExchangeError::WrongVariables => Ok(told.text("outcome", "wrong-variables")),
         ExchangeError::BodyFault(response) => {
-            with_response(alloc, told.text("outcome", "body-fault"), response)
+            let told = told.text("outcome", "body-fault");
+            Ok(with_response(alloc, told, response))
         }
         ExchangeError::BodyTooLarge(sum, response) => {
             let told = told
                 .text("outcome", "body-too-large")
                 .number("sum", sum.into());
-            with_response(alloc, told, response)
+            Ok(with_response(alloc, told, response))
         }
-        ExchangeError::FrameBudget(count) => told
-            .text("outcome", "frame-budget")
-            .number("count", count.into()),
-        ExchangeError::OutOfMemory => told.put("outcome", Err(CaseError::OutOfMemory)),
+        ExchangeError::FrameBudget(count) => Ok(
+            told.text("outcome", "frame-budget")
+                .number("count", count.into()),
+        ),
+        ExchangeError::OutOfMemory => Err(CaseError::OutOfMemory),
     }
 }

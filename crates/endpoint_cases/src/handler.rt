@@ -29,21 +29,18 @@ pub struct NotedHandler {
     ghost defined: { IsTrue library → IsDefined shape.value },
 }
 
-/// The handler of the shape that is noted, which does this, or gives back its argument.
+/// The handler of the shape that is noted, which does this.
 pub fn handler_of(
     alloc: Global,
     noted: &Json,
-    does: Option<&Json>,
+    does: &Json,
 ) -> Result<Box<NotedHandler>, CaseError> {
     let mut shape = Box::new(alloc, shape_of(alloc, noted)?)?;
     let library = set_errors(alloc, noted, &mut shape)?;
     if !is_codeless_right(&shape.response) {
         return Err(CaseError::Expected("a code, or content of any kind"));
     }
-    let does = match does {
-        Some(does) => does.copy(alloc)?,
-        None => Json::Null,
-    };
+    let does = does.copy(alloc)?;
     let handler = NotedHandler {
         shape,
         library,

@@ -12,7 +12,7 @@ use endpoint_notation::items_at;
 use schema_values::Json;
 use std::alloc::{AllocError, Global};
 
-/// The document of an API of which this was said, if anything.
+/// The document of an API of which this was said.
 pub fn document_said(alloc: Global, case: &Json, api: &ApiDescription) -> Result<Json, CaseError>
     requires { IsReady (boxed ⟦<dyn RouteHandler as RouteHandler>⟧) api.now }
 {

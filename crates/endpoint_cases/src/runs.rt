@@ -1,11 +1,11 @@
 //! Runs of the tool over the endpoints of a case. `"words"` are the words of the command line, `session` and the
 //! version of the case where they are left out.
-use crate::limits::Limits;
+use crate::limits::{Limits, read_limits};
 use crate::stores::{store_of, tree_at};
-use crate::streams::{Ends, read_ends, written_told};
+use crate::streams::{read_sink, read_source, written_told};
 use api_descriptions::{ApiEndpoint, TagConfig};
 use case_notation::{CaseError, Reader, Record};
-use contract_tool::{ToolConfig, ToolStatus, run};
+use contract_tool::{MemorySink, MemorySource, ToolConfig, ToolStatus, run};
 use endpoint_notation::{read_text_or, settings_at};
 use request_parts::ServerConfig;
 use sample_api::server_config;
@@ -18,7 +18,9 @@ use tree_store::Store;
 struct Setting {
     title: Text,
     words: Vec<String>,
-    ends: Ends,
+    limits: Limits,
+    source: MemorySource,
+    sink: MemorySink,
     store: Store,
 }
 
@@ -27,10 +29,17 @@ fn setting_of(alloc: Global, case: &Json) -> Result<Box<Setting>, CaseError> {
     let setting = Setting {
         title: read_text_or(&mut reader, case, "title", "sample"),
         words: read_words(&mut reader, case),
-        ends: read_ends(&mut reader, case),
-        store: reader.or(store_of(alloc, case), Store::new(alloc)),
+        limits: read_limits(&mut reader, case),
+        source: read_source(&mut reader, case),
+        sink: read_sink(&mut reader, case),
+        store: read_store(&mut reader, case),
     };
     Ok(Box::new(alloc, reader.finish(setting)?)?)
+}
+
+fn read_store(reader: &mut Reader, case: &Json) -> Store {
+    let alloc = reader.alloc();
+    reader.or(store_of(alloc, case), Store::new(alloc))
 }
 
 fn read_words(reader: &mut Reader, case: &Json) -> Vec<String> {
@@ -61,12 +70,21 @@ pub fn run_told(
     alloc: Global,
     case: &Json,
     endpoints: Vec<ApiEndpoint>,
-    document: &Json,
+    document: &str,
 ) -> Result<Json, CaseError> {
     let tags = settings_at(alloc, case)?;
     let mut setting = setting_of(alloc, case)?;
     let status = run_in(alloc, endpoints, tags, &mut setting)?;
-    ran_told(alloc, case, &setting, &status, document)
+    let told = status_told(alloc, &status)?.put(
+        "written",
+        written_told(alloc, setting.sink.taken(), document),
+    );
+    match case.get("key") {
+        Some(key) => told
+            .put("stored", tree_at(alloc, &setting.store, key))
+            .done(),
+        None => told.done(),
+    }
 }
 
 fn run_in(
@@ -75,13 +93,12 @@ fn run_in(
     tags: TagConfig,
     setting: &mut Setting,
 ) -> Result<ToolStatus, AllocError> {
-    let limits = setting.ends.limits;
     let config = ToolConfig {
         title: setting.title.copy(alloc)?,
-        server: server_of(limits),
-        frame_budget: u64::from(limits.frames),
-        longest_line: u64::from(limits.line),
-        most_input: u64::from(limits.input),
+        server: server_of(setting.limits),
+        frame_budget: u64::from(setting.limits.frames),
+        longest_line: u64::from(setting.limits.line),
+        most_input: u64::from(setting.limits.input),
     };
     Ok(run(
         alloc,
@@ -90,8 +107,8 @@ fn run_in(
         tags,
         &mut setting.store,
         &config,
-        &mut setting.ends.source,
-        &mut setting.ends.sink,
+        &mut setting.source,
+        &mut setting.sink,
     ))
 }
 
@@ -102,31 +119,14 @@ fn server_of(limits: Limits) -> ServerConfig {
     }
 }
 
-fn ran_told(
-    alloc: Global,
-    case: &Json,
-    setting: &Setting,
-    status: &ToolStatus,
-    document: &Json,
-) -> Result<Json, CaseError> {
-    let written = setting.ends.sink.taken();
-    let told = status_told(alloc, status)?.put("written", written_told(alloc, written, document));
-    match case.get("key") {
-        Some(key) => told
-            .put("stored", tree_at(alloc, &setting.store, key))
-            .done(),
-        None => told.done(),
-    }
-}
-
-/// The code of a copy of a status, and its text where it is no success.
-pub fn status_told(alloc: Global, status: &ToolStatus) -> Result<Record, CaseError> {
-    let code = status.copy(alloc)?.code();
+// The code of a copy of a status, and its text where it is no success.
+fn status_told(alloc: Global, status: &ToolStatus) -> Result<Record, CaseError> {
+    let status = status.copy(alloc)?;
     let text = format!(in alloc; "{status}")?;
-    let told = Record::new(alloc).number("status", code.into());
-    Ok(if text.is_empty() {
-        told
+    let told = Record::new(alloc).number("status", status.code().into());
+    if text.is_empty() {
+        Ok(told)
     } else {
-        told.text("text", text.as_str())
-    })
+        Ok(told.text("text", text.as_str()))
+    }
 }

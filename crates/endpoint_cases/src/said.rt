@@ -1,21 +1,30 @@
 //! What is said of the endpoint under `"endpoint"`, call by call. `"says"` is a list of the names of calls, each with
 //! what it says, in turn: `["summary",TEXT]`, `["description",TEXT]`, `["tag",TEXT]`,
 //! `["request_body_max_bytes",NUMBER]`, `["visible",TRUTH]` or `["deprecated",TRUTH]`.
+use crate::making::{Noted, noted_of};
 use crate::parts::all_shown;
 use api_descriptions::ApiEndpoint;
-use case_notation::{CaseError, Reader, truth_of};
+use case_notation::{CaseError, Reader, given, truth_of};
 use endpoint_notation::{items_at, u64_of};
 use schema_values::Json;
 use std::alloc::Global;
 
 /// The parts of the endpoint of a case, of which this was said in place of what is noted.
-pub fn said_shown(
-    alloc: Global,
-    case: &Json,
-    mut endpoints: Vec<ApiEndpoint>,
-) -> Result<Json, CaseError> {
+pub fn said_shown(alloc: Global, case: &Json) -> Result<Json, CaseError> {
+    let noted = given(case, "endpoint")?;
     let says = items_at(case, "says")?;
-    let Some(mut endpoint) = endpoints.pop() else {
+    let Noted {
+        words,
+        id,
+        method,
+        path,
+        versions,
+        kind,
+        handler,
+    } = noted_of(alloc, case, noted)?;
+    drop(words);
+    let made = ApiEndpoint::new(alloc, id, handler, method, kind.as_str(), path, versions);
+    let Ok(mut endpoint) = made else {
         return Err(CaseError::Expected("an endpoint that can be made"));
     };
     let mut reader = Reader::new(alloc);
@@ -36,8 +45,9 @@ pub fn said_shown(
             }
         };
     }
-    endpoints.push(endpoint)?;
-    reader.finish(all_shown(alloc, &endpoints)?)
+    let mut made = Vec::new(alloc);
+    made.push(endpoint)?;
+    reader.finish(all_shown(alloc, &made)?)
 }
 
 // The name of a call, and what it says.

@@ -1,23 +1,26 @@
-//! The endpoints of a case: those of the sample where `"sample"` is true, the one under `"endpoint"`, or those under
-//! `"endpoints"`. An endpoint is noted as endpoint.rt of `endpoint_notation` says, and its handler gives back its
-//! argument; or it stands in a list, and behind it what its handler does, as outcomes.rt says.
+//! The endpoints of a case: those of the sample where `"sample"` is true, else those under `"endpoints"`, noted as
+//! making.rt says. With `"for_types"` the latter are made for documents alone.
+//!
+//! Handlers are boxed, and endpoints made, where no endpoint is handed out: a function that makes one and hands it out
+//! is not allowed.
 use crate::calls::{Call, over_made};
-use crate::handler::handler_of;
-use crate::making::{Making, Noted, Words, noted_of};
-use case_notation::{CaseError, Reader, labelled};
+use crate::making::{Noted, error_told, noted_of, set_words};
+use api_descriptions::ApiEndpoint;
+use api_versions::ApiEndpointVersions;
+use case_notation::{CaseError, Row, labelled};
 use endpoint_notation::items_at;
+use http::Method;
 use sample_api::{SampleEndpoint, SampleHandler, endpoints};
-use schema_values::Json;
-use std::alloc::Global;
-use std::slice;
+use schema_values::{Json, Text};
+use std::alloc::{AllocError, Global};
+
+// The media type of typed bodies of the sample.
+const JSON: &str = "application/json";
 
 /// What a call answers over the endpoints of a case.
 pub fn over_endpoints(alloc: Global, case: &Json, call: Call<'_>) -> Result<Json, CaseError> {
-    if case.get("sample").is_some() {
-        return over_sample(alloc, case, call);
-    }
-    match case.get("endpoint") {
-        Some(noted) => over_noted(alloc, case, call, slice::from_ref(noted)),
+    match case.get("sample") {
+        Some(_) => over_sample(alloc, case, call),
         None => over_noted(alloc, case, call, items_at(case, "endpoints")?),
     }
 }
@@ -28,47 +31,75 @@ fn over_noted(
     call: Call<'_>,
     noted: &[Json],
 ) -> Result<Json, CaseError> {
-    let mut making = Making::new(alloc);
+    let mut refusals = Row::new(alloc);
+    let mut made = Vec::new(alloc);
     for one in noted {
-        let (endpoint, does) = parts_of(one)?;
-        match handler_of(alloc, endpoint, does) {
-            Ok(handler) => making.make(noted_of(alloc, case, endpoint), handler),
-            Err(flaw) => making.keep(flaw),
+        let Noted {
+            words,
+            id,
+            method,
+            path,
+            versions,
+            kind,
+            handler,
+        } = noted_of(alloc, case, one)?;
+        let outcome = if case.get("for_types").is_some() {
+            ApiEndpoint::new_for_types(alloc, id, handler, method, kind.as_str(), path, versions)
+        } else {
+            ApiEndpoint::new(alloc, id, handler, method, kind.as_str(), path, versions)
+        };
+        match outcome {
+            Ok(mut endpoint) => {
+                for tag in set_words(&mut endpoint, words).into_vec() {
+                    endpoint = endpoint.tag(tag)?;
+                }
+                made.push(endpoint)?;
+            }
+            Err(error) => refusals.push(error_told(alloc, &error)),
         }
     }
-    over_making(alloc, case, call, making, noted.len())
-}
-
-// An endpoint, and what its handler does where that stands behind it.
-fn parts_of(noted: &Json) -> Result<(&Json, Option<&Json>), CaseError> {
-    match noted {
-        Json::List(parts) => match parts.as_slice() {
-            [endpoint, does] => Ok((endpoint, Some(does))),
-            _ => Err(CaseError::Expected("an endpoint and what its handler does")),
-        },
-        endpoint => Ok((endpoint, None)),
+    if made.len() < noted.len() {
+        return labelled(alloc, "not_made", refusals.done());
     }
+    over_made(alloc, case, call, made)
 }
 
 fn over_sample(alloc: Global, case: &Json, call: Call<'_>) -> Result<Json, CaseError> {
-    let sample = endpoints(alloc)?;
-    let count = sample.len();
-    let mut making = Making::new(alloc);
-    for endpoint in sample {
-        let (noted, handler) = sample_parts(alloc, endpoint);
-        match Box::new(alloc, handler) {
-            Ok(handler) => making.make(noted, handler),
-            Err(error) => making.keep(CaseError::from(error)),
+    let mut made = Vec::new(alloc);
+    for endpoint in endpoints(alloc)? {
+        let Sample {
+            id,
+            method,
+            path,
+            versions,
+            body_limit,
+            visible,
+            handler,
+        } = sample_of(alloc, endpoint)?;
+        match ApiEndpoint::new(alloc, id, handler, method, JSON, path, versions) {
+            Ok(mut endpoint) => {
+                endpoint.request_body_max_bytes = body_limit;
+                made.push(endpoint.visible(visible))?;
+            }
+            Err(error) => return labelled(alloc, "not_made", error_told(alloc, &error)),
         }
     }
-    over_making(alloc, case, call, making, count)
+    over_made(alloc, case, call, made)
 }
 
-// What an endpoint of the sample is made of, and its handler.
-fn sample_parts(
-    alloc: Global,
-    endpoint: SampleEndpoint,
-) -> (Result<Noted, CaseError>, SampleHandler) {
+// What an endpoint of the sample is made of, with its handler in a box.
+#[derive(Drop)]
+struct Sample {
+    id: Text,
+    method: Method,
+    path: Text,
+    versions: ApiEndpointVersions,
+    body_limit: Option<u64>,
+    visible: bool,
+    handler: Box<SampleHandler>,
+}
+
+fn sample_of(alloc: Global, endpoint: SampleEndpoint) -> Result<Sample, AllocError> {
     let SampleEndpoint {
         handler,
         operation_id,
@@ -78,33 +109,14 @@ fn sample_parts(
         body_limit,
         visible,
     } = endpoint;
-    let mut words = Words::new(alloc);
-    words.body_limit = body_limit;
-    words.visible = visible;
-    let mut reader = Reader::new(alloc);
-    let noted = Noted {
-        words,
+    let handler = Box::new(alloc, handler)?;
+    Ok(Sample {
         id: operation_id,
         method,
         path,
         versions,
-        kind: reader.text_from("application/json"),
-        for_types: false,
-    };
-    (reader.finish(noted), handler)
-}
-
-// What a call answers over endpoints that were made, where that is all of them, else why the others were not.
-fn over_making(
-    alloc: Global,
-    case: &Json,
-    call: Call<'_>,
-    making: Making,
-    count: usize,
-) -> Result<Json, CaseError> {
-    if making.made.len() == count {
-        over_made(alloc, case, call, making.made)
-    } else {
-        labelled(alloc, "not_made", making.refusals.done())
-    }
+        body_limit,
+        visible,
+        handler,
+    })
 }

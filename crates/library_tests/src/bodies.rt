@@ -31,21 +31,17 @@ impl FrameSource for Countdown {
     }
 }
 
-// How many bytes are dumped of so many frames in a box, of which three may be taken.
-fn dumped(alloc: Global, left: u32) -> Result<u64, DumpError> {
-    match Box::new(alloc, Countdown { left }) {
-        Ok(source) => {
-            let mut source: Box<dyn FrameSource> = source;
-            http_dump_body(alloc, &mut source, 3)
-        }
-        Err(_) => Err(DumpError::OutOfMemory),
-    }
-}
-
 #[test]
-fn a_boxed_source_of_ones_own_is_dumped(rt: HostRuntime) {
-    assert_eq!(rt; dumped(rt.alloc(), 3), Ok(3));
-    assert_eq!(rt; dumped(rt.alloc(), 4), Err(DumpError::FrameBudget));
+fn a_boxed_source_of_ones_own_is_dumped(rt: HostRuntime) -> Result<(), Fail> {
+    let alloc = rt.alloc();
+    let mut source: Box<dyn FrameSource> = Box::new(alloc, Countdown { left: 3 })?;
+    assert_eq!(rt; http_dump_body(alloc, &mut source, 3), Ok(3));
+    let mut source: Box<dyn FrameSource> = Box::new(alloc, Countdown { left: 4 })?;
+    assert_eq!(rt;
+        http_dump_body(alloc, &mut source, 3),
+        Err(DumpError::FrameBudget)
+    );
+    Ok(())
 }
 
 #[test]

@@ -4,7 +4,13 @@
 #[cfg(test)]
 mod bodies;
 #[cfg(test)]
+mod endpoints;
+#[cfg(test)]
+mod ends;
+#[cfg(test)]
 mod points;
+#[cfg(test)]
+mod runs;
 #[cfg(test)]
 mod schemas;
 #[cfg(test)]

@@ -1,7 +1,7 @@
 //! Values of types of one's own, as Rust has them.
 use api_types::{ApiType, table_of};
 use own_types::{Color, Point};
-use schema_values::Json;
+use schema_values::{Boxed, Json};
 use std::alloc::Global;
 use std::test::Fail;
 use type_wire::json_value;
@@ -14,20 +14,12 @@ fn read<T: ApiType>(alloc: Global, text: &str) -> Option<T> {
     json_value(alloc, &table, &json).ok()
 }
 
-/// Whether a tree is this variant, with nothing in it.
-fn is_variant(tree: &Tree, place: u32) -> bool {
-    match tree {
-        Tree::Variant(at, inner) => *at == place && matches!(inner.get(), Tree::Unit),
-        _ => false,
-    }
-}
-
 #[test]
 fn a_color_stands_at_its_place(rt: HostRuntime) -> Result<(), Fail> {
     let alloc = rt.alloc();
     for (color, place) in [(Color::Red, 0), (Color::Green, 1), (Color::Blue, 2)] {
-        let tree = color.to_tree(alloc)?;
-        assert!(rt; is_variant(&tree, place), "at {place}");
+        let tree = Tree::Variant(place, Boxed::new(alloc, Tree::Unit)?);
+        assert!(rt; color.to_tree(alloc)?.equals(&tree));
     }
     Ok(())
 }
