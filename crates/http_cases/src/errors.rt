@@ -56,9 +56,9 @@ fn made(alloc: Global, noted: &[Json]) -> Result<HttpError, CaseError> {
             code,
             Json::Int(status),
             Json::Text(message),
-        ] if kind.equals_str("client") => { client_error(alloc, code, *status, Some(message)) }
+        ] if kind.equals_str("client") => { client_error(alloc, code, *status, message) }
         [Json::Text(kind), code, Json::Int(status)] if kind.equals_str("client_with_status") => {
-            client_error(alloc, code, *status, None)
+            client_error_with_status(alloc, code, *status)
         }
         _ => Err(CaseError::Expected("how an error is made")),
     }
@@ -68,15 +68,25 @@ fn client_error(
     alloc: Global,
     code: &Json,
     status: i128,
-    message: Option<&Text>,
+    message: &Text,
 ) -> Result<HttpError, CaseError> {
-    let status = client_status(status)?;
     let code = maybe_text(alloc, Some(code))?;
-    let made = match message {
-        Some(message) => HttpError::for_client_error(alloc, code, status, message.copy(alloc)?),
-        None => HttpError::for_client_error_with_status(alloc, code, status),
-    };
-    Ok(made?)
+    match client_status(status) {
+        Some(status) => Ok(HttpError::for_client_error(alloc, code, status, message.copy(alloc)?)?),
+        None => Err(CaseError::Expected("a status from 400 to 499")),
+    }
+}
+
+fn client_error_with_status(
+    alloc: Global,
+    code: &Json,
+    status: i128,
+) -> Result<HttpError, CaseError> {
+    let code = maybe_text(alloc, Some(code))?;
+    match client_status(status) {
+        Some(status) => Ok(HttpError::for_client_error_with_status(alloc, code, status)?),
+        None => Err(CaseError::Expected("a status from 400 to 499")),
+    }
 }
 
 fn made_with(
@@ -95,13 +105,9 @@ fn made_with(
     Ok(made?)
 }
 
-fn client_status(number: i128) -> Result<ClientErrorStatusCode, CaseError> {
-    match u16::try_from(number) {
-        Ok(number) => ClientErrorStatusCode::from_u16(number)
-            .ok()
-            .ok_or(CaseError::Expected("a status from 400 to 499")),
-        Err(_) => Err(CaseError::Expected("a status from 400 to 499")),
-    }
+fn client_status(number: i128) -> Option<ClientErrorStatusCode> {
+    let number = u16::try_from(number).ok()?;
+    ClientErrorStatusCode::from_u16(number).ok()
 }
 
 // Changes an error by one step, or tells what the step is refused as.
