@@ -1,5 +1,5 @@
 -- When an operation holds, by what is told of its parameters and of its body.
-use Rattle.std.proofs.Common.{◌≡◌, ◌↔◌, Bool, true, false, ◌&&◌, Option, Some, None, IfSome, IsTrue, codes, refl, sym, ◌∙◌, ap₂, subst}
+use Rattle.std.proofs.Common.{◌≡◌, ◌↔◌, Bool, true, false, ◌&&◌, Option, Some, IfSome, IsTrue, codes, sym, ◌∙◌, ap₂, subst}
 use Rattle.std.proofs.lemmas.Bool.{and_parts}
 use Rattle.std.specs.List.{list_all}
 use Rattle.schema_values.specs.declared.json_value.Json.{Json}
@@ -34,6 +34,3 @@ module _ (doc : Json) (request : WireRequest) (operation : Json) where
     λ t. made h (subst BodyAt (sym has_body) (told.0 t)),
     λ o. told.1 (subst BodyAt has_body o.body),
   )
-
-  pub no_body_told : are_held ≡ true → get_of (codes "requestBody") operation ≡ None → IsTrue true ↔ OperationHolds doc request operation
-  no_body_told h none = (λ t. made h (subst BodyAt (sym none) tt), λ o. refl)

@@ -1,4 +1,4 @@
-pub mod ListLemmas
+mod ListLemmas
 mod NamedValues
 mod EntryLemmas
 mod ValueForms
@@ -6,4 +6,3 @@ mod ValueMeanings
 mod LineMeanings
 mod MadeLemmas
 mod SaidLemmas
-pub mod CallerLemmas
