@@ -20,6 +20,7 @@ use api_descriptions::{ApiDescription, WriteError};
 use api_respond::RouteHandler;
 use command_line::{ToolConfig, ToolStatus, serve_within};
 use line_session::{Sink, Source};
+use request_parts::copy_version;
 use schema_values::List;
 use semver::Version;
 use std::alloc::{AllocError, Global};
@@ -94,13 +95,6 @@ fn preamble_text(
     let version = copy_version(version)?;
     let definition = api.openapi(alloc, config.title.as_str(), version)?;
     Ok(definition.text(alloc)?.into_bytes())
-}
-
-// A version of the same parts.
-fn copy_version(version: &Version) -> Result<Version, AllocError>
-    ensures { IfOk result (λ copy. parts_of copy ≡ parts_of version.now) }
-{
-    version.clone()
 }
 
 /// Writes the document of a version alone.

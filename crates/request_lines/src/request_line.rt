@@ -1,5 +1,5 @@
 //! Request lines: what they ask for, moved out of their JSON.
-ghost use Rattle.std.specs.Prelude.{◌≡◌, IfOk, IsErrOf, List as ListOf};
+ghost use Rattle.std.specs.Prelude.{IfOk, IsErrOf, List as ListOf};
 ghost use Rattle.semver.specs.Identifiers.{parts_of};
 ghost use Rattle.semver.specs.Parse.{Parts};
 ghost use Rattle.schema_values.specs.Sound.{IsSound};
@@ -15,10 +15,10 @@ use crate::request_frames::frames_of;
 use crate::request_head::head_of;
 use crate::request_variables::variables_of;
 use http_bodies::Frame;
-use request_parts::RequestParts;
+use request_parts::{RequestParts, copy_version};
 use schema_values::{Json, List, Member, Scratch};
 use semver::Version;
-use std::alloc::{AllocError, Global};
+use std::alloc::Global;
 
 /// What a line asks for.
 #[derive(Drop)]
@@ -87,11 +87,4 @@ fn request_of(
         info,
     };
     Ok(AskedRequest { request, frames })
-}
-
-// A version of the same parts.
-fn copy_version(version: &Version) -> Result<Version, AllocError>
-    ensures { IfOk result (λ copy. parts_of copy ≡ parts_of version.now) }
-{
-    version.clone()
 }

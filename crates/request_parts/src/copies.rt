@@ -6,8 +6,8 @@ use http_uri::Uri;
 use semver::Version;
 use std::alloc::AllocError;
 
-// A version of the same parts.
-pub(crate) fn copy_version(version: &Version) -> Result<Version, AllocError>
+/// A version of the same parts.
+pub fn copy_version(version: &Version) -> Result<Version, AllocError>
     ensures { IfOk result (λ copy. parts_of copy ≡ parts_of version.now) }
 {
     version.clone()

@@ -9,5 +9,6 @@ mod parts;
 
 pub use config::ServerConfig;
 pub use content_type::{ApiEndpointBodyContentType, Unsupported};
+pub use copies::copy_version;
 pub use info::RequestInfo;
 pub use parts::RequestParts;
