@@ -1,4 +1,4 @@
-ghost use Rattle.std.specs.Prelude.{◌≡◌, IfOk};
+ghost use Rattle.std.specs.Prelude.{◌≡◌, Ok};
 
 use std::alloc::{AllocError, Global};
 use std::fmt;
@@ -35,9 +35,9 @@ impl fmt::Display for TokenError {
 }
 
 impl TokenError {
-    /// An error equal to this one.
+    /// An error equal to this one. Takes no memory, and always succeeds.
     pub fn copy(&self, _alloc: Global) -> Result<TokenError, AllocError>
-        ensures { IfOk result (λ copy. copy ≡ self.now) }
+        ensures { result ≡ Ok self.now }
     {
         match self {
             TokenError::TooLarge(size) => Ok(TokenError::TooLarge(*size)),

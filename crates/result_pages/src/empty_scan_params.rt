@@ -1,4 +1,4 @@
-ghost use Rattle.std.specs.Prelude.{◌≡◌, [], codes, true, IfOk};
+ghost use Rattle.std.specs.Prelude.{◌≡◌, [], codes, true, Ok};
 ghost use Rattle.api_types.specs.Heads.{struct_of};
 
 use api_types::{ApiStruct, StructHead};
@@ -11,9 +11,9 @@ use typed_values::Tree;
 pub struct EmptyScanParams {}
 
 impl EmptyScanParams {
-    /// A value equal to this one.
+    /// A value equal to this one. Takes no memory, and always succeeds.
     pub fn copy(&self, _alloc: Global) -> Result<EmptyScanParams, AllocError>
-        ensures { IfOk result (λ copy. copy ≡ self.now) }
+        ensures { result ≡ Ok self.now }
     {
         Ok(EmptyScanParams {})
     }
