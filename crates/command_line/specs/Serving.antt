@@ -16,11 +16,11 @@ use Rattle.command_line.specs.declared.config.ToolStatus.TheVariants as status
 pub record Outside (S K X : Type 0) : Type 0 where
   pub source : S
   pub sink : K
-  pub store : X
+  pub state : X
 
 -- a moment by its parts
 abbrev pub outside : {S K X : Type 0} → S → K → X → Outside S K X
-outside source sink store = record { source = source; sink = sink; store = store }
+outside source sink state = record { source = source; sink = sink; state = state }
 
 -- of lines that are answered so, or whose reply is lost so, behind a text in front
 module _ {S K X : Type 0} (answers : X → List ℕ → List ℕ → X → Type 0) (lost : X → List ℕ → X → Type 0)
@@ -32,9 +32,9 @@ module _ {S K X : Type 0} (answers : X → List ℕ → List ℕ → X → Type 
   pub record IsServedSo (how : SessionEnd) : Type 0 where
     pub served : IsServed answers lost front config.most_input config.longest_line
         (source.left before.source) (source.left after.source)
-        (sink.taken before.sink) (sink.taken after.sink) before.store after.store how
+        (sink.taken before.sink) (sink.taken after.sink) before.state after.state how
     pub calls : IsServedBy answers lost front config.most_input config.longest_line source sink
-        before.source after.source before.sink after.sink before.store after.store how
+        before.source after.source before.sink after.sink before.state after.state how
     pub limits : (all : List ℕ) → source.left before.source ≡ Some all
         → MeetsLimits config.most_input config.longest_line all how
 

@@ -24,9 +24,9 @@ use Rattle.command_line.specs.Words.{AskForDocument, AskForSession, IsCommand}
 use Rattle.contract_tool.specs.LineAnswers.{LineAnswers, LineIsLost, Service, service}
 use Rattle.contract_tool.specs.Sessions.{IsDocumented, IsOpened, preamble_of}
 
--- nothing was read, and the store stays; the sink may have taken bytes
+-- nothing was read, and the state stays; the sink may have taken bytes
 abbrev pub OnlyWrites : {S K X : Type 0} → Outside S K X → Outside S K X → Type 0
-OnlyWrites before after = (after.source ≡ before.source) × (after.store ≡ before.store)
+OnlyWrites before after = (after.source ≡ before.source) × (after.state ≡ before.state)
 
 -- ---- a session
 
