@@ -1,5 +1,5 @@
 //! What a document says of an API as a whole.
-ghost use Rattle.std.specs.Prelude.{◌≡◌, OnErr, OnOk, unwrap_or};
+ghost use Rattle.std.specs.Prelude.{◌≡◌, OnErr, OnOk};
 ghost use Rattle.std.specs.Str.{chars};
 ghost use Rattle.api_descriptions.specs.Information.{contact_of, license_or, with_contact_email};
 ghost use Rattle.api_descriptions.specs.Information.{with_contact_name, with_contact_url};

@@ -13,7 +13,6 @@ use crate::bodies::content;
 use crate::error_names::NamedError;
 use crate::reached::reached;
 use api_declarations::Declaration;
-use handler_shapes::HandlerShape;
 use openapi_values::{Components, ResponseObject};
 use schema_values::{Json, List, Text};
 use semver::Version;

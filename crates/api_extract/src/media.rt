@@ -1,5 +1,5 @@
 // The media type of a request.
-ghost use Rattle.std.specs.Prelude.{◌≡◌, true, IfOk, IfSome, None, map, option_map};
+ghost use Rattle.std.specs.Prelude.{◌≡◌, true, IfOk, IfSome, map, option_map};
 ghost use Rattle.std.specs.Str.{chars};
 ghost use Rattle.request_parts.specs.Wire.{wire_line};
 ghost use Rattle.request_words.specs.HeaderLines.{all_shown};

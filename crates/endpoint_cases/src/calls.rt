@@ -4,7 +4,7 @@ use crate::parts::all_shown;
 use crate::registering::errors_told;
 use crate::runs::run_told;
 use api_descriptions::ApiEndpoint;
-use case_notation::{CaseError, Row};
+use case_notation::CaseError;
 use schema_values::Json;
 use std::alloc::Global;
 

@@ -5,7 +5,7 @@
 //! `"status"`, 200 where it is left out, which counts where the response has no code. Or `"fails"` is an error,
 //! `{"status":CODE, "code":TEXT, "message":TEXT, "headers":LINES}`, of which the message alone has to stand.
 use api_respond::{Content, RequestContext, SuccessReply};
-use case_notation::{CaseError, Reader, read_tree};
+use case_notation::{Reader, read_tree};
 use endpoint_notation::{body_of, lines_of, number_or};
 use handler_shapes::Arg;
 use header_lists::HeaderList;

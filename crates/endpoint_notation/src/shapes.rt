@@ -8,7 +8,7 @@
 //! `"freeform"`. `"error"`: `{"desc":D, "name":NAME}`. Null stands for no success code and for no
 //! error. What is left out: the table of `Error` alone, a slot `["bool","Body"]`, content
 //! `["bool","Flag"]`, no headers, code 200, `successful operation`, and the errors of `HttpError`.
-use crate::members::{items_at, read_text_or};
+use crate::members::read_text_or;
 use api_types::ApiType;
 use case_notation::{CaseError, Reader, define, definition_of, read_desc};
 use handler_shapes::{

@@ -10,7 +10,7 @@ use Rattle.schema_values.specs.declared.variables.VariableValue.TheVariants.{Str
 use Rattle.schema_values.specs.Order.{sorted_by}
 use Rattle.schema_values.specs.Sound.{AreDistinct}
 use Rattle.schema_values.proofs.CallerLemmas.{contains_first, contains_later}
-use Rattle.descriptors.specs.declared.desc.Desc.{Desc, Option as OptionOf, out-Desc}
+use Rattle.descriptors.specs.declared.desc.Desc.{Desc, out-Desc}
 use Rattle.descriptors.specs.declared.desc.Desc.TheOpen.{Desc-F}
 use Rattle.descriptors.specs.declared.desc.Desc.TheVariants as desc
 use Rattle.descriptors.specs.declared.desc.Desc.TheViews.{roll-Desc, roll-out-Desc}

@@ -1,7 +1,6 @@
 // The words of faults, which name no place.
 ghost use Rattle.std.specs.Prelude.{◌≡◌, Contains, IfSome, Some, option_map, reverse};
 ghost use Rattle.std.specs.Option.{option_copied};
-ghost use Rattle.descriptors.specs.declared.desc.Field.{Field};
 ghost use Rattle.typed_values.specs.Answer.{trouble};
 ghost use Rattle.typed_values.specs.Checks.{TablePasses, DescPasses};
 ghost use Rattle.flat_maps.specs.FaultWords as words;

@@ -1,5 +1,4 @@
 //! Calls that read values of types from maps of texts, and write them as such.
-ghost use Rattle.api_types.specs.Types.{IsTableOf};
 ghost use Rattle.typed_values.specs.Checks.{TablePasses, DescPasses};
 
 use crate::field_names::{B, HeaderA};

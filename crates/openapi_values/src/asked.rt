@@ -1,5 +1,5 @@
 // What a schema is asked of at one value: a JSON value, or a text, of which no value is made.
-ghost use Rattle.std.specs.Prelude.{◌≡◌, length, option_map, bytes_eq};
+ghost use Rattle.std.specs.Prelude.{◌≡◌, length, option_map};
 ghost use Rattle.std.specs.List.{list_any};
 ghost use Rattle.std.specs.Str.{chars};
 ghost use Rattle.schema_values.specs.declared.json_value.Json.{Text as Words, out-Json};

@@ -1,5 +1,5 @@
 // What schemas admit of a text: of a variable of a path, or of a value in a query.
-ghost use Rattle.std.specs.Prelude.{◌≡◌, ◌↔◌, ◌||◌, ◌&&◌, IsTrue, count_by, List};
+ghost use Rattle.std.specs.Prelude.{◌≡◌, ◌↔◌, IsTrue, count_by};
 ghost use Rattle.std.specs.List.{AllByRecursion};
 ghost use Rattle.std.specs.Str.{chars};
 ghost use Rattle.schema_values.specs.declared.json_value.Json.{out-Json, Int as Number};

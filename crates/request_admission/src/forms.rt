@@ -1,7 +1,7 @@
 //! Whether a schema admits the pairs of a form.
 
 ghost use Rattle.std.specs.Prelude.{◌≡◌, IfSome, option_map};
-ghost use Rattle.std.specs.List.{list_all, AllByRecursion};
+ghost use Rattle.std.specs.List.{AllByRecursion};
 ghost use Rattle.schema_values.specs.declared.json_value.Json.{out-Json};
 ghost use Rattle.schema_values.specs.Sound.{IsSound};
 ghost use Rattle.schema_values.specs.SoundMembers.{HasSoundValue};

@@ -3,7 +3,7 @@
 ghost use Rattle.std.specs.Prelude.{◌≡◌, false, map};
 ghost use Rattle.schema_values.specs.Sound.{IsSound};
 ghost use Rattle.openapi_values.specs.Pages.{has_token, page_query_holds, query_rule};
-ghost use Rattle.openapi_values.specs.RequestParameters.{stands_or_not, values_hold};
+ghost use Rattle.openapi_values.specs.RequestParameters.{values_hold};
 ghost use Rattle.openapi_values.specs.TextAdmits.{text_admitted};
 
 use crate::schema_in::SchemaIn;

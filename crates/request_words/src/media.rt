@@ -1,7 +1,6 @@
 //! The media type of a request.
 
-ghost use Rattle.std.specs.Prelude.{◌≡◌, IfOk, None, Ok, option_map, codes};
-ghost use Rattle.std.specs.Option.{option_map_or};
+ghost use Rattle.std.specs.Prelude.{◌≡◌, IfOk, None, Ok, option_map};
 ghost use Rattle.request_words.specs.HeaderLines.{is_blank};
 ghost use Rattle.request_words.specs.MediaTypes.{before_parameters, without_end, type_of_value, media_type};
 ghost use Rattle.request_words.specs.MediaTypes.{after_plus, ends_in_json, has_json_suffix};

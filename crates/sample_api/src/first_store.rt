@@ -1,5 +1,5 @@
 //! The store that the sample begins with.
-ghost use Rattle.std.specs.Prelude.{◌≡◌, codes, true, IfOk, IsTrue, OnOk};
+ghost use Rattle.std.specs.Prelude.{◌≡◌, codes, IfOk, IsTrue, OnOk};
 ghost use Rattle.schema_values.specs.Ascii.{all_ascii};
 ghost use Rattle.tree_store.specs.Tables.{changed, pairs_with};
 ghost use Rattle.sample_types.specs.Labels.{is_label};

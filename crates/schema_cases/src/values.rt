@@ -6,7 +6,7 @@ use case_notation::{
     text_of, text_told,
 };
 use schema_values::{
-    Json, List, ReadError, Scratch, Text, ValueError, write_member, write_number_member,
+    Json, ReadError, Scratch, Text, ValueError, write_member, write_number_member,
     write_text_member,
 };
 use serde_json::Value;

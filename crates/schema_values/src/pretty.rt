@@ -1,4 +1,4 @@
-ghost use Rattle.std.specs.Prelude.{◌≡◌, ◌≤◌, ◌-◌, ◌^◌, ◌++◌, [], IfOk, OnErr, OnOk, map, suc};
+ghost use Rattle.std.specs.Prelude.{◌≡◌, ◌≤◌, ◌-◌, ◌^◌, ◌++◌, IfOk, OnErr, OnOk, map, suc};
 ghost use Rattle.std.specs.Str.{encode_utf8_all};
 ghost use Rattle.schema_values.specs.Depth.{depth};
 ghost use Rattle.schema_values.specs.Pretty.{new_line, on_line, grouped, pretty_at, pretty_member, pretty_of};

@@ -5,8 +5,8 @@ ghost use Rattle.typed_values.specs.Schemas as meant;
 
 use crate::lists::only;
 use schema_values::{
-    Boxed, InstanceType, InstanceTypes, Json, LengthBounds, List, NumberBounds, Schema,
-    SchemaObject, Subschemas, Text,
+    Boxed, InstanceType, InstanceTypes, Json, LengthBounds, NumberBounds, Schema, SchemaObject,
+    Subschemas, Text,
 };
 use std::alloc::{AllocError, Global};
 

@@ -1,5 +1,5 @@
 -- A document admits a body exactly where its JSON denotes a tree.
-use Rattle.std.proofs.Common.{◌≡◌, ◌↔◌, ℕ, List, sym, subst}
+use Rattle.std.proofs.Common.{◌↔◌, ℕ, List, sym, subst}
 use Rattle.schema_values.specs.declared.json_value.Json.{Json}
 use Rattle.schema_values.specs.Reading.{Reads}
 use Rattle.schema_values.proofs.CallerLemmas.{one_reading, reading_sound}

@@ -4,7 +4,7 @@ use Rattle.std.proofs.lemmas.Bool.{and_from, and_parts, leb-true, le-leb}
 use Rattle.std.proofs.lemmas.List.Folds.{list_all-map}
 use Rattle.std.specs.List.{list_all}
 use Rattle.std.specs.declared.result.Result.TheVariants.{Ok}
-use Rattle.schema_values.specs.declared.json_value.Json.{Json, Null}
+use Rattle.schema_values.specs.declared.json_value.Json.{Null}
 use Rattle.request_words.specs.declared.pairs.NamedText.{NamedText}
 use Rattle.request_words.specs.Pairs.{values_of}
 use Rattle.openapi_values.specs.declared.parameter.Parameter.{Parameter}

@@ -1,10 +1,9 @@
-use Rattle.std.proofs.Common.{◌≡◌, [], ◌∷◌, map, false, refl, append_assoc, arith}
+use Rattle.std.proofs.Common.{◌≡◌, [], ◌∷◌, map, refl, append_assoc, arith}
 use Rattle.std.proofs.lemmas.List.{map-append, map_more}
 use Rattle.schema_values.specs.declared.json_value.Json.{Text as Words}
-use Rattle.schema_values.specs.declared.schema.SchemaObject.{out-SchemaObject, roll-out-SchemaObject}
-use Rattle.schema_values.specs.Order.{property_name, same_name, sorted_by}
+use Rattle.schema_values.specs.Order.{property_name, sorted_by}
 use Rattle.descriptors.specs.declared.desc.Desc.TheVariants as desc
-use Rattle.typed_values.specs.Schemas.{object_of, with_description, property, property_of, required_names, struct_parts, enumerated, schema_parts, sketch_of_field, sketch_of_tagged}
+use Rattle.typed_values.specs.Schemas.{object_of, property, property_of, enumerated, schema_parts, sketch_of_field, sketch_of_tagged}
 use Rattle.typed_values.proofs.SchemaRows.{sketch_are, parts_are, struct_parts_are, external_parts_are, tagged_parts_are, choice_parts_are, other_members_are}
 use Rattle.typed_values.proofs.+schema.Goals as goal
 

@@ -1,4 +1,4 @@
-use Rattle.std.proofs.Common.{◌≡◌, refl}
+use Rattle.std.proofs.Common.{refl}
 use Rattle.schema_values.specs.declared.schema.SchemaObject.{roll-out-SchemaObject}
 use Rattle.typed_values.proofs.schema_parts.object_of.Goals as goal
 

@@ -1,4 +1,4 @@
-use Rattle.std.proofs.Common.{◌≡◌, refl}
+use Rattle.std.proofs.Common.{refl}
 use Rattle.typed_values.proofs.schemas.object_parts.Goals as goal
 
 pub returns : goal.returns

@@ -1,4 +1,4 @@
-use Rattle.std.proofs.Common.{◌≡◌, List, [], ◌∷◌, length, sym, refl, ap, ◌∙◌, subst, arith, true≢false}
+use Rattle.std.proofs.Common.{List, [], ◌∷◌, length, sym, refl, ap, ◌∙◌, subst, arith, true≢false}
 use Rattle.std.specs.Option.{option_copied}
 use Rattle.descriptors.specs.declared.desc.Desc.{Desc}
 use Rattle.typed_values.specs.declared.search.Path.{out-Path}

@@ -11,7 +11,7 @@ use Rattle.descriptors.specs.declared.desc.Desc.{Desc}
 use Rattle.descriptors.specs.declared.desc.Field.{Field}
 use Rattle.descriptors.specs.declared.desc.TaggedVariant.{TaggedVariant}
 use Rattle.typed_values.specs.declared.fault.FaultKind.TheVariants.{NotListed}
-use Rattle.typed_values.specs.declared.fault.Place.TheVariants.{Item, Name}
+use Rattle.typed_values.specs.declared.fault.Place.TheVariants.{Name}
 use Rattle.descriptors.specs.declared.tree.Pair.{Pair}
 use Rattle.descriptors.specs.declared.tree.Tree.{Tree, List as Items, Map as Entries, Fields as Parts}
 use Rattle.typed_values.specs.Answer.{Tells}
