@@ -23,13 +23,13 @@ use Rattle.typed_values.specs.SchemaTable.{schema_json_titled}
 use Rattle.flat_maps.specs.declared.repeats.Repeats.TheVariants.{Refuse}
 use Rattle.flat_maps.specs.Pairs.{pairs_told}
 use Rattle.written_schemas.specs.Written.{IsWritten}
-use Rattle.written_schemas.proofs.Whole.{titled_agrees}
+use Rattle.written_schemas.proofs.CallerLemmas.{titled_agrees}
 use Rattle.written_texts.specs.FlatStructs.{IsFlatStruct}
 use Rattle.written_texts.proofs.CallerLemmas.{titled_are, true_where}
 use Rattle.api_extract.specs.Readings.{value_read}
 use Rattle.api_extract.specs.Refusals.{told_as}
 use Rattle.api_extract.specs.TypedBodies.{body_by_given, body_by_media, form_body, json_body, read_told, typed_body}
-use Rattle.api_extract.proofs.ReadValues.{read_value, value_reads}
+use Rattle.api_extract.proofs.CallerLemmas.{read_value, value_reads}
 use Rattle.endpoint_metadata.specs.Shown.{body_under}
 use Rattle.api_agreement.specs.ShownSlots.{IsBodyType}
 

@@ -6,7 +6,7 @@ use Rattle.std.specs.Cmp.{Equal-is}
 use Rattle.semver.specs.Parse.{Parts}
 use Rattle.api_versions.specs.Order.{is_below, version_cmp}
 use Rattle.api_versions.specs.Ranges.{Holds, VersionRange, all, from, from_until, until}
-use Rattle.api_versions.proofs.Orders.{ties_itself, version_anti}
+use Rattle.api_versions.proofs.CallerLemmas.{ties_itself, version_anti}
 use Rattle.api_declarations.specs.Serving.{holds, is_version}
 
 one_version : (version other : Parts) → (is_version version other ≡ true) ↔ (version ≡ other)

@@ -5,7 +5,7 @@ use Rattle.std.specs.Prelude.{Contains}
 use Rattle.std.specs.List.{AllByRecursion, cons_option, filter_map, flat_map}
 use Rattle.std.proofs.lemmas.List.Elements.{Contains-append_left, Contains-append_right}
 use Rattle.schema_values.proofs.CallerLemmas.{contains_cases, contains_first, contains_later}
-use Rattle.written_schemas.proofs.SoundForms.{appended}
+use Rattle.written_schemas.proofs.CallerLemmas.{appended}
 
 module _ {X Y : Type 0} where
   pub in_filtered : (h : X → Option Y) (y : Y) (xs : List X) (x : X) → Contains xs x → h x ≡ Some y

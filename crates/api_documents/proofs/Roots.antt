@@ -9,7 +9,7 @@ use Rattle.descriptors.specs.declared.desc.Desc.{Desc}
 use Rattle.descriptors.specs.declared.desc.Field.{Field}
 use Rattle.typed_values.specs.Reached.{Mentions}
 use Rattle.typed_values.specs.Schemas.{in_header, in_query}
-use Rattle.written_schemas.proofs.SoundSchemas.{in_header_stands, in_query_stands}
+use Rattle.written_schemas.proofs.CallerLemmas.{in_header_stands, in_query_stands}
 use Rattle.handler_shapes.specs.declared.shape.HandlerShape.{HandlerShape}
 use Rattle.handler_shapes.specs.declared.slot.Slot.{Slot}
 use Rattle.handler_shapes.specs.declared.slot.Slot.TheVariants.{Path, Query, Header, PagedQuery, TypedBody, RawBody}

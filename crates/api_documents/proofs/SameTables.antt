@@ -32,13 +32,7 @@ use Rattle.typed_values.specs.Levels.{DescLevel, TreeOf}
 use Rattle.typed_values.specs.Parts.{the_whole, IsPart, of_whole as part_of_whole, of_table}
 use Rattle.typed_values.specs.Reached.{IsReached}
 use Rattle.typed_values.specs.Resting.{RestsBy, Rests}
-use Rattle.typed_values.proofs.CallerLemmas.{IsNeeded, of_whole, of_reached, entry_inside, needed_part, option_needed}
-use Rattle.typed_values.proofs.CallerLemmas.{list_needed, map_needed, field_needed, payload_needed, variant_needed}
-use Rattle.typed_values.proofs.CallerLemmas.{alternative_needed, reference_reached, guarded_rests}
-use Rattle.typed_values.proofs.EncodeSteps.{is_none_tree, written_row, skipped_written, struct_written}
-use Rattle.typed_values.proofs.FitRows.{alternative_inside, skipped_desc}
-use Rattle.typed_values.proofs.Needed.{definition_needed}
-use Rattle.typed_values.proofs.TreeParts.{OfParts, by_parts, parts_weaker}
+use Rattle.typed_values.proofs.CallerLemmas.{IsNeeded, of_whole, of_reached, entry_inside, needed_part, option_needed, is_none_tree, written_row, skipped_written, struct_written, alternative_inside, skipped_desc, definition_needed, OfParts, by_parts, parts_weaker}
 
 -- the tables have the same definition, or none, under each name that a descriptor reaches
 abbrev pub AgreeOnReached : List Definition → List Definition → Desc → Type 0

@@ -15,7 +15,7 @@ use Rattle.openapi_values.proofs.CallerLemmas.{document_sound}
 use Rattle.descriptors.specs.declared.table.Definition.{Definition}
 use Rattle.typed_values.specs.Checks.{DescPasses, TablePasses}
 use Rattle.typed_values.specs.Lengths.{HasShortLengths, TableHasShortLengths}
-use Rattle.written_schemas.proofs.SoundSchemas.{schema_described_sound, schema_titled_sound}
+use Rattle.written_schemas.proofs.CallerLemmas.{schema_described_sound, schema_titled_sound}
 use Rattle.handler_shapes.specs.declared.shape.ApiEndpointErrorResponse.{ApiEndpointErrorResponse}
 use Rattle.handler_shapes.specs.ShapeChecks.{ErrorPasses, ShapePasses}
 use Rattle.handler_shapes.specs.ShapeLengths.{ShapeHasShortLengths}

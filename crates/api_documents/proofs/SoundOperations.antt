@@ -22,8 +22,7 @@ use Rattle.typed_values.specs.Checks.{TablePasses}
 use Rattle.typed_values.specs.Lengths.{HasShortLengths, TableHasShortLengths}
 use Rattle.typed_values.specs.Schemas.{in_query}
 use Rattle.typed_values.proofs.CallerLemmas.{sorted_ascends}
-use Rattle.written_schemas.proofs.SoundForms.{appended}
-use Rattle.written_schemas.proofs.SoundSchemas.{schema_titled_sound}
+use Rattle.written_schemas.proofs.CallerLemmas.{appended, schema_titled_sound}
 use Rattle.written_texts.specs.FieldParameters.{parameter_of, query_parameters}
 use Rattle.request_parts.specs.declared.content_type.ApiEndpointBodyContentType.{ApiEndpointBodyContentType}
 use Rattle.handler_shapes.specs.declared.shape.ApiEndpointErrorResponse.{ApiEndpointErrorResponse}

@@ -24,10 +24,7 @@ use Rattle.typed_values.specs.Schemas.{in_header, in_query}
 use Rattle.typed_values.specs.SchemaTable.{drawn, schema_json}
 use Rattle.typed_values.proofs.CallerLemmas.{entry_inside, fields_distinct, stands_through}
 use Rattle.flat_maps.specs.Flat.{resolved, resolved_at, resolved_by}
-use Rattle.written_schemas.proofs.Forms.{drawn_row}
-use Rattle.written_schemas.proofs.KeyedMembers.{IsSoundlyDrawn, drawn_sound}
-use Rattle.written_schemas.proofs.SoundForms.{length_is_count, number_sound, text_sound}
-use Rattle.written_schemas.proofs.SoundSchemas.{in_header_stands, in_query_stands, plain_sound, shown_plain_sound}
+use Rattle.written_schemas.proofs.CallerLemmas.{drawn_row, IsSoundlyDrawn, drawn_sound, length_is_count, number_sound, text_sound, in_header_stands, in_query_stands, plain_sound, shown_plain_sound}
 use Rattle.written_texts.specs.FieldParameters.{field_parameters, parameter_of}
 use Rattle.written_texts.specs.PageParameters.{limit_field, parameter_name, scan_parameter, token_field}
 use Rattle.handler_shapes.specs.declared.slot.Slot.{Slot}

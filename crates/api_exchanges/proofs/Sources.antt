@@ -1,17 +1,16 @@
 -- What a request is answered whose body comes of a source.
-use Rattle.std.proofs.Common.{◌≡◌, ◌⊎◌, inl, inr, ℕ, List, [], Option, None, Some, refl, arith, subst}
+use Rattle.std.proofs.Common.{◌≡◌, ◌⊎◌, inl, inr, ℕ, [], refl, arith, subst}
 use Rattle.std.specs.Prelude.{IsOk, IsTrue, OnOk}
 use Rattle.std.specs.List.{list_any}
 use Rattle.std.specs.declared.result.Result.{Result}
 use Rattle.std.specs.declared.result.Result.TheVariants.{Ok, Err}
 use Rattle.http_bodies.specs.Bodies.{never_failing}
 use Rattle.http_bodies.specs.Frames.{SourceState}
-use Rattle.http_bodies.specs.Sources.{TakesFrames}
-use Rattle.http_bodies.specs.declared.frame.Frame.{Frame}
 use Rattle.body_reading.specs.Gathered.{GathersInto}
 use Rattle.tree_store.specs.Tables.{Tables}
 use Rattle.api_extract.specs.Denotes.{GivenArgs}
 use Rattle.api_extract.specs.Extraction.{takes_stream}
+use Rattle.api_extract.proofs.CallerLemmas.{none_came}
 use Rattle.api_endpoints.specs.Endpoints.{Meanings, shape_at}
 use Rattle.api_endpoints.specs.declared.endpoint.ApiEndpoint.{ApiEndpoint}
 use Rattle.endpoint_answers.specs.Answering.{IsGiven}
@@ -32,11 +31,6 @@ use Rattle.api_exchanges.proofs.Told.{handled_or_refused}
 pub ok_part : {T E P : Type 0} (r : Result T E) → IsOk r → OnOk r P → P
 ok_part (Ok x) ok fact = fact
 ok_part (Err error) ok fact = absurd (cc ok)
-
--- no frames are taken
-none_taken : (left : Option (List Frame)) → TakesFrames left [] left
-none_taken None = refl
-none_taken (Some frames) = refl
 
 module _ {X : Type 0} {F : X → Type 0} (m : Meanings X F) (endpoints : List (ApiEndpoint X F)) where
   -- what is told before a body is touched is no fault of it
@@ -60,7 +54,7 @@ module _ {X : Type 0} {F : X → Type 0} (m : Meanings X F) (endpoints : List (A
         let answers = unreached_answers m endpoints a error is in
         record {
           body = never_failing [];
-          taken = none_taken old.left;
+          taken = none_came old.left;
           most = omega arith;
           answers = answers;
           handled = handled_as_denoted m endpoints a causes servable (Err error) call.store answers;

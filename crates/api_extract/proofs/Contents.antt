@@ -114,7 +114,7 @@ module _ (limit budget : ℕ) (old new : Option (List Frame)) where
       by_result (Err errors.OutOfMemory) none = tt
 
 -- no frame came
-none_came : (left : Option (List Frame)) → TakesFrames left [] left
+pub none_came : (left : Option (List Frame)) → TakesFrames left [] left
 none_came None = refl
 none_came (Some frames) = refl
 

@@ -17,3 +17,4 @@ pub mod Comes
 pub mod Contents
 pub mod AnswerCauses
 pub mod ShownMedia
+pub mod CallerLemmas

@@ -32,7 +32,7 @@ use Rattle.flat_maps.proofs.CallerLemmas.{pairs_fit}
 use Rattle.handler_shapes.specs.declared.arguments.Arg.{Arg}
 use Rattle.handler_shapes.specs.declared.arguments.Arg.TheVariants.{Tree as OfTree}
 use Rattle.handler_shapes.specs.Arguments.{IsItemCount, LimitFits, PageFits, PagedFits}
-use Rattle.page_tokens.proofs.Held.{start_sound}
+use Rattle.page_tokens.proofs.CallerLemmas.{start_sound}
 use Rattle.api_extract.specs.PageQueries.{PageTypes, as_choice, behind_limit, bytes_told, decoded_told, doubled_limit, limit_told, limit_value, or_refused, page_query_told, page_told, start_of, started_told}
 use Rattle.api_extract.specs.Readings.{value_read}
 use Rattle.api_extract.specs.Refusals.{told_as}

@@ -21,3 +21,9 @@ pub use Rattle.api_types.proofs.Names.{name_one, name_at}
 pub use Rattle.api_types.proofs.Structs.{struct_one, struct_at}
 pub use Rattle.api_types.proofs.References.{ref_one}
 pub use Rattle.api_types.proofs.OwnReferences.{own_one}
+-- adding definitions one by one
+pub use Rattle.api_types.proofs.AddedInOrder.{entry_stays}
+-- definitions that are added in two calls
+pub use Rattle.api_types.proofs.Added.{adds_both, first_refused, second_refused, told}
+-- structs by their heads and the types of their fields
+pub use Rattle.api_types.proofs.StructTypes.{type_at, type_each, type_one, type_reaches}

@@ -3,3 +3,4 @@ pub mod Bounds
 pub mod Pairs
 pub mod Equal
 pub mod HeaderAnswers
+pub mod CallerLemmas

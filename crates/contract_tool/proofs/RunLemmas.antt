@@ -7,7 +7,7 @@ use Rattle.schema_values.specs.Sound.{IsSound}
 use Rattle.schema_values.specs.declared.json_value.Json.{Json}
 use Rattle.openapi_values.specs.declared.info.Info.{Info}
 use Rattle.openapi_values.specs.Admits.{pagination_of}
-use Rattle.openapi_values.proofs.Stands.{pages-stand}
+use Rattle.openapi_values.proofs.CallerLemmas.{pages-stand}
 use Rattle.semver.specs.Parse.{Parts}
 use Rattle.line_session.specs.Calls.{TookPart}
 use Rattle.line_session.specs.Parts.{AppendsPart}

@@ -19,7 +19,7 @@ use Rattle.descriptors.specs.declared.table.Definition.{Definition}
 use Rattle.descriptors.specs.Definitions.{field_name}
 use Rattle.typed_values.specs.Schemas.{in_header, in_query, schema_value}
 use Rattle.typed_values.specs.SchemaTable.{Drawn, drawn, drawn_json, schema_json, schema_json_titled}
-use Rattle.written_schemas.proofs.Forms.{drawn_row}
+use Rattle.written_schemas.proofs.CallerLemmas.{drawn_row}
 use Rattle.written_texts.specs.FieldParameters.{is_required, parameter_of}
 use Rattle.written_texts.specs.PageParameters.{limit_field, page_parameters as documented_pages, parameter_name}
 use Rattle.written_texts.specs.PageParameters.{scan_parameter, token_field}

@@ -1,1 +1,2 @@
 pub mod CodelessShapes
+pub mod CallerLemmas

@@ -35,9 +35,7 @@ use Rattle.flat_maps.specs.Flat.{resolved, told_item, texts_by, texts_told, give
 use Rattle.flat_maps.specs.Given.{Names}
 use Rattle.scalar_texts.specs.Texts.{text_told}
 use Rattle.flat_maps.proofs.ResolveSteps.{at_name, here}
-use Rattle.scalar_texts.proofs.ScalarFits.{Gives, shown, just_gives}
-use Rattle.scalar_texts.proofs.TextFits.{named_part, rests, text_gives}
-use Rattle.scalar_texts.proofs.TextSteps.{text_row}
+use Rattle.scalar_texts.proofs.CallerLemmas.{Gives, shown, just_gives, named_part, rests, text_gives, text_row}
 
 below_ok : (place : Place) (o : Told) (t : Tree) → below place o ≡ Ok t → o ≡ Ok t
 below_ok place (Ok s) t e = e

@@ -43,9 +43,8 @@ use Rattle.flat_maps.specs.TextStructs.{IsText, IsOptionalText, IsNoneIfAbsent, 
 use Rattle.flat_maps.proofs.Chosen.{skipped_text}
 use Rattle.flat_maps.proofs.EntryLookups.{under, lacks, under_first, under_later, under_none, under_sorted}
 use Rattle.flat_maps.proofs.FlatFits.{IsSameAs, same_as, field_part, required_desc, nullable_desc, skipped_desc, default_desc}
-use Rattle.scalar_texts.proofs.TextFits.{rests, option_part}
+use Rattle.scalar_texts.proofs.CallerLemmas.{rests, option_part, text_row}
 use Rattle.flat_maps.proofs.TextLoops.{without, written_distinct}
-use Rattle.scalar_texts.proofs.TextSteps.{text_row}
 
 -- a text that stands in a tree
 record IsTextTree (t : Tree) (o : Option (List ℕ)) : Type 0 where

@@ -11,7 +11,7 @@ use Rattle.typed_values.specs.Guarded.{IsGuarded}
 use Rattle.typed_values.specs.Levels.{DescLevel}
 use Rattle.typed_values.specs.Resting.{RestsBy}
 use Rattle.flat_maps.specs.Flat.{resolved_by, resolved_at, resolved}
-use Rattle.scalar_texts.proofs.Steps.{row}
+use Rattle.scalar_texts.proofs.CallerLemmas.{row}
 
 module _ (table : List Definition) where
   same_row : (Next Other : Desc → Type 0) (f g : Desc → Option Desc) → ((d : Desc) → Next d → Other d → f d ≡ g d) → (d : Desc) (x : DescLevel) → RestsBy table Next x → RestsBy table Other x → resolved_by table f d x ≡ resolved_by table g d x

@@ -2,7 +2,7 @@
 use Rattle.std.proofs.Common.{◌≡◌, ℕ, List, [], ◌∷◌, refl, ap}
 use Rattle.std.specs.Str.{encode_utf8_all}
 use Rattle.schema_values.specs.Pretty.{pretty_of}
-use Rattle.schema_values.proofs.PrettyLemmas.{pretty-Object}
+use Rattle.schema_values.proofs.CallerLemmas.{pretty-Object}
 use Rattle.http_bodies.specs.Frames.{content_frames}
 use Rattle.http_bodies.specs.Bodies.{never_failing}
 use Rattle.http_bodies.specs.declared.frame.Frame.TheVariants.{Bytes}

@@ -17,9 +17,7 @@ use Rattle.typed_values.specs.Denotes.{room}
 use Rattle.typed_values.specs.Encoding.{is_none_level, json_of_tree, option_written, parts_written, scalar_written, unless, written_under}
 use Rattle.typed_values.specs.Parts.{IsPart, in_field, of_table, of_whole, the_whole}
 use Rattle.typed_values.specs.Resting.{Rests}
-use Rattle.typed_values.proofs.CallerLemmas.{entry_inside, guarded_rests}
-use Rattle.typed_values.proofs.EncodeRows.{written_ref, written_scalar}
-use Rattle.typed_values.proofs.EncodeSteps.{is_none_tree, skipped_written, struct_written}
+use Rattle.typed_values.proofs.CallerLemmas.{entry_inside, guarded_rests, written_ref, written_scalar, is_none_tree, skipped_written, struct_written}
 use Rattle.api_types.specs.Types.{IsTableOf}
 use Rattle.http_status.specs.ErrorBodies.{any_text, body_fields, code_members, code_tree, error_body_json, error_body_tree, error_definition, error_desc, text_field}
 use Rattle.http_status.specs.declared.error_body.HttpErrorResponseBody.{HttpErrorResponseBody}

@@ -9,7 +9,7 @@ pub use Rattle.openapi_values.proofs.SoundLevels.{found_sound, under_sound, list
 pub use Rattle.openapi_values.proofs.Steps.{admits-zero, admits-suc}
 pub use Rattle.openapi_values.proofs.RoomLemmas.{values_is, values_row}
 -- ---- a written document: what stands in it, and that it is sound
-pub use Rattle.openapi_values.proofs.Stands.{get-object, operation-stands, definition-stands}
+pub use Rattle.openapi_values.proofs.Stands.{get-object, operation-stands, definition-stands, pages-stand}
 unfoldable pub use Rattle.openapi_values.proofs.SchemasOfDocument.{total}
 pub use Rattle.openapi_values.proofs.SchemasOfDocument.{total_cons, schemas_in, definition_found, schemas_fit}
 pub use Rattle.openapi_values.proofs.SoundDocuments.{document_sound}

@@ -32,10 +32,7 @@ use Rattle.typed_values.specs.Faults.{Trouble}
 use Rattle.typed_values.specs.Levels.{DescLevel}
 use Rattle.typed_values.specs.Resting.{EachRests, Rests, RestsBy}
 use Rattle.typed_values.specs.Rows.{told_item, told_entry, value_denotes, told_field, told_fields, told_struct, list_row, map_row, struct_row, row}
-use Rattle.typed_values.proofs.CallerLemmas.{IsNeeded, of_whole, of_reached, needed_part, option_needed, list_needed, map_needed, field_needed, payload_needed, variant_needed, alternative_needed, guarded_rests, row_at, sorted_ascends}
-use Rattle.typed_values.proofs.Listed.{found_inside}
-use Rattle.typed_values.proofs.Needed.{definition_needed}
-use Rattle.typed_values.proofs.Ordered.{sorted_stays}
+use Rattle.typed_values.proofs.CallerLemmas.{IsNeeded, of_whole, of_reached, needed_part, option_needed, list_needed, map_needed, field_needed, payload_needed, variant_needed, alternative_needed, guarded_rests, row_at, sorted_ascends, found_inside, definition_needed, sorted_stays}
 use Rattle.page_tokens.specs.Reaching.{IsAny, ReachesNoAny}
 use Rattle.page_tokens.proofs.Sorting.{level_in_order, level_sorted, members_in_order}
 use Rattle.page_tokens.proofs.LevelsInOrder.{told_alike, told_mapped, each, weaker, both, same_nought, same_truth, same_character, same_number, same_words, same_one_of_names, same_optional, named_in_order, found_holds, same_denied, several, external_several, same_found, same_payload, by_same}

@@ -24,10 +24,7 @@ use Rattle.typed_values.specs.declared.fault.FaultKind.TheVariants.{NotListed, W
 use Rattle.typed_values.specs.declared.fault.Place.TheVariants.{Name}
 use Rattle.typed_values.specs.Denotes.{Told, below, refused, all_told, and_then, value_named, denied_name, nought, truth, character, number, words, one_of_names, optional, just, external, at_tag, by_tag, chosen, where_found, named_from, with_payload}
 use Rattle.typed_values.specs.Faults.{Trouble}
-use Rattle.typed_values.proofs.Arms.{at_tag_text, at_tag_other, payload_told, no_payload}
-use Rattle.typed_values.proofs.CallerLemmas.{first_sorted}
-use Rattle.typed_values.proofs.FirstNamed.{value_of_first, denied_sorted}
-use Rattle.typed_values.proofs.Listed.{found_inside}
+use Rattle.typed_values.proofs.CallerLemmas.{first_sorted, at_tag_text, at_tag_other, payload_told, no_payload, value_of_first, denied_sorted, found_inside}
 use Rattle.page_tokens.proofs.Sorting.{level_in_order, level_sorted, same_names}
 
 -- ---- lists of which each item is told the same

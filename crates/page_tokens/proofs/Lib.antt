@@ -6,3 +6,4 @@ pub mod LevelsInOrder
 pub mod InOrder
 pub mod Held
 pub mod Again
+pub mod CallerLemmas

@@ -7,9 +7,7 @@ use Rattle.schema_values.specs.Depth.{depth, depth_of_members}
 use Rattle.schema_values.specs.Get.{get_of, first_named}
 use Rattle.schema_values.specs.Sound.{IsSound}
 use Rattle.schema_values.specs.SortedMembers.{in_order_after, sorted_members, sorted_member}
-use Rattle.schema_values.proofs.AscendingLemmas.{sorted-Object}
-use Rattle.schema_values.proofs.Rows.{members_row, members_of_row}
-use Rattle.schema_values.proofs.CallerLemmas.{IsSound-Object}
+use Rattle.schema_values.proofs.CallerLemmas.{IsSound-Object, sorted-Object, members_row, members_of_row}
 use Rattle.schema_values.specs.Member.{member}
 use Rattle.page_tokens.specs.Forms.{v1}
 

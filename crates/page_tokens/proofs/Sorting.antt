@@ -13,8 +13,7 @@ use Rattle.schema_values.specs.Member.{name_of}
 use Rattle.schema_values.specs.Order.{at_place, inserted_by, sorted_by}
 use Rattle.schema_values.specs.Sound.{AreDistinct}
 use Rattle.schema_values.specs.SortedMembers.{placed, in_order_after, sorted_members, sorted_member}
-use Rattle.schema_values.proofs.AscendingLemmas.{sorted-List, sorted-Object}
-use Rattle.schema_values.proofs.CallerLemmas.{all_inserted, map_sorted}
+use Rattle.schema_values.proofs.CallerLemmas.{all_inserted, map_sorted, sorted-List, sorted-Object}
 use Rattle.descriptors.proofs.CallerLemmas.{same_text}
 
 -- a member of a new name goes where it goes in the order of names

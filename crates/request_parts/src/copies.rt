@@ -6,7 +6,7 @@ use http_uri::Uri;
 use semver::Version;
 use std::alloc::AllocError;
 
-/// A version of the same parts.
+/// A copy of a version, part by part. An error is want of memory.
 pub fn copy_version(version: &Version) -> Result<Version, AllocError>
     ensures { IfOk result (λ copy. parts_of copy ≡ parts_of version.now) }
 {

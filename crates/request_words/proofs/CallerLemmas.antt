@@ -6,3 +6,5 @@ pub use Rattle.request_words.proofs.After.{after_prefix}
 pub use Rattle.request_words.proofs.WordLemmas.{chars-word, same_test, word_in_bytes}
 -- ---- media types
 pub use Rattle.request_words.proofs.OneMediaType.{json_or_form}
+-- the last line of a name, where the lines are gone through from the end
+pub use Rattle.request_words.proofs.LastLine.{last_line-here, last_line-other}

@@ -1,10 +1,10 @@
 pub mod After
 pub mod AfterPrefix
 pub mod BlankLemmas
-pub mod CallerLemmas
 pub mod DigitLemmas
 pub mod LastLine
 pub mod Named
 pub mod OneMediaType
 pub mod ShownTexts
 pub mod WordLemmas
+pub mod CallerLemmas

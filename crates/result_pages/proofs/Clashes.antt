@@ -7,7 +7,7 @@ use Rattle.descriptors.specs.Definitions.{entry_of}
 use Rattle.schema_values.proofs.CallerLemmas.{contains_first}
 use Rattle.api_types.specs.Additions.{with_missing, with_all, AreRefused}
 use Rattle.api_types.specs.Types.{HoldsAll}
-use Rattle.api_types.proofs.AddedInOrder.{entry_stays}
+use Rattle.api_types.proofs.CallerLemmas.{entry_stays}
 
 -- what a name stands for stays when more are added
 stays_with : (o : Option Definition) (table : List Definition) (e : Definition) (name : List ℕ) (d : Definition) → entry_of table name ≡ Some d → entry_of (with_missing o table e) name ≡ Some d

@@ -25,7 +25,7 @@ use Rattle.openapi_values.specs.SchemaJson.{schema_json}
 use Rattle.request_words.proofs.CallerLemmas.{after_prefix}
 use Rattle.schema_util.specs.Forms.{SchemaForm, truth, form_of, by_parts, is_limited, other}
 use Rattle.schema_util.specs.References.{definitions_prefix, name_in, follow, follow_name, is_met, look_up, cycle, reference_in, reference_of, ComesTo, stays, breaks, goes_on, Names, Unresolved}
-use Rattle.schema_util.proofs.Steps.{followed}
+use Rattle.schema_util.proofs.CallerLemmas.{followed}
 use Rattle.schema_meaning.specs.Accepted.{IsAccepted}
 use Rattle.schema_meaning.specs.Asked.{parts_admit}
 use Rattle.schema_meaning.specs.Count.{room}

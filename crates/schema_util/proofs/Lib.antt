@@ -7,3 +7,4 @@ pub mod Once
 pub mod StructSteps
 pub mod GivesOnce
 pub mod Accepted
+pub mod CallerLemmas

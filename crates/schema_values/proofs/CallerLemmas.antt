@@ -9,7 +9,7 @@ pub use Rattle.schema_values.proofs.Contained.{contains_first, contains_later, c
 pub use Rattle.schema_values.proofs.SoundLemmas.{all-push}
 -- ---- names in order
 pub use Rattle.schema_values.proofs.DistinctLemmas.{Below, below_all, AreDistinct-sorted}
-pub use Rattle.schema_values.proofs.Entries.{IsBelow, inserted_last}
+pub use Rattle.schema_values.proofs.Entries.{IsBelow, inserted_last, one_more}
 pub use Rattle.schema_values.proofs.SortedLemmas.{map_sorted, all_inserted, all_sorted}
 pub use Rattle.schema_values.proofs.Stable.{less, kept_sorted, none_before_at, sorted_is_sorted}
 -- ---- JSON values, level by level
@@ -28,3 +28,9 @@ pub use Rattle.schema_values.proofs.SoundReadings.{reading_sound}
 pub use Rattle.schema_values.proofs.PrintLemmas.{compact-List, joined_from-push}
 -- ---- objects that are written member by member
 pub use Rattle.schema_values.proofs.MemberLemmas.{value_written, no_member_written, member_written, object_written}
+-- the children of a JSON value as a list
+pub use Rattle.schema_values.proofs.Rows.{members_of_row, members_row}
+-- a value printed over lines, level by level
+pub use Rattle.schema_values.proofs.PrettyLemmas.{pretty-Object}
+-- a value with its members in ascending order stays as it is
+pub use Rattle.schema_values.proofs.AscendingLemmas.{sorted-List, sorted-Object}

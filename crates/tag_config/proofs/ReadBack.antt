@@ -15,7 +15,7 @@ use Rattle.descriptors.specs.declared.tree.Tree.{Tree}
 use Rattle.descriptors.specs.declared.tree.Tree.TheVariants as trees
 use Rattle.typed_values.specs.Denotes.{JsonDenotes}
 use Rattle.typed_values.specs.Encoding.{parts_written, written_under}
-use Rattle.typed_values.proofs.EncodeSteps.{is_none_tree, struct_written}
+use Rattle.typed_values.proofs.CallerLemmas.{is_none_tree, struct_written}
 use Rattle.api_types.specs.Heads.{required}
 use Rattle.api_types.specs.Maps.{pair_of}
 use Rattle.api_types.specs.StructTypes.{field_with}

@@ -6,7 +6,7 @@ use Rattle.descriptors.specs.declared.table.AddError.{AddError}
 use Rattle.descriptors.specs.declared.table.Definition.{Definition}
 use Rattle.api_types.specs.Additions.{with_all}
 use Rattle.api_types.specs.Types.{HoldsAll}
-use Rattle.api_types.proofs.Added.{first_refused, second_refused}
+use Rattle.api_types.proofs.CallerLemmas.{first_refused, second_refused}
 use Rattle.typed_extractors.specs.Selectors.{HaveOwnTables}
 use Rattle.typed_extractors.specs.SlotAdditions.{AreSlotsRefused, HaveTables, SomeRefused}
 

@@ -33,3 +33,4 @@ pub mod BodyLemmas
 pub mod KeyedMembers
 pub mod SoundForms
 pub mod SoundSchemas
+pub mod CallerLemmas

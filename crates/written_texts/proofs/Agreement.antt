@@ -22,12 +22,9 @@ use Rattle.typed_values.specs.Resting.{RestsBy, Rests}
 use Rattle.typed_values.specs.SchemaTable.{Drawn, Remarks, annotations, described, drawn, drawn_json, enumerated, choices_of, is_described, plain, reference, schema_json_described}
 use Rattle.typed_values.proofs.CallerLemmas.{ok_just, names_apart, IsNeeded, needed_part, option_needed, reference_reached, reference_needed, is_right}
 use Rattle.scalar_texts.specs.Texts.{text_told, name_of_text}
-use Rattle.scalar_texts.proofs.TextSteps.{text_row}
+use Rattle.scalar_texts.proofs.CallerLemmas.{text_row}
 use Rattle.written_schemas.specs.Reached.{DefinesReached}
-use Rattle.written_schemas.proofs.Costs.{cost_after, cost_by, cost}
-use Rattle.written_schemas.proofs.Enumerations.{enumerated_is}
-use Rattle.written_schemas.proofs.Forms.{drawn_row}
-use Rattle.written_schemas.proofs.Notes.{noted, before_members}
+use Rattle.written_schemas.proofs.CallerLemmas.{cost_after, cost_by, cost, enumerated_is, drawn_row, noted, before_members}
 use Rattle.handler_shapes.specs.ScalarTypes.{IsScalarType, a_truth, a_character, a_number, a_text, a_name, an_option, a_reference}
 use Rattle.written_texts.proofs.NameTexts.{plain_names, described_names}
 use Rattle.written_texts.proofs.ScalarTexts.{truth_text, number_text, words_text, character_text}

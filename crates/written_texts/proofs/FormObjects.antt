@@ -27,9 +27,7 @@ use Rattle.typed_values.specs.SchemaTable.{Remarks, annotations, drawn, of_type,
 use Rattle.typed_values.proofs.CallerLemmas.{two_maps}
 use Rattle.flat_maps.specs.declared.repeats.Repeats.TheVariants.{Refuse}
 use Rattle.flat_maps.specs.Pairs.{pairs_fields}
-use Rattle.written_schemas.proofs.Forms.{field_property, properties_drawn, names_required, fields_drawn}
-use Rattle.written_schemas.proofs.Notes.{notes_passed}
-use Rattle.written_schemas.proofs.Sorted.{all_sorted}
+use Rattle.written_schemas.proofs.CallerLemmas.{field_property, properties_drawn, names_required, fields_drawn, notes_passed, all_sorted}
 use Rattle.written_texts.specs.FieldParameters.{is_required}
 use Rattle.written_texts.proofs.FieldTexts.{all_alike, all_both, stands_if}
 use Rattle.written_texts.proofs.Places.{AgreesOn, pairs_told_where}

@@ -27,11 +27,7 @@ use Rattle.flat_maps.specs.Flat.{resolved_by, resolved_at, resolved, under_struc
 use Rattle.flat_maps.specs.Pairs.{pairs_fields, pairs_told, PairsDenote}
 use Rattle.written_schemas.specs.Reached.{DefinesReached}
 use Rattle.written_schemas.specs.Written.{IsWritten}
-use Rattle.written_schemas.proofs.Costs.{cost_after, cost_by, cost}
-use Rattle.written_schemas.proofs.Forms.{drawn_row, properties_drawn, names_required, fields_drawn}
-use Rattle.written_schemas.proofs.Notes.{noted, before_members}
-use Rattle.written_schemas.proofs.Rooms.{cost_bounded}
-use Rattle.written_schemas.proofs.Sizes.{bare_fits}
+use Rattle.written_schemas.proofs.CallerLemmas.{cost_after, cost_by, cost, drawn_row, properties_drawn, names_required, fields_drawn, noted, before_members, cost_bounded, bare_fits}
 use Rattle.written_texts.specs.FlatStructs.{IsFlatStruct}
 use Rattle.written_texts.proofs.FlatFields.{struct_of, fields_defined, field_written}
 use Rattle.written_texts.proofs.FormObjects.{object_told}

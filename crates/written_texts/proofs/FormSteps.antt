@@ -10,7 +10,7 @@ use Rattle.openapi_values.specs.FormAdmits.{only_schema, resolved_step, resolved
 use Rattle.openapi_values.specs.Levels.{Level, as_list, as_object}
 use Rattle.openapi_values.specs.Lookup.{definition}
 use Rattle.typed_values.specs.SchemaTable.{Remarks, annotations}
-use Rattle.written_schemas.proofs.Notes.{notes_passed}
+use Rattle.written_schemas.proofs.CallerLemmas.{notes_passed}
 use Rattle.written_texts.proofs.SchemaSteps.{no_reference, reference_name}
 
 module _ (doc : Json) (k : ℕ) where

@@ -17,9 +17,7 @@ use Rattle.descriptors.specs.declared.desc.Named.{Named}
 use Rattle.descriptors.specs.Definitions.{listed_name}
 use Rattle.typed_values.specs.SchemaTable.{Drawn, Remarks, annotations, no_remarks, enumerated, described_choice, choices_of, nothing, drawn_json}
 use Rattle.scalar_texts.specs.Texts.{name_of_text}
-use Rattle.written_schemas.proofs.Counted.{count, one_counted}
-use Rattle.written_schemas.proofs.Enumerations.{enumerated_is, is_named, names_admit, named_once, ok_named, choices_counted}
-use Rattle.written_schemas.proofs.Notes.{notes_passed}
+use Rattle.written_schemas.proofs.CallerLemmas.{count, one_counted, enumerated_is, is_named, names_admit, named_once, ok_named, choices_counted, notes_passed}
 use Rattle.written_texts.proofs.ScalarTexts.{first_step, beside_null}
 use Rattle.written_texts.proofs.SchemaSteps.{one_more, typed_step, string_step, choice_step}
 

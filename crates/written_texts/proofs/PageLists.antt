@@ -24,8 +24,8 @@ use Rattle.typed_values.specs.Denotes.{Told, if_holds, just}
 use Rattle.typed_values.specs.SchemaTable.{schema_json}
 use Rattle.typed_values.proofs.CallerLemmas.{ok_just}
 use Rattle.scalar_texts.specs.Texts.{kind_name, number_in, number_of_text, number_or_fault, text_told}
-use Rattle.scalar_texts.proofs.TextSteps.{text_row}
-use Rattle.written_schemas.proofs.Sorted.{all_sorted}
+use Rattle.scalar_texts.proofs.CallerLemmas.{text_row}
+use Rattle.written_schemas.proofs.CallerLemmas.{all_sorted}
 use Rattle.written_texts.specs.FieldParameters.{parameter_of}
 use Rattle.written_texts.specs.PageParameters.{AreItemCount, HasLimit, NoneRequired, limit_field, page_parameters, parameter_name, scan_parameter, token_field}
 use Rattle.written_texts.proofs.PageTexts.{limit_text, limit_where, none_guarded}

@@ -33,9 +33,8 @@ use Rattle.flat_maps.specs.declared.repeats.Repeats.TheVariants.{Refuse}
 use Rattle.flat_maps.specs.Flat.{resolved_at, resolved_by, resolved, under_struct, flat_fields, flat_told, FlatDenotes}
 use Rattle.flat_maps.specs.Pairs.{last_values, pairs_fields, pairs_told}
 use Rattle.scalar_texts.specs.Texts.{text_told}
-use Rattle.scalar_texts.proofs.TextSteps.{text_row}
-use Rattle.written_schemas.proofs.Forms.{drawn_row}
-use Rattle.written_schemas.proofs.Sorted.{all_sorted, any_sorted}
+use Rattle.scalar_texts.proofs.CallerLemmas.{text_row}
+use Rattle.written_schemas.proofs.CallerLemmas.{drawn_row, all_sorted, any_sorted}
 use Rattle.written_texts.specs.FieldParameters.{parameter_of}
 use Rattle.written_texts.specs.FlatStructs.{IsFlatStruct, DefinesFields}
 use Rattle.written_texts.specs.PageParameters.{scan_parameter, limit_field, token_field, parameter_name, page_parameters, first_page_names, PageParametersHold, HasLimit, NoneNamed}

@@ -19,7 +19,7 @@ use Rattle.flat_maps.specs.declared.repeats.Repeats.TheVariants.{Refuse}
 use Rattle.flat_maps.specs.Flat.{under_struct, fields_told, looked_up, flat_told, FlatDenotes}
 use Rattle.flat_maps.specs.Maps.{map_values}
 use Rattle.flat_maps.specs.Pairs.{pairs_fields, pairs_told, PairsDenote}
-use Rattle.written_schemas.proofs.Sorted.{all_sorted}
+use Rattle.written_schemas.proofs.CallerLemmas.{all_sorted}
 use Rattle.written_texts.specs.FieldParameters.{parameter_of, field_parameters, path_parameters, query_parameters, header_parameters, AllHold, AllRequired}
 use Rattle.written_texts.specs.FlatStructs.{IsFlatStruct, DefinesFields}
 use Rattle.header_texts.specs.HeaderTexts.{header_told, headers_told, HeadersDenote}

@@ -23,8 +23,7 @@ use Rattle.typed_values.specs.Bounds.{is_number_of}
 use Rattle.typed_values.specs.Denotes.{refused}
 use Rattle.typed_values.specs.SchemaTable.{Remarks, annotations, of_type, format_of, least_shown, one_character}
 use Rattle.scalar_texts.specs.Texts.{truth_of_text, has_no_sign, number_or_fault, number_of_text, words_of_text, character_of_text}
-use Rattle.written_schemas.proofs.Notes.{notes_passed}
-use Rattle.written_schemas.proofs.Scalars.{numbers, bounds, texts, lengths, number_admits, words_admit, character_admits, ok_holds}
+use Rattle.written_schemas.proofs.CallerLemmas.{notes_passed, numbers, bounds, texts, lengths, number_admits, words_admit, character_admits, ok_holds}
 use Rattle.written_texts.proofs.SchemaSteps.{truth_step, number_step, string_step}
 
 -- a value beside null that is none

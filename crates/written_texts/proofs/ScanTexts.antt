@@ -20,7 +20,7 @@ use Rattle.typed_values.specs.Schemas.{in_query}
 use Rattle.typed_values.specs.SchemaTable.{schema_json}
 use Rattle.flat_maps.specs.Flat.{under_struct, fields_told, given_told, looked_up, flat_told}
 use Rattle.flat_maps.specs.Pairs.{last_values}
-use Rattle.written_schemas.proofs.Sorted.{all_sorted}
+use Rattle.written_schemas.proofs.CallerLemmas.{all_sorted}
 use Rattle.written_texts.specs.FieldParameters.{is_required}
 use Rattle.written_texts.specs.FlatStructs.{IsFlatStruct, DefinesFields}
 use Rattle.written_texts.specs.PageParameters.{first_page_names, NoneNamed}

@@ -15,7 +15,7 @@ use Rattle.openapi_values.specs.Options.{is_some_and}
 use Rattle.openapi_values.specs.Rows.{one_admits}
 use Rattle.openapi_values.specs.TextAdmits.{json_admitted, typed_admits, only_admits, one_or_typed, form_admits, reference_or_form, text_step, text_within, is_unsigned}
 use Rattle.typed_values.specs.SchemaTable.{Remarks, annotations, of_type}
-use Rattle.written_schemas.proofs.Notes.{notes_passed}
+use Rattle.written_schemas.proofs.CallerLemmas.{notes_passed}
 
 -- the name that a reference alone refers to
 pub reference_name : (name : List ℕ) → reference_in (member (codes "$ref") (Words (codes "#/components/schemas/" ++ name)) ∷ []) ≡ Some name

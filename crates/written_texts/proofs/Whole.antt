@@ -15,11 +15,9 @@ use Rattle.typed_values.specs.Schemas.{in_header, in_query}
 use Rattle.typed_values.specs.SchemaTable.{Remarks, drawn, drawn_json, defaulted, described, schema_json, schema_json_titled, schema_json_described}
 use Rattle.typed_values.proofs.CallerLemmas.{ok_just, of_whole, option_needed, guarded_rests}
 use Rattle.scalar_texts.specs.Texts.{text_told}
-use Rattle.scalar_texts.proofs.TextSteps.{text_row}
+use Rattle.scalar_texts.proofs.CallerLemmas.{text_row}
 use Rattle.written_schemas.specs.Written.{IsWritten}
-use Rattle.written_schemas.proofs.Notes.{noted}
-use Rattle.written_schemas.proofs.Rooms.{cost_bounded}
-use Rattle.written_schemas.proofs.Sizes.{bare, bare_fits}
+use Rattle.written_schemas.proofs.CallerLemmas.{noted, cost_bounded, bare, bare_fits}
 use Rattle.written_texts.specs.Agrees.{AdmitsTexts}
 use Rattle.handler_shapes.specs.ScalarTypes.{IsScalarType, a_truth, a_character, a_number, a_text, a_name, an_option, a_reference}
 use Rattle.written_texts.proofs.Agreement.{agree_at}

@@ -1,4 +1,4 @@
-use Rattle.scalar_texts.proofs.Passing.{list_passes}
+use Rattle.scalar_texts.proofs.CallerLemmas.{list_passes}
 use Rattle.flat_maps.proofs.fault_words.item_words.Goals as goal
 
 pub held-requires-clause-desc : goal.held-requires-clause-desc

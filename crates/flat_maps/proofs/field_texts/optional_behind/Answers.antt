@@ -1,4 +1,4 @@
-use Rattle.scalar_texts.proofs.Passing.{option_passes}
+use Rattle.scalar_texts.proofs.CallerLemmas.{option_passes}
 use Rattle.flat_maps.proofs.field_texts.optional_behind.Goals as goal
 
 pub optional_text-requires-clause-inner : goal.optional_text-requires-clause-inner

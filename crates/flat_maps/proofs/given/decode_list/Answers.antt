@@ -1,5 +1,5 @@
 use Rattle.flat_maps.proofs.Arms.{told_list, no_list}
-use Rattle.scalar_texts.proofs.Passing.{list_passes}
+use Rattle.scalar_texts.proofs.CallerLemmas.{list_passes}
 use Rattle.flat_maps.proofs.given.decode_list.Goals as goal
 
 pub decode_items-requires-clause-item : goal.decode_items-requires-clause-item

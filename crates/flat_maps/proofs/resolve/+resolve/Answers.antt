@@ -1,9 +1,8 @@
 use Rattle.std.proofs.Common.{Some, None, sym, ◌∙◌, ap, arith}
 use Rattle.descriptors.specs.declared.desc.Desc.{out-Desc}
 use Rattle.descriptors.specs.declared.desc.Desc.TheVariants as desc
-use Rattle.scalar_texts.proofs.Passing.{definition_passes}
+use Rattle.scalar_texts.proofs.CallerLemmas.{definition_passes, fewer_behind}
 use Rattle.flat_maps.proofs.ResolveSteps.{at_name, here}
-use Rattle.scalar_texts.proofs.Steps.{fewer_behind}
 use Rattle.flat_maps.proofs.resolve.+resolve.Goals as goal
 
 pub resolve-requires : goal.resolve-requires

@@ -1,4 +1,4 @@
-use Rattle.scalar_texts.proofs.Steps.{steps}
+use Rattle.scalar_texts.proofs.CallerLemmas.{steps}
 use Rattle.flat_maps.proofs.resolve.+resolve.Given as goal
 
 abbrev pub decreases-resolve : goal.decreases-resolve

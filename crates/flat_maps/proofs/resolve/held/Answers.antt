@@ -1,4 +1,4 @@
-use Rattle.scalar_texts.proofs.Passing.{option_passes}
+use Rattle.scalar_texts.proofs.CallerLemmas.{option_passes}
 use Rattle.flat_maps.proofs.resolve.held.Goals as goal
 
 pub resolve-requires-in-Option-clause-desc : goal.resolve-requires-in-Option-clause-desc

@@ -2,7 +2,7 @@ use Rattle.std.proofs.Common.{List, Some, ap, sym, ◌∙◌, subst}
 use Rattle.std.specs.Prelude.{Contains}
 use Rattle.descriptors.specs.declared.desc.Field.{Field}
 use Rattle.flat_maps.proofs.Arms.{open_struct, denied_struct, no_struct}
-use Rattle.scalar_texts.proofs.Passing.{fields_pass}
+use Rattle.scalar_texts.proofs.CallerLemmas.{fields_pass}
 use Rattle.flat_maps.proofs.resolve.open_fields.Goals as goal
 
 pub returns-then-deny_unknown-clause-fields : goal.returns-then-deny_unknown-clause-fields

@@ -7,7 +7,7 @@ use Rattle.descriptors.specs.declared.desc.Field.{Field}
 use Rattle.descriptors.specs.Definitions.{field_name}
 use Rattle.typed_values.specs.Parts.{the_whole}
 use Rattle.typed_values.proofs.CallerLemmas.{fields_distinct}
-use Rattle.scalar_texts.proofs.Passing.{fields_pass}
+use Rattle.scalar_texts.proofs.CallerLemmas.{fields_pass}
 use Rattle.flat_maps.proofs.TextLoops.{written_distinct}
 use Rattle.flat_maps.proofs.text_maps.map_of.Goals as goal
 

@@ -3,7 +3,7 @@ use Rattle.std.proofs.lemmas.List.{map_push}
 use Rattle.header_lists.specs.HeaderLists.{Line}
 use Rattle.request_parts.specs.Wire.{wire_line}
 use Rattle.request_words.specs.HeaderLines.{last_line}
-use Rattle.request_words.proofs.LastLine.{last_line-here, last_line-other}
+use Rattle.request_words.proofs.CallerLemmas.{last_line-here, last_line-other}
 use Rattle.header_texts.proofs.lines.last_line.Goals as goal
 
 pub loop-line-preserved : goal.loop-line-preserved

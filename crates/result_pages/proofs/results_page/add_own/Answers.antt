@@ -1,5 +1,5 @@
 use Rattle.std.proofs.Common.{[], ◌∷◌}
-use Rattle.api_types.proofs.Added.{told}
+use Rattle.api_types.proofs.CallerLemmas.{told}
 use Rattle.result_pages.specs.Pages.{page_definition}
 use Rattle.result_pages.proofs.results_page.add_own.Goals as goal
 

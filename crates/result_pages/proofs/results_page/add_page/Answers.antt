@@ -1,6 +1,6 @@
 use Rattle.std.proofs.Common.{[], ◌∷◌}
 use Rattle.api_types.specs.Kinds.{definitions_behind}
-use Rattle.api_types.proofs.Added.{adds_both, first_refused, second_refused}
+use Rattle.api_types.proofs.CallerLemmas.{adds_both, first_refused, second_refused}
 use Rattle.result_pages.specs.Pages.{page_definition, page_kinds}
 use Rattle.result_pages.proofs.results_page.add_page.Goals as goal
 

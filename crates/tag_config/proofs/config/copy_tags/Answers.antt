@@ -1,6 +1,6 @@
 use Rattle.std.proofs.Common.{◌++◌, sym, ◌∙◌, ap}
 use Rattle.std.proofs.lemmas.List.{append-nil}
-use Rattle.schema_values.proofs.Entries.{one_more}
+use Rattle.schema_values.proofs.CallerLemmas.{one_more}
 use Rattle.tag_config.proofs.config.copy_tags.Goals as goal
 
 pub loop-name-preserved-in_ok-insert : goal.loop-name-preserved-in_ok-insert

@@ -1,6 +1,6 @@
 use Rattle.std.proofs.lemmas.Result.{err_from_is_err_and}
 use Rattle.typed_values.specs.SchemaTable.{schema_json, schema_json_titled}
-use Rattle.written_schemas.proofs.Whole.{plain_agrees, titled_agrees}
+use Rattle.written_schemas.proofs.CallerLemmas.{plain_agrees, titled_agrees}
 use Rattle.type_wire.proofs.Admitted.{none_refused, read_admitted}
 use Rattle.type_wire.proofs.wire.json_value.Goals as goal
 

@@ -2,7 +2,7 @@ use Rattle.std.proofs.Common.{subst, IfOk}
 use Rattle.descriptors.specs.declared.tree.Tree.{Tree}
 use Rattle.typed_values.specs.Denotes.{JsonDenotes}
 use Rattle.typed_values.specs.SchemaTable.{schema_json, schema_json_titled}
-use Rattle.written_schemas.proofs.Whole.{plain_agrees, titled_agrees}
+use Rattle.written_schemas.proofs.CallerLemmas.{plain_agrees, titled_agrees}
 use Rattle.type_wire.proofs.Admitted.{admitted}
 use Rattle.type_wire.proofs.wire.value_json.Goals as goal
 

@@ -1,5 +1,5 @@
 use Rattle.std.specs.List.{flat_map}
-use Rattle.api_types.proofs.Added.{adds_both}
+use Rattle.api_types.proofs.CallerLemmas.{adds_both}
 use Rattle.typed_extractors.specs.Selectors.{selectors_in}
 use Rattle.typed_extractors.proofs.Reaching.{both_reach}
 use Rattle.typed_extractors.proofs.Refusing.{both_have, both_own, first_slot_refused, handed_on, other_slot_refused}

@@ -1,4 +1,4 @@
-use Rattle.endpoint_notation.proofs.CodelessShapes.{codeless}
+use Rattle.endpoint_notation.proofs.CallerLemmas.{codeless}
 use Rattle.handler_cases.proofs.handler.NotedHandlerRouteHandler.shape.Goals as goal
 
 pub returns-clause-codeless : goal.returns-clause-codeless

@@ -1,5 +1,5 @@
 use Rattle.std.proofs.Common.{false, refl}
-use Rattle.api_types.proofs.StructTypes.{type_reaches}
+use Rattle.api_types.proofs.CallerLemmas.{type_reaches}
 use Rattle.result_pages.specs.Pages.{page_head, page_kinds, page_name}
 use Rattle.result_pages.proofs.results_page.ResultsPageApiType.reach.Goals as goal
 
