@@ -1,4 +1,5 @@
 pub mod Results
+pub mod Begun
 pub mod TextLemmas
 pub mod Rows
 pub mod SoundLemmas

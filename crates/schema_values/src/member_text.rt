@@ -1,5 +1,6 @@
 //! The members of an object, written one by one at the end of a text.
-ghost use Rattle.std.specs.Prelude.{◌≡◌, ◌++◌, ◌∷◌, [], OnOk, IsTrue};
+ghost use Rattle.std.specs.Prelude.{◌≡◌, ◌++◌, ◌∷◌, [], OnErr, OnOk, IsTrue};
+ghost use Rattle.std.specs.Io.{StartsWith};
 ghost use Rattle.std.specs.Str.{chars};
 ghost use Rattle.schema_values.specs.Ascii.{all_ascii};
 ghost use Rattle.schema_values.specs.Member.{member};
@@ -17,7 +18,8 @@ use std::alloc::{AllocError, Global};
 /// index is how many stand before it.
 pub fn write_name(index: usize, name: &str, out: &mut Text) -> Result<(), AllocError>
     requires { IsTrue (all_ascii name.now) }
-    ensures { OnOk result (out.new ≡ out.old ++ (comma_before index ++ (quoted name.now ++ 58 ∷ []))) }
+    ensures ok { OnOk result (out.new ≡ out.old ++ (comma_before index ++ (quoted name.now ++ 58 ∷ []))) }
+    ensures err { OnErr result (StartsWith out.new out.old) }
 {
     write_comma(index, out)?;
     write_quoted_str(name, out)?;
@@ -32,8 +34,9 @@ pub fn write_text_member(
     out: &mut Text,
 ) -> Result<(), AllocError>
     requires { IsTrue (all_ascii name.now) }
-    ensures { OnOk result (out.new ≡ out.old
+    ensures ok { OnOk result (out.new ≡ out.old
         ++ (comma_before index ++ compact_member (member name.now (Words (chars value.now))))) }
+    ensures err { OnErr result (StartsWith out.new out.old) }
 {
     write_name(index, name, out)?;
     write_quoted_str(value, out)
@@ -48,8 +51,9 @@ pub fn write_number_member(
     out: &mut Text,
 ) -> Result<(), AllocError>
     requires { IsTrue (all_ascii name.now) }
-    ensures { OnOk result (out.new ≡ out.old
+    ensures ok { OnOk result (out.new ≡ out.old
         ++ (comma_before index ++ compact_member (member name.now (Number value)))) }
+    ensures err { OnErr result (StartsWith out.new out.old) }
 {
     write_name(index, name, out)?;
     out.push_number(alloc, value)
@@ -64,8 +68,9 @@ pub fn write_member(
     out: &mut Text,
 ) -> Result<(), AllocError>
     requires { IsTrue (all_ascii name.now) }
-    ensures { OnOk result (out.new ≡ out.old
+    ensures ok { OnOk result (out.new ≡ out.old
         ++ (comma_before index ++ compact_member (member name.now value.now))) }
+    ensures err { OnErr result (StartsWith out.new out.old) }
 {
     write_name(index, name, out)?;
     value.write_compact(alloc, out)

@@ -1,4 +1,5 @@
-ghost use Rattle.std.specs.Prelude.{◌≡◌, ◌≤◌, ◌++◌, IfOk, OnOk, map, codes, if◌then◌else◌};
+ghost use Rattle.std.specs.Prelude.{◌≡◌, ◌≤◌, ◌++◌, IfOk, OnErr, OnOk, map, codes, if◌then◌else◌};
+ghost use Rattle.std.specs.Io.{StartsWith};
 ghost use Rattle.std.specs.Str.{encode_utf8_all};
 ghost use Rattle.schema_values.specs.Depth.{depth};
 ghost use Rattle.schema_values.specs.Print.{joined, comma_before, compact_of};
@@ -29,7 +30,8 @@ impl Json {
 
     #[cycle(compact)]
     pub(crate) fn write_compact(&self, alloc: Global, out: &mut Text) -> Result<(), AllocError>
-        ensures { OnOk result (out.new ≡ out.old ++ compact_of self.now) }
+        ensures ok { OnOk result (out.new ≡ out.old ++ compact_of self.now) }
+        ensures err { OnErr result (StartsWith out.new out.old) }
     {
         match self {
             Json::Null => out.push_ascii("null"),
@@ -52,7 +54,8 @@ impl Json {
 
 #[cycle(compact)]
 fn write_items(alloc: Global, items: &[Json], out: &mut Text) -> Result<(), AllocError>
-    ensures { OnOk result (out.new ≡ out.old ++ joined (map compact_of items.now)) }
+    ensures ok { OnOk result (out.new ≡ out.old ++ joined (map compact_of items.now)) }
+    ensures err { OnErr result (StartsWith out.new out.old) }
 {
     for (index, item) in items.iter().enumerate() {
         write_comma(index, out)?;
@@ -63,7 +66,8 @@ fn write_items(alloc: Global, items: &[Json], out: &mut Text) -> Result<(), Allo
 
 #[cycle(compact)]
 fn write_members(alloc: Global, members: &[Member], out: &mut Text) -> Result<(), AllocError>
-    ensures { OnOk result (out.new ≡ out.old ++ joined (map compact_member members.now)) }
+    ensures ok { OnOk result (out.new ≡ out.old ++ joined (map compact_member members.now)) }
+    ensures err { OnErr result (StartsWith out.new out.old) }
 {
     for (index, member) in members.iter().enumerate() {
         write_comma(index, out)?;
@@ -76,13 +80,15 @@ fn write_members(alloc: Global, members: &[Member], out: &mut Text) -> Result<()
 
 /// Puts a comma at the end where texts stand before the next one. The index is how many stand before it.
 pub fn write_comma(index: usize, out: &mut Text) -> Result<(), AllocError>
-    ensures { OnOk result (out.new ≡ out.old ++ comma_before index) }
+    ensures ok { OnOk result (out.new ≡ out.old ++ comma_before index) }
+    ensures err { OnErr result (out.new ≡ out.old) }
 {
     if index == 0 { Ok(()) } else { out.push(',') }
 }
 
 pub(crate) fn write_truth(truth: bool, out: &mut Text) -> Result<(), AllocError>
-    ensures { OnOk result (out.new ≡ out.old ++ (if truth then codes "true" else codes "false")) }
+    ensures ok { OnOk result (out.new ≡ out.old ++ (if truth then codes "true" else codes "false")) }
+    ensures err { OnErr result (out.new ≡ out.old) }
 {
     if truth {
         out.push_ascii("true")

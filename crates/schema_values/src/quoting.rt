@@ -1,5 +1,6 @@
 //! Texts between quotation marks (RFC 8259, section 7), written run by run.
-ghost use Rattle.std.specs.Prelude.{ℕ, ◌≡◌, ◌<◌, ◌≤◌, ◌↔◌, ◌++◌, OnOk, IsTrue, length, get_or};
+ghost use Rattle.std.specs.Prelude.{ℕ, ◌≡◌, ◌<◌, ◌≤◌, ◌↔◌, ◌++◌, OnErr, OnOk, IsTrue, length, get_or};
+ghost use Rattle.std.specs.Io.{StartsWith};
 ghost use Rattle.std.specs.List.{flat_map};
 ghost use Rattle.std.specs.Str.{chars};
 ghost use Rattle.schema_values.specs.Print.{escape, hex_digit, quoted};
@@ -10,14 +11,16 @@ use std::alloc::AllocError;
 
 /// Puts a text between quotation marks at the end of another, with its escapes.
 pub fn write_quoted(text: &Text, out: &mut Text) -> Result<(), AllocError>
-    ensures { OnOk result (out.new ≡ out.old ++ quoted text.now) }
+    ensures ok { OnOk result (out.new ≡ out.old ++ quoted text.now) }
+    ensures err { OnErr result (StartsWith out.new out.old) }
 {
     write_quoted_str(text.as_str(), out)
 }
 
 /// Puts the characters of a `&str` between quotation marks at the end of a text, with their escapes.
 pub fn write_quoted_str(text: &str, out: &mut Text) -> Result<(), AllocError>
-    ensures { OnOk result (out.new ≡ out.old ++ quoted (chars text.now)) }
+    ensures ok { OnOk result (out.new ≡ out.old ++ quoted (chars text.now)) }
+    ensures err { OnErr result (StartsWith out.new out.old) }
 {
     out.push('"')?;
     write_characters(text, out)?;
@@ -25,7 +28,8 @@ pub fn write_quoted_str(text: &str, out: &mut Text) -> Result<(), AllocError>
 }
 
 fn write_characters(text: &str, out: &mut Text) -> Result<(), AllocError>
-    ensures { OnOk result (out.new ≡ out.old ++ flat_map escape (chars text.now)) }
+    ensures ok { OnOk result (out.new ≡ out.old ++ flat_map escape (chars text.now)) }
+    ensures err { OnErr result (StartsWith out.new out.old) }
 {
     let mut from = 0;
     loop {
@@ -62,7 +66,8 @@ fn is_unescaped(byte: u8) -> bool
 
 #[tactic(auto, unfolding(crate::specs::Print::escape))]
 fn write_escaped(character: char, out: &mut Text) -> Result<(), AllocError>
-    ensures { OnOk result (out.new ≡ out.old ++ escape character) }
+    ensures ok { OnOk result (out.new ≡ out.old ++ escape character) }
+    ensures err { OnErr result (StartsWith out.new out.old) }
 {
     match character {
         '"' => out.push_ascii("\\\""),

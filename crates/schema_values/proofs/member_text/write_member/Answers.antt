@@ -1,12 +1,19 @@
 use Rattle.std.proofs.Common.{◌++◌, ◌∙◌, ap}
+use Rattle.std.proofs.lemmas.Result.{on_err_weaker}
 use Rattle.schema_values.specs.Print.{compact_of}
+use Rattle.schema_values.proofs.Begun.{begins_behind}
 use Rattle.schema_values.proofs.MemberLemmas.{value_written}
 use Rattle.schema_values.proofs.Results.{OnOk-map}
 use Rattle.schema_values.proofs.member_text.write_member.Goals as goal
 
-pub returns : goal.returns
-returns c =
+pub returns-clause-ok : goal.returns-clause-ok
+returns-clause-ok c =
     let value = compact_of c.args.value.now in
     OnOk-map c.write_compact.result _ _ (λ is.
-    is ∙ ap (λ out. out ++ value) c.in_ok-write_name.ensures ∙ value_written c.args.out.now c.args.index c.args.name.now value)
-    c.write_compact.ensures
+    is ∙ ap (λ out. out ++ value) c.in_ok-write_name.ensures.ok ∙ value_written c.args.out.now c.args.index c.args.name.now value)
+    c.write_compact.ensures.ok
+
+pub returns-clause-err : goal.returns-clause-err
+returns-clause-err c =
+    on_err_weaker c.write_compact.result (begins_behind c.args.out.now _ c.write_name.new.out c.write_compact.new.out c.in_ok-write_name.ensures.ok)
+    c.write_compact.ensures.err
