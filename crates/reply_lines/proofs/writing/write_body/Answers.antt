@@ -14,7 +14,7 @@ returns-in-Ok c =
       inl (c.in-Ok.ensures.cases.1, refl),
       is ∙ ap (λ text. c.args.out.now
           ++ (comma_before 3 ++ compact_member (member (codes "body") (Words (chars text))))) c.in-Ok.ensures.cases.0,
-    )) c.write_text_member.ensures
+    )) c.write_text_member.ensures.ok
 
 pub returns-in-Err : goal.returns-in-Err
 returns-in-Err c =

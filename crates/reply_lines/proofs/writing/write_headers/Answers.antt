@@ -15,6 +15,6 @@ returns c =
       is ∙ ap (λ out. out ++ 93 ∷ [])
           (c.in_ok-write_pairs.ensures.2 ∙ ap (λ out. out ++ joined (map compact_of pairs)) c.in_ok-push.ensures.ok)
           ∙ list_text c.write_name.new.out pairs
-          ∙ ap (λ out. out ++ compact_of (Items pairs)) c.in_ok-write_name.ensures
+          ∙ ap (λ out. out ++ compact_of (Items pairs)) c.in_ok-write_name.ensures.ok
           ∙ value_written c.args.out.now 2 (codes "headers") (compact_of (Items pairs)),
     )) c.push-2.ensures.ok

@@ -16,4 +16,4 @@ returns c =
     (c.in_ok-push.ensures.ok ∙ no_member_written start)
     (is ∙ ap (λ text. c.push.new.self ++ ([] ++ compact_member (member (codes "outcome") (Words text))))
     (chars-all_ascii outcome c.requires)))
-    c.write_text_member.ensures
+    c.write_text_member.ensures.ok

@@ -21,7 +21,7 @@ returns c =
       is ∙ ap (λ out. out ++ 93 ∷ [])
           (c.in_ok-write_shown.ensures.2 ∙ ap (λ out. out ++ compact_of value) (c.in_ok-push-2.ensures.ok
           ∙ ap (λ out. out ++ 44 ∷ [])
-          (c.in_ok-write_quoted_str.ensures
+          (c.in_ok-write_quoted_str.ensures.ok
           ∙ ap (λ out. out ++ quoted (chars c.as_str.result.now)) c.in_ok-push.ensures.ok
           ∙ ap (λ text. (start ++ 91 ∷ []) ++ quoted (chars text)) c.as_str.ensures.value)))
           ∙ pair_text start name value,

@@ -13,7 +13,7 @@ returns-in-Ok c =
       Words (chars c.args.bytes.now),
       inl (c.in-Ok.ensures.cases.1, refl),
       is ∙ ap (λ text. c.args.out.now ++ quoted (chars text)) c.in-Ok.ensures.cases.0,
-    )) c.write_quoted_str.ensures
+    )) c.write_quoted_str.ensures.ok
 
 pub returns-in_ok-write_hex-in-Err : goal.returns-in_ok-write_hex-in-Err
 returns-in_ok-write_hex-in-Err c =

@@ -11,6 +11,6 @@ returns c =
     let valid = subst IsStatusCode c.as_u16-code.ensures.value c.as_u16-code.ensures.valid in
     on_ok_weaker c.push_ascii.result (λ is.
     is ∙ ap (λ text. c.write_name.new.out ++ text) (c.as_str.ensures ∙ sym (status_digits status valid))
-    ∙ ap (λ out. out ++ decimal status) c.in_ok-write_name.ensures
+    ∙ ap (λ out. out ++ decimal status) c.in_ok-write_name.ensures.ok
     ∙ value_written c.args.out.now 1 (codes "status") (decimal status))
     c.push_ascii.ensures.ok
