@@ -10,7 +10,7 @@ use schema_values::{Json, Text};
 use std::alloc::Global;
 
 /// The names that members of a case have.
-const MEMBERS: [&str; 23] = [
+const MEMBERS: [&str; 24] = [
     "case",
     "like",
     "call",
@@ -25,6 +25,7 @@ const MEMBERS: [&str; 23] = [
     "title",
     "version",
     "request",
+    "requests",
     "limit",
     "budget",
     "calls",
@@ -62,6 +63,7 @@ impl AnswersCases for EndpointCases {
 fn over_api(alloc: Global, case: &Json, call: &str) -> Result<Json, CaseError> {
     let call = match call {
         "exchange" => ApiCall::Exchange,
+        "exchanges" => ApiCall::Exchanges,
         "exchange_from" => ApiCall::ExchangeFrom,
         "document" => ApiCall::Document,
         "document_said" => ApiCall::DocumentSaid,

@@ -5,7 +5,7 @@ ghost use Rattle.api_descriptions.specs.Ready.{IsReady};
 
 use crate::admission::admits;
 use crate::documents::{document, document_text, written};
-use crate::exchanges::{Way, exchanged};
+use crate::exchanges::{Way, exchanged, exchanged_in_turn};
 use crate::information::document_said;
 use crate::parts::all_shown;
 use crate::registering::{outcome_told, refusal_told};
@@ -21,6 +21,8 @@ use std::alloc::Global;
 pub enum ApiCall {
     /// What comes of a request with its body.
     Exchange,
+    /// What comes of requests with their bodies, one behind the other.
+    Exchanges,
     /// What comes of a request whose body is a source.
     ExchangeFrom,
     /// The document.
@@ -118,6 +120,7 @@ fn over_api(
 {
     match call {
         ApiCall::Exchange => exchanged(alloc, case, api, Way::Body),
+        ApiCall::Exchanges => exchanged_in_turn(alloc, case, api),
         ApiCall::ExchangeFrom => exchanged(alloc, case, api, Way::Source),
         ApiCall::Document => document(alloc, case, api),
         ApiCall::DocumentSaid => document_said(alloc, case, api),

@@ -1,7 +1,9 @@
 //! What an API answers the request of a case, from an empty store, or from that of the sample. The request, its body
-//! and how it is read are noted as requests.rt and reading.rt of `endpoint_notation` say. What is told is what a reply
-//! line of the tool tells, with the arguments of the handler under `"args"`, or the place of the fault under `"at"`;
-//! and how many bytes of the body were not read, under `"unread"`.
+//! and how it is read are noted as requests.rt and reading.rt of `endpoint_notation` say. Or `"requests"` are several,
+//! answered in turn from one store: each is an object with its `"request"`, and beside it `"version"`, `"limit"`,
+//! `"budget"` and `"calls"` as in a case. What is told is what a reply line of the tool tells, with the arguments of
+//! the handler under `"args"`, or the place of the fault under `"at"`; and how many bytes of the body were not read,
+//! under `"unread"`. Want of memory, which no line tells, is the outcome `out-of-memory`.
 ghost use Rattle.std.specs.Prelude.{◌<◌, ◌-◌, ◌^◌};
 ghost use Rattle.api_endpoints.specs.Endpoints.{boxed};
 ghost use Rattle.api_descriptions.specs.Ready.{IsReady};
@@ -11,7 +13,7 @@ use crate::responses::with_response;
 use crate::stores::store_of;
 use api_descriptions::{ApiDescription, Exchange, ExchangeError};
 use api_respond::RouteHandler;
-use case_notation::{CaseError, Record, say};
+use case_notation::{CaseError, Record, Row, check_names, given_items, say};
 use endpoint_notation::{Reading, args_told, body_of, parts_of, reading_of, request_at};
 use handler_shapes::ArgList;
 use http_bodies::{Body, DumpError, http_dump_body};
@@ -22,6 +24,9 @@ use schema_values::{Json, Scratch};
 use std::alloc::Global;
 use tree_store::Store;
 use typed_values::Fault;
+
+// What may stand in one of several requests.
+const MEMBERS: [&str; 5] = ["request", "version", "limit", "budget", "calls"];
 
 /// How a body is given.
 #[derive(Clone, Copy)]
@@ -41,9 +46,53 @@ pub fn exchanged(
 ) -> Result<Json, CaseError>
     requires { IsReady (boxed ⟦<dyn RouteHandler as RouteHandler>⟧) api.now }
 {
-    let body = body_of(alloc, request_at(case)?)?;
+    let mut store = store_of(alloc, case)?;
+    exchanged_with(alloc, case, api, way, &mut store)
+}
+
+/// What comes of each of the requests of a case, one behind the other.
+pub fn exchanged_in_turn(
+    alloc: Global,
+    case: &Json,
+    api: &ApiDescription,
+) -> Result<Json, CaseError>
+    requires { IsReady (boxed ⟦<dyn RouteHandler as RouteHandler>⟧) api.now }
+{
+    let requests = given_items(case, "requests")?;
+    let mut store = store_of(alloc, case)?;
+    let mut told = Row::new(alloc);
+    for noted in requests {
+        told.push(turn_told(alloc, noted, api, &mut store));
+    }
+    told.done()
+}
+
+// What comes of one of several requests.
+fn turn_told(
+    alloc: Global,
+    noted: &Json,
+    api: &ApiDescription,
+    store: &mut Store,
+) -> Result<Json, CaseError>
+    requires { IsReady (boxed ⟦<dyn RouteHandler as RouteHandler>⟧) api.now }
+{
+    check_names(noted, &MEMBERS)?;
+    exchanged_with(alloc, noted, api, Way::Body, store)
+}
+
+// What comes of the request that is noted, from this store and into it.
+fn exchanged_with(
+    alloc: Global,
+    noted: &Json,
+    api: &ApiDescription,
+    way: Way,
+    store: &mut Store,
+) -> Result<Json, CaseError>
+    requires { IsReady (boxed ⟦<dyn RouteHandler as RouteHandler>⟧) api.now }
+{
+    let body = body_of(alloc, request_at(noted)?)?;
     let mut source = OwnSource { body };
-    let told = outcome_of(alloc, case, api, way, &mut source)?;
+    let told = outcome_of(alloc, noted, api, way, store, &mut source)?;
     told.put("unread", unread_told(alloc, &mut source.body))
         .done()
 }
@@ -59,18 +108,18 @@ fn unread_told(alloc: Global, body: &mut Body) -> Result<Json, CaseError> {
 
 fn outcome_of(
     alloc: Global,
-    case: &Json,
+    noted: &Json,
     api: &ApiDescription,
     way: Way,
+    store: &mut Store,
     source: &mut OwnSource,
 ) -> Result<Record, CaseError>
     requires { IsReady (boxed ⟦<dyn RouteHandler as RouteHandler>⟧) api.now }
 {
-    let reading = reading_of(alloc, case)?;
-    let mut store = store_of(alloc, case)?;
-    let request = Box::new(alloc, parts_of(alloc, case, request_at(case)?)?)?;
-    let outcome = outcome_by(alloc, api, way, reading, &mut store, &request, source);
-    outcome_told(alloc, outcome, reading.calls)
+    let reading = reading_of(alloc, noted)?;
+    let request = Box::new(alloc, parts_of(alloc, noted, request_at(noted)?)?)?;
+    let outcome = outcome_by(alloc, api, way, reading, store, &request, source);
+    Ok(outcome_told(alloc, outcome, reading.calls))
 }
 
 fn outcome_by(
@@ -109,13 +158,9 @@ fn config_of(limit: u64) -> ServerConfig {
     }
 }
 
-fn outcome_told(
-    alloc: Global,
-    outcome: Result<Exchange, ExchangeError>,
-    calls: u64,
-) -> Result<Record, CaseError> {
+fn outcome_told(alloc: Global, outcome: Result<Exchange, ExchangeError>, calls: u64) -> Record {
     match outcome {
-        Ok(exchange) => Ok(exchange_told(alloc, exchange, calls)),
+        Ok(exchange) => exchange_told(alloc, exchange, calls),
         Err(error) => error_told(alloc, error),
     }
 }
@@ -148,26 +193,24 @@ fn refused_told(alloc: Global, fault: &Fault, response: Response) -> Record {
     with_response(alloc, told, response)
 }
 
-fn error_told(alloc: Global, error: ExchangeError) -> Result<Record, CaseError> {
+fn error_told(alloc: Global, error: ExchangeError) -> Record {
     let told = Record::new(alloc);
     match error {
-        ExchangeError::BadRequestId => Ok(told.text("outcome", "bad-request-id")),
-        ExchangeError::NoSuchOperation => Ok(told.text("outcome", "no-such-operation")),
-        ExchangeError::WrongVariables => Ok(told.text("outcome", "wrong-variables")),
+        ExchangeError::BadRequestId => told.text("outcome", "bad-request-id"),
+        ExchangeError::NoSuchOperation => told.text("outcome", "no-such-operation"),
+        ExchangeError::WrongVariables => told.text("outcome", "wrong-variables"),
         ExchangeError::BodyFault(response) => {
-            let told = told.text("outcome", "body-fault");
-            Ok(with_response(alloc, told, response))
+            with_response(alloc, told.text("outcome", "body-fault"), response)
         }
         ExchangeError::BodyTooLarge(sum, response) => {
             let told = told
                 .text("outcome", "body-too-large")
                 .number("sum", sum.into());
-            Ok(with_response(alloc, told, response))
+            with_response(alloc, told, response)
         }
-        ExchangeError::FrameBudget(count) => Ok(
-            told.text("outcome", "frame-budget")
-                .number("count", count.into()),
-        ),
-        ExchangeError::OutOfMemory => Err(CaseError::OutOfMemory),
+        ExchangeError::FrameBudget(count) => told
+            .text("outcome", "frame-budget")
+            .number("count", count.into()),
+        ExchangeError::OutOfMemory => told.text("outcome", "out-of-memory"),
     }
 }

@@ -1,6 +1,6 @@
 //! The handlers of cases: the shape of an endpoint, and what is done, as outcomes.rt says. Where the endpoint notes no
 //! errors, and its table has no other definition of their name, they are those of the library. Of errors of another
-//! type the body is the tree under `"refuses"`. What is not of the shape is want of memory, which ends the program.
+//! type the body is the tree under `"refuses"`. What is not of the shape is told as want of memory.
 ghost use Rattle.std.specs.Prelude.{IfOk, IsTrue};
 ghost use Rattle.handler_shapes.specs.ShapeChecks.{ShapePasses};
 ghost use Rattle.api_respond.specs.Replies.{ErrorFits, ReplyFits};
@@ -10,7 +10,7 @@ ghost use Rattle.endpoint_cases.specs.Errors.{IsDefined, IsNamed};
 use crate::outcomes::{error_of, success_of, tree_or_want};
 use crate::shapes::set_errors;
 use api_respond::{ErrorReply, Reply, RequestContext, RouteHandler, SuccessReply};
-use case_notation::CaseError;
+use case_notation::{CaseError, text_of};
 use endpoint_notation::{is_codeless_right, own_fits, shape_of, success_fits};
 use handler_shapes::{Arg, ArgList, HandlerShape, shape_passes};
 use http_status::{ErrorStatusCode, HttpError};
@@ -35,6 +35,7 @@ pub fn handler_of(
     noted: &Json,
     does: &Json,
 ) -> Result<Box<NotedHandler>, CaseError> {
+    check_found(does)?;
     let mut shape = Box::new(alloc, shape_of(alloc, noted)?)?;
     let library = set_errors(alloc, noted, &mut shape)?;
     if !is_codeless_right(&shape.response) {
@@ -49,7 +50,37 @@ pub fn handler_of(
     Ok(Box::new(alloc, handler)?)
 }
 
+// Tells what a handler finds that is not known.
+fn check_found(does: &Json) -> Result<(), CaseError> {
+    let Some(found) = does.get("finds") else {
+        return Ok(());
+    };
+    match text_of(found)?.as_str() {
+        "no memory" => Ok(()),
+        _ => Err(CaseError::Expected("what a handler finds")),
+    }
+}
+
 impl NotedHandler {
+    // What is noted to be replied, or want of memory where that is noted.
+    fn answer(
+        &self,
+        alloc: Global,
+        context: &RequestContext,
+        args: &[Arg],
+    ) -> Result<Reply, AllocError>
+        requires { ShapePasses self.now.shape.value }
+        ensures { IfOk result (λ reply. ReplyFits self.now.shape.value reply) }
+    {
+        if self.does.get("finds").is_some() {
+            return Err(AllocError);
+        }
+        match self.does.get("fails") {
+            Some(error) => self.fail(alloc, error),
+            None => self.give(alloc, context, args),
+        }
+    }
+
     // The reply of the success that is noted.
     fn give(
         &self,
@@ -129,10 +160,7 @@ impl RouteHandler for NotedHandler {
         _store: &mut Store,
         args: &mut ArgList,
     ) -> Result<Reply, AllocError> {
-        match self.does.get("fails") {
-            Some(error) => self.fail(alloc, error),
-            None => self.give(alloc, ctx, args.as_slice()),
-        }
+        self.answer(alloc, ctx, args.as_slice())
     }
 
     #[tactic(auto, using(crate::proofs::LibraryErrors::has_errors))]

@@ -3,7 +3,8 @@
 //! `{"frames":[..], "failing":[..]}`, content of any kind; or `{"bare":{"frames":[..]}}`, which comes without a header
 //! line of its type. Beside it stand `"named"`, the tree of the named headers, `"others"`, the other lines, and
 //! `"status"`, 200 where it is left out, which counts where the response has no code. Or `"fails"` is an error,
-//! `{"status":CODE, "code":TEXT, "message":TEXT, "headers":LINES}`, of which the message alone has to stand.
+//! `{"status":CODE, "code":TEXT, "message":TEXT, "headers":LINES}`, of which the message alone has to stand. Or
+//! `"finds"` is `"no memory"`, and the handler gives nothing.
 use api_respond::{Content, RequestContext, SuccessReply};
 use case_notation::{Reader, read_tree};
 use endpoint_notation::{body_of, lines_of, number_or};
