@@ -5,7 +5,7 @@ use crate::schemas::{admits, copied_schemas, definition, schema, titled};
 use crate::statuses::status_told;
 use crate::stores::store_told;
 use crate::tables::{add, add_together, copied_table, table_told};
-use crate::texts::{map_decoded, pairs_decoded, text_decoded};
+use crate::texts::{map_decoded, pairs_decoded, pairs_told, text_decoded};
 use crate::types::type_told;
 use crate::values::{decode, decode_and_encode, desc_told, encode};
 use case_notation::{AnswersCases, CaseError, Row, given, text_of};
@@ -92,6 +92,7 @@ fn answer(alloc: Global, call: &Json, case: &Json) -> Result<Json, CaseError> {
         "store" => store_told(alloc, case),
         "error_status" => status_told(alloc, case),
         "decode_text" => text_decoded(alloc, case),
+        "query_pairs" => pairs_told(alloc, case),
         "decode_pairs" => pairs_decoded(alloc, case),
         "decode_map" => map_decoded(alloc, case),
         _ => Err(CaseError::Expected("the name of a call")),

@@ -1,8 +1,8 @@
-//! Calls that decode texts, pairs and maps of texts.
+//! Calls that decode texts, pairs and maps of texts, and that tell pairs.
 use crate::values::decoded_told;
-use case_notation::{CaseError, Scope, given, given_text, map_of, scope_of};
+use case_notation::{CaseError, Row, Scope, both, given, given_text, map_of, say, scope_of};
 use flat_maps::{Repeats, decode_map, decode_pairs, decode_text};
-use request_words::query_pairs;
+use request_words::{NamedText, query_pairs};
 use schema_values::Json;
 use std::alloc::Global;
 
@@ -11,6 +11,21 @@ pub fn text_decoded(alloc: Global, case: &Json) -> Result<Json, CaseError> {
     let text = given_text(case, "text")?;
     let Scope { table, desc } = scope_of(alloc, case)?;
     decoded_told(alloc, decode_text(alloc, &table, &desc, text.as_str()))
+}
+
+/// The pairs of the query of a case, each a name and a text.
+pub fn pairs_told(alloc: Global, case: &Json) -> Result<Json, CaseError> {
+    let pairs = query_pairs(alloc, given_text(case, "query")?)?;
+    let mut told = Row::new(alloc);
+    for pair in pairs.as_slice() {
+        told.push(pair_told(alloc, pair));
+    }
+    told.done()
+}
+
+fn pair_told(alloc: Global, pair: &NamedText) -> Result<Json, CaseError> {
+    let name = say(alloc, pair.name.as_str());
+    both(alloc, name, say(alloc, pair.value.as_str()))
 }
 
 /// The tree that the pairs of the query of a case denote, or the fault that is told.
