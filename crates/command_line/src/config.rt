@@ -46,7 +46,7 @@ impl ToolConfig {
 /// How a run ended.
 #[derive(Drop)]
 pub enum ToolStatus {
-    /// The input was read to its end, and every line answered.
+    /// All was done: the input was read to its end and every line answered, or the document alone was written.
     Done,
     /// The words are no command. Nothing was read or written.
     Usage,

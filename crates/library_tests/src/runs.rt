@@ -1,4 +1,6 @@
-//! Runs of the tool over no endpoints, between ends that are no ends in memory with calls that fail.
+//! Runs of the tool over no endpoints, of a line that asks for nothing and one that asks for an operation that is not
+//! there. Their ends are such as cases don't have: ends in memory that never fail, a reader and a writer of std, and a
+//! reader of std that errs at its first call.
 use crate::ends::{FailingReader, Reader};
 use api_descriptions::TagConfig;
 use contract_tool::{
@@ -26,7 +28,7 @@ const DOCUMENT: &[u8] = b"{
 
 const REPLIES: &[u8] = b"}\n{\"outcome\":\"bad-line\"}\n{\"outcome\":\"no-such-operation\"}\n";
 
-// The code of how a session over no endpoints ends.
+// The status of a session over no endpoints between these ends.
 fn session<S: Source, K: Sink>(
     alloc: Global,
     source: &mut S,
