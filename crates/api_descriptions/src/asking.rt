@@ -110,8 +110,8 @@ impl ApiDescription {
         ensures untouched { ¬ TakesBody (boxed ⟦<dyn RouteHandler as RouteHandler>⟧)
             self.now.endpoints.items request.now → source.new ≡ source.old }
 
-        // A source that a slot reads was read to its end where the request was handled or refused, as it tells its
-        // frames.
+        // A source that a slot reads, and that tells its frames, was read to its end where the request was handled or
+        // refused; behind a size and a number of frames the rest was thrown away within the budget.
         ensures read { ReadsBodyFor (boxed ⟦<dyn RouteHandler as RouteHandler>⟧) self.now.endpoints.items
             (called config.now request.now store.old) budget
             (S.state source.old).left (S.state source.new).left result }
