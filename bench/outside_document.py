@@ -1,20 +1,26 @@
-"""What a document of OpenAPI 3.0.3 says of values and of requests, by jsonschema, which knows nothing of this project.
+"""What a document of OpenAPI 3.0.3 says of requests.
 
-Schemas are read as Draft 4 with `nullable`, the form of null alone, and the formats of integers put into its words.
-Parameters have the styles that they have by default: `form` in a query, `simple` in a path and in headers. A rule that
-the program does not keep has a name in `DIFFERENCES`, and is left out where that name is given."""
-import json
+Values are validated by outside_schemas.py, and outside_texts.py says what texts are as values. A rule that the program
+does not keep has a name in `DIFFERENCES`, and is left out where that name is given."""
+import copy
 import re
-import urllib.parse
 
-from jsonschema import Draft4Validator
+from outside_schemas import Schemas
+from outside_texts import Refused, form_of, json_of, lines_of, object_of, query_of, refuse
 
-NULL_ALONE = {"type": "string", "enum": [None]}
+JSON, FORM, BYTES = "application/json", "application/x-www-form-urlencoded", "application/octet-stream"
+BODY_LIMIT = 1024
 DIFFERENCES = {
-    "signs-and-zeros": "a number in a parameter is JSON's; the program reads Rust's: a plus and zeros may lead, and no"
-    " minus stands before one without a sign",
+    "signs-and-zeros": "a number in a parameter or a form is JSON's; the program reads Rust's: a plus and zeros may"
+    " lead, and no minus stands before one without a sign",
+    "plus-in-query": "a plus in a query is itself (RFC 6570, section 3.2.8); the program takes it for a space, as in a"
+    " form",
     "last-header-line": "header lines of one name are one list (RFC 9110, section 5.3); in the program the last counts",
-    "first-content-type": "the same of content-type, of which the first counts in the program",
+    "header-blanks": "blanks around the value of a header are no part of it (RFC 9110, section 5.5); in the program"
+    " they are",
+    "header-beyond-ascii": "the value of a header may have octets beyond ASCII (RFC 9110, section 5.5); the program"
+    " refuses one that it reads",
+    "first-content-type": "lines of content-type are one list as well, of which the first counts in the program",
     "no-content-type": "a body without content-type is of no known type (RFC 9110, section 8.3); the program takes it"
     " as JSON, or as bytes where these are asked for",
     "json-suffix": "a media type has to be listed; the program takes any `application/x+json` for `application/json`",
@@ -28,165 +34,136 @@ DIFFERENCES = {
 }
 
 
-class Refused(Exception):
-    """A text or a request that a document does not admit."""
-
-
-def bounds_of(name):
-    """The least and the greatest number of a format, as `uint8`."""
-    bits = int(name.removeprefix("u").removeprefix("int"))
-    return (0, 2**bits - 1) if name.startswith("u") else (-(2 ** (bits - 1)), 2 ** (bits - 1) - 1)
-
-
-def translated(schema):
-    """A schema of OpenAPI 3.0.3 in the words of Draft 4."""
-    if isinstance(schema, list):
-        return [translated(part) for part in schema]
-    if not isinstance(schema, dict):
-        return schema
-    if {name: schema[name] for name in ("type", "enum") if name in schema} == NULL_ALONE:
-        return {"enum": [None]}
-    parts = {name: translated(part) for name, part in schema.items() if name not in ("nullable", "default", "enum")}
-    if "enum" in schema:
-        parts["enum"] = schema["enum"]
-    if schema.get("type") == "integer" and "format" in schema:
-        least, greatest = bounds_of(schema["format"])
-        inner = {"minimum": least, "maximum": greatest}
-        parts = {"allOf": [parts, inner]}
-    return {"anyOf": [{"enum": [None]}, parts]} if schema.get("nullable") is True else parts
-
-
-def validator_of(schema, schemas):
-    """A validator of a schema, which may refer to others by their names."""
-    named = {name: translated(other) for name, other in schemas.items()}
-    return Draft4Validator({"allOf": [translated(schema)], "components": {"schemas": named}})
-
-
-def refuse(text):
-    raise Refused(text)
-
-
-def whole(text):
-    """A whole number of 64 bits. Minus zero is none."""
-    number = int(text)
-    return number if text != "-0" and -(2**63) <= number < 2**64 else refuse(text)
-
-
-def json_of(text, left_out=frozenset(DIFFERENCES)):
-    """What a text is as JSON."""
-    hooks = {"parse_int": whole, "parse_float": refuse} if "64-bits" in left_out else {}
+def is_admitted(schemas, schema, text):
+    """Whether a text is JSON, of the program's numbers, that a schema admits."""
     try:
-        value = json.loads(text, parse_constant=refuse, **hooks)
-        written = json.loads(text, object_pairs_hook=tuple)
-    except (ValueError, RecursionError) as error:
-        raise Refused(text) from error
-    if "surrogates" in left_out and re.search("[\ud800-\udfff]", json.dumps(written, ensure_ascii=False)):
-        refuse(text)
-    if "nesting" in left_out and depth_of(written) > 127:
-        refuse(text)
-    return value
-
-
-def depth_of(written):
-    """How deep arrays, and objects as pairs, nest."""
-    parts = [part for _, part in written] if isinstance(written, tuple) else written
-    return 1 + max(map(depth_of, parts), default=0) if isinstance(parts, list) else 0
-
-
-def is_admitted(validator, text):
-    """Whether a text is JSON, of the program's numbers, that a validator takes."""
-    try:
-        return validator.is_valid(json_of(text))
+        return schemas.admits(schema, json_of(text, DIFFERENCES))
     except Refused:
         return False
 
 
-class Document:
-    """A document that a session wrote, with rules left out."""
+class Operation:
+    """An operation: for each place of parameters the schema of the object that they make, and what is said of the body
+    and of the content of a response of 200."""
 
-    def __init__(self, document, left_out=frozenset()):
-        self.paths = document["paths"]
-        self.schemas = document["components"]["schemas"]
-        self.left_out = left_out
+    def __init__(self, operation):
+        parameters = operation.get("parameters", [])
+        self.places = {place: place_schema(place, parameters) for place in ("path", "header", "query")}
+        self.body = operation.get("requestBody")
+        response = operation.get("responses", {}).get("200", {})
+        self.answer = response.get("content", {}).get(JSON, {}).get("schema")
+
+
+def place_schema(place, parameters):
+    """Parameters in one place as the schema of an object. A path has no others."""
+    listed = [parameter for parameter in parameters if parameter["in"] == place]
+    named = {parameter["name"].lower() if place == "header" else parameter["name"]: parameter for parameter in listed}
+    required = [name for name, parameter in named.items() if parameter.get("required")]
+    schema = {"type": "object", "properties": {name: parameter["schema"] for name, parameter in named.items()}}
+    schema |= {"required": required} if required else {}
+    return schema | {"additionalProperties": False} if place == "path" else schema
+
+
+class Document:
+    """A document that a session wrote, of which some rules are left out. It does not say which operations are hidden,
+    nor how many bytes their bodies have at most."""
+
+    def __init__(self, document, hidden, limits):
+        self.schemas = Schemas(document["components"]["schemas"])
+        self.operations = {
+            (method.upper(), template): Operation(operation)
+            for template, item in document["paths"].items()
+            for method, operation in item.items()
+        }
+        self.hidden = hidden
+        self.limits = limits
+        self.left_out = frozenset()
+
+    def without(self, names):
+        """The document with the rules of these names left out."""
+        other = copy.copy(self)
+        other.left_out = frozenset(names)
+        return other
 
     def admits(self, request):
         """Whether a request is one of an operation that is shown."""
-        operation = self.paths.get(request["template"], {}).get(request["method"].lower())
-        if operation is None or request["method"] != request["method"].upper():
-            return "hidden-operation" in self.left_out and (request["method"], request["template"]) == ("GET", "/inner")
+        asked = (request["method"], request["template"])
+        if asked not in self.operations:
+            return "hidden-operation" in self.left_out and asked in self.hidden
         try:
-            self.look_at_parameters(operation.get("parameters", []), request)
-            self.look_at_body(operation.get("requestBody"), request)
+            return all(self.schemas.admits(schema, value) for schema, value in self.parts_of(request))
         except Refused:
             return False
-        return True
 
-    def look_at_parameters(self, parameters, request):
-        given = {"path": request["variables"].items(), "query": query_of(request["uri"]), "header": request["headers"]}
-        declared = {parameter["name"] for parameter in parameters if parameter["in"] == "path"}
-        if request["variables"].keys() != declared or any(isinstance(text, list) for _, text in given["path"]):
-            refuse("variables")
-        for parameter in parameters:
-            texts = [text for name, text in given[parameter["in"]] if is_name(parameter, name)]
-            if texts or parameter.get("required"):
-                self.look_at_texts(parameter, texts)
+    def parts_of(self, request):
+        """The parts of a request as values, each behind its schema: the path, the headers, the query and the body."""
+        operation = self.operations[request["method"], request["template"]]
+        for place, schema in operation.places.items():
+            pairs = self.pairs_in(place, request, schema["properties"])
+            yield schema, object_of(pairs, self.schemas, schema["properties"], self.left_out)
+        if operation.body is not None:
+            yield self.body_of(request, operation.body)
 
-    def look_at_texts(self, parameter, texts):
-        schema = parameter["schema"]
-        if parameter["in"] == "header":
-            texts = texts[-1:] if "last-header-line" in self.left_out else [", ".join(texts)]
-        if len(texts) != 1 or not validator_of(schema, self.schemas).is_valid(self.value_of(schema, texts[0])):
-            refuse(texts)
+    def pairs_in(self, place, request, properties):
+        if place == "path":
+            return request["variables"].items() if are_texts(request["variables"]) else refuse("no text")
+        if place == "query":
+            return query_of(request["uri"], self.left_out)
+        lines = lines_of(request["headers"], properties, self.left_out)
+        if "header-beyond-ascii" in self.left_out and not all(text.isascii() for _, text in lines):
+            refuse(lines)
+        return lines
 
-    def value_of(self, schema, text):
-        """What a text of a parameter is under the schema of a scalar."""
-        if schema["type"] == "integer":
-            pattern = "-?(0|[1-9][0-9]*)"
-            if "signs-and-zeros" in self.left_out:
-                pattern = "[+]?[0-9]+" if schema["format"].startswith("u") else "[+-]?[0-9]+"
-            return int(text) if re.fullmatch(pattern, text, re.ASCII) else refuse(text)
-        if schema["type"] == "boolean":
-            return {"true": True, "false": False}[text] if text in ("true", "false") else refuse(text)
-        return text
-
-    def look_at_body(self, declared, request):
-        if declared is None:
-            return
-        body = bytes_of(request["frames"])
-        if not body and declared.get("required") and "empty-body" not in self.left_out:
+    def body_of(self, request, declared):
+        """The schema of a body, and the body as a value. Of bytes there is nothing to ask."""
+        content = bytes_of(request["frames"])
+        if not content and declared.get("required") and "empty-body" not in self.left_out:
             refuse("no body")
-        media, content = self.content_of(declared["content"], request["headers"])
-        limit = 1024 if media == "application/json" else 8
-        if "body-limit" in self.left_out and len(body) > limit:
+        media, schema = self.content_of(declared["content"], request["headers"])
+        if "body-limit" in self.left_out and len(content) > self.limit_of(request):
             refuse("too long")
-        if media == "application/json":
-            text = body.decode() if is_text(body) else refuse(body)
-            if not validator_of(content["schema"], self.schemas).is_valid(json_of(text, self.left_out)):
-                refuse(text)
+        if media == JSON:
+            return schema, json_of(content.decode() if is_text(content) else refuse(content), self.left_out)
+        return (schema, self.form_in(content, schema)) if media == FORM else ({}, None)
+
+    def limit_of(self, request):
+        """How many bytes a body has at most."""
+        return self.limits.get((request["method"], request["template"]), BODY_LIMIT)
+
+    def form_in(self, content, schema):
+        properties = self.schemas.behind(schema).get("properties", {})
+        return object_of(form_of(content), self.schemas, properties, self.left_out)
 
     def content_of(self, contents, headers):
-        """The media type of the content that a request has, and what is said of it."""
+        """The media type of the content that a request has, and its schema."""
         values = [value for name, value in headers if name.lower() == "content-type"]
         value = values[0] if "first-content-type" in self.left_out and values else ", ".join(values)
-        media = value.partition(";")[0].strip().lower()
-        (listed, content), = contents.items()
-        suffixed = "json-suffix" in self.left_out and re.fullmatch(r"application/[^+]*\+json", media)
-        if media == listed or (listed == "application/json" and suffixed):
-            return listed, content
-        if listed == "application/octet-stream" and "bytes-of-any-type" in self.left_out:
-            return listed, content
-        return (listed, content) if not values and "no-content-type" in self.left_out else refuse(media)
+        media = value.partition(";")[0].rstrip(" \t").lower()
+        media = media if "header-blanks" in self.left_out else media.lstrip(" \t")
+        ((listed, content),) = contents.items()
+        if media == listed or values and self.is_taken_for(media, listed):
+            return listed, content.get("schema", {})
+        is_taken = not values and "no-content-type" in self.left_out and listed != FORM
+        return (listed, content.get("schema", {})) if is_taken else refuse(media)
+
+    def is_taken_for(self, media, listed):
+        if listed == JSON:
+            return "json-suffix" in self.left_out and re.fullmatch(r"application/[^+]*\+json", media)
+        return listed == BYTES and "bytes-of-any-type" in self.left_out
+
+    def tells_back(self, request, answer):
+        """Whether a response of 200 is of the schema that the document has for it, and has the values of the body of a
+        request or, where an operation takes none, of its query: of a field that is left out its default, or null, or
+        nothing."""
+        schema = self.operations[request["method"], request["template"]].answer
+        *_, (_, given) = self.parts_of(request)
+        properties = self.schemas.behind(schema).get("properties", {})
+        wanted = {name: given.get(name, part.get("default")) for name, part in properties.items()}
+        return self.schemas.admits(schema, answer) and dict.fromkeys(properties) | answer == wanted
 
 
-def is_name(parameter, name):
-    return name.lower() == parameter["name"].lower() if parameter["in"] == "header" else name == parameter["name"]
-
-
-def query_of(uri):
-    """The pairs of a query, in which percent signs are undone."""
-    query = uri.partition("?")[2]
-    pairs = [pair.partition("=") for pair in query.split("&") if pair]
-    return [(urllib.parse.unquote(name), urllib.parse.unquote(text)) for name, _, text in pairs]
+def are_texts(variables):
+    return all(isinstance(text, str) for text in variables.values())
 
 
 def bytes_of(frames):
