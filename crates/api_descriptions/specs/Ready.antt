@@ -1,5 +1,5 @@
--- An API whose endpoints were registered: `new` gives it, each call keeps it, and registering, exchanges and documents
--- ask for it. No field of an API can keep it, since it speaks of the handlers in boxes.
+-- An API whose endpoints were registered: `new` gives it, `tag_config` and `register` keep it, and exchanges and
+-- documents ask for it. No field of an API can keep it, since it speaks of the handlers in boxes.
 use Rattle.endpoint_checks.specs.EndpointIndexes.{IsIndexed}
 use Rattle.api_registration.specs.Accepted.{AreRegistered}
 use Rattle.api_endpoints.specs.Endpoints.{Meanings, declarations_of}

@@ -18,6 +18,7 @@ use api_endpoints::declarations;
 use api_respond::RouteHandler;
 use line_session::{Sink, SinkError, write_all};
 use openapi_values::{Info, Part};
+use request_parts::copy_version;
 use schema_values::{Json, Text};
 use semver::Version;
 use std::alloc::{AllocError, Global};
@@ -82,6 +83,21 @@ impl ApiDescription {
 }
 
 impl OpenApiDefinition<'_> {
+    /// A definition that says the same of the same API. Fails only for want of memory.
+    pub fn copy(&self, alloc: Global) -> Result<OpenApiDefinition<'_>, AllocError>
+        ensures api { IfOk result (λ copy. copy.api.now ≡ self.now.api.now) }
+        ensures version { IfOk result (λ copy. parts_of copy.version ≡ parts_of self.now.version) }
+        ensures info { IfOk result (λ copy. copy.info ≡ self.now.info) }
+    {
+        let version = copy_version(&self.version)?;
+        Ok(OpenApiDefinition {
+            alloc,
+            api: self.api,
+            version,
+            info: self.info.copy(alloc)?,
+        })
+    }
+
     /// The document as JSON. It lists the endpoints that are visible and whose ranges hold the version. Fails only
     /// for want of memory.
     pub fn json(&self, alloc: Global) -> Result<Json, AllocError>

@@ -28,9 +28,9 @@ use api_respond::RouteHandler;
 impl ApiDescription {
     /// The document of an API at a version is sound JSON. It lists exactly the endpoints that are visible and whose
     /// ranges hold the version, each once, and what is written has the operation of each at its path and method, and
-    /// none at others. Of requests without a page token it admits exactly those that denote arguments, and what the
-    /// endpoints answer follows it: a valid one is handled exactly where the document admits it, unless memory ran
-    /// out or a call on the body failed. It does nothing: its clauses are for proofs.
+    /// none at others. Of requests to these without a page token it admits exactly those that denote arguments, and
+    /// what the endpoints answer at that version follows it: a valid one is handled exactly where the document admits
+    /// it, unless memory ran out or a call on the body failed. It does nothing: its clauses are for proofs.
     pub fn agrees(&self)
         requires ready { IsReady (boxed ⟦<dyn RouteHandler as RouteHandler>⟧) self.now }
         ensures sound { (info : InfoValue) (version : Parts) → IsSound (document_at

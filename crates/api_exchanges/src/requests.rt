@@ -57,8 +57,8 @@ pub fn exchange(
     ensures told { IsHandledOrRefused (boxed ⟦<dyn RouteHandler as RouteHandler>⟧) endpoints.now
         (asked (called config.now request.now store.old) body.old budget) result }
 
-    // A fault comes only where the count of faults rose. A count that rose is told as that fault, but where
-    // memory ran out, or where the body went into a stream.
+    // A fault comes only where the count of faults rose, or stands at its last value. A count that rose is told
+    // as that fault, but where memory ran out, or where the body went into a stream.
     ensures fault { IsErrAnd result IsFault → HasFailed (state_of body.old) (state_of body.new) }
     ensures counts { ¬ IsOutcomeCutShort result
         → StreamsBody (boxed ⟦<dyn RouteHandler as RouteHandler>⟧) endpoints.now request.now

@@ -12,7 +12,7 @@ use endpoint_notation::items_at;
 use schema_values::Json;
 use std::alloc::{AllocError, Global};
 
-/// The document of an API of which this was said.
+/// The document of an API of which this was said, as a copy of what says it has it.
 pub fn document_said(alloc: Global, case: &Json, api: &ApiDescription) -> Result<Json, CaseError>
     requires { IsReady (boxed ⟦<dyn RouteHandler as RouteHandler>⟧) api.now }
 {
@@ -35,7 +35,8 @@ pub fn document_said(alloc: Global, case: &Json, api: &ApiDescription) -> Result
             };
             reader.or(outcome, ());
         }
-        definition.json(alloc)
+        let copy = definition.copy(alloc)?;
+        copy.json(alloc)
     };
     reader.finish(json?)
 }
