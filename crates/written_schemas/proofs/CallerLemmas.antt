@@ -11,7 +11,8 @@ pub use Rattle.written_schemas.proofs.Enumerations.{choices_counted, enumerated_
 -- what stands in a sorted list is what stands in the list
 pub use Rattle.written_schemas.proofs.Sorted.{all_sorted, any_sorted}
 -- how many steps of a document the schema of a descriptor takes at one value
-pub use Rattle.written_schemas.proofs.Costs.{cost, cost_after, cost_by}
+unfoldable pub use Rattle.written_schemas.proofs.Costs.{cost}
+pub use Rattle.written_schemas.proofs.Costs.{cost_after, cost_by}
 -- the schema of each form of descriptor, with the schemas of those that it is made of
 pub use Rattle.written_schemas.proofs.Forms.{drawn_row, field_property, fields_drawn, names_required, properties_drawn}
 -- how many JSON values the schema of a descriptor has, beside the steps that its top takes
