@@ -33,6 +33,7 @@ use Rattle.typed_values.specs.Parts.{the_whole, IsPart, of_whole as part_of_whol
 use Rattle.typed_values.specs.Reached.{IsReached}
 use Rattle.typed_values.specs.Resting.{RestsBy, Rests}
 use Rattle.typed_values.proofs.CallerLemmas.{IsNeeded, of_whole, of_reached, entry_inside, needed_part, option_needed, is_none_tree, written_row, skipped_written, struct_written, alternative_inside, skipped_desc, definition_needed, OfParts, by_parts, parts_weaker}
+use Rattle.typed_values.proofs.CallerLemmas.{alternative_needed, field_needed, guarded_rests, list_needed, map_needed, payload_needed, reference_reached, variant_needed}
 
 -- the tables have the same definition, or none, under each name that a descriptor reaches
 abbrev pub AgreeOnReached : List Definition → List Definition → Desc → Type 0
