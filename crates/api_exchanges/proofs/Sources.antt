@@ -1,5 +1,5 @@
 -- What a request is answered whose body comes of a source.
-use Rattle.std.proofs.Common.{◌≡◌, ◌⊎◌, inl, inr, ℕ, [], refl, arith, subst}
+use Rattle.std.proofs.Common.{◌≡◌, ◌⊎◌, inl, inr, ℕ, List, [], refl, arith, subst}
 use Rattle.std.specs.Prelude.{IsOk, IsTrue, OnOk}
 use Rattle.std.specs.List.{list_any}
 use Rattle.std.specs.declared.result.Result.{Result}
