@@ -1,6 +1,6 @@
 //! What comes of a request to an API.
-ghost use Rattle.std.specs.Prelude.{◌≡◌, ◌⊎◌, ◌+◌, ◌-◌, ◌^◌, ◌<◌, [], IsErrAnd, Some};
-ghost use Rattle.http_bodies.specs.Bodies.{frames_of, never_failing, state_of};
+ghost use Rattle.std.specs.Prelude.{◌≡◌, ◌⊎◌, ◌+◌, ◌-◌, ◌^◌, ◌<◌, ◌≤◌, [], IsErrAnd, Some};
+ghost use Rattle.http_bodies.specs.Bodies.{calls_of, frames_of, never_failing, state_of};
 ghost use Rattle.http_bodies.specs.Sources.{GoesOn, HasFailed};
 ghost use Rattle.body_reading.specs.Whole.{TakesAtMost};
 ghost use Rattle.api_endpoints.specs.Endpoints.{boxed};
@@ -75,6 +75,9 @@ impl ApiDescription {
         ensures read { ReadsBodyFor (boxed ⟦<dyn RouteHandler as RouteHandler>⟧) self.now.endpoints.items
             (called config.now request.now store.old) budget
             (Some (frames_of body.old)) (Some (frames_of body.new)) result }
+
+        // The body is called at most once more than the budget.
+        ensures calls { calls_of body.new ≤ calls_of body.old + budget + 1 }
     {
         let (endpoints, index) = (self.endpoints.as_slice(), self.index.templates());
         exchange(
@@ -116,6 +119,9 @@ impl ApiDescription {
             (called config.now request.now store.old) budget
             (S.state source.old).left (S.state source.new).left result }
         ensures goes_on { GoesOn (S.state source.old) (S.state source.new) }
+
+        // The source is called at most once more than the budget, to gather frames too.
+        ensures calls { S.calls source.new ≤ S.calls source.old + budget + 1 }
     {
         let (endpoints, index) = (self.endpoints.as_slice(), self.index.templates());
         exchange_from(

@@ -1,6 +1,6 @@
 //! What comes of a request.
-ghost use Rattle.std.specs.Prelude.{◌≡◌, ◌⊎◌, ◌+◌, ◌-◌, ◌^◌, ◌<◌, [], IsErrAnd, Some};
-ghost use Rattle.http_bodies.specs.Bodies.{frames_of, never_failing, state_of};
+ghost use Rattle.std.specs.Prelude.{◌≡◌, ◌⊎◌, ◌+◌, ◌-◌, ◌^◌, ◌<◌, ◌≤◌, [], IsErrAnd, Some};
+ghost use Rattle.http_bodies.specs.Bodies.{calls_of, frames_of, never_failing, state_of};
 ghost use Rattle.http_bodies.specs.Sources.{GoesOn, HasFailed};
 ghost use Rattle.body_reading.specs.Whole.{TakesAtMost};
 ghost use Rattle.api_endpoints.specs.Endpoints.{boxed};
@@ -80,6 +80,9 @@ pub fn exchange(
     ensures read { ReadsBodyFor (boxed ⟦<dyn RouteHandler as RouteHandler>⟧) endpoints.now
         (called config.now request.now store.old) budget
         (Some (frames_of body.old)) (Some (frames_of body.new)) result }
+
+    // The body is called at most once more than the budget.
+    ensures calls { calls_of body.new ≤ calls_of body.old + budget + 1 }
 {
     // It does nothing: the causes in `answers`, and `handled`, rest on its clause.
     answers_have_causes();
@@ -128,6 +131,9 @@ pub fn exchange_from<S: FrameSource>(
         (called config.now request.now store.old) budget
         (S.state source.old).left (S.state source.new).left result }
     ensures goes_on { GoesOn (S.state source.old) (S.state source.new) }
+
+    // The source is called at most once more than the budget, to gather frames too.
+    ensures calls { S.calls source.new ≤ S.calls source.old + budget + 1 }
 {
     answers_have_causes();
     let (endpoint, request_id) = reached(alloc, endpoints, index, request)?;

@@ -1,8 +1,8 @@
 //! The arguments that a request gives the slots of a handler.
-ghost use Rattle.std.specs.Prelude.{◌≡◌, ◌⊎◌, ◌+◌, ◌-◌, ◌^◌, ◌<◌, [], ℕ, List, Some, false};
+ghost use Rattle.std.specs.Prelude.{◌≡◌, ◌⊎◌, ◌+◌, ◌-◌, ◌^◌, ◌<◌, ◌≤◌, [], ℕ, List, Some, false};
 ghost use Rattle.std.specs.Prelude.{IfOk, IsErrAnd, IsErrOf, IsTrue, OnOk};
 ghost use Rattle.std.specs.List.{list_any};
-ghost use Rattle.http_bodies.specs.Bodies.{frames_of, never_failing, state_of};
+ghost use Rattle.http_bodies.specs.Bodies.{calls_of, frames_of, never_failing, state_of};
 ghost use Rattle.http_bodies.specs.Frames.{all_data};
 ghost use Rattle.http_bodies.specs.Sources.{HasFailed};
 ghost use Rattle.body_reading.specs.Whole.{TakesAtMost};
@@ -94,6 +94,9 @@ pub fn extract(
     ensures counts { ¬ IsErrOf result ExtractError.BodyFault
         → IsTrue (list_any takes_stream slots.now)
         ⊎ ((state_of body.new).faults ≡ (state_of body.old).faults) }
+
+    // It calls the body at most once more than the budget.
+    ensures calls { calls_of body.new ≤ calls_of body.old + budget + 1 }
 {
     let (shared, last) = without_body(slots.as_slice());
     let args = shared_arguments(alloc, table, request, shared)?;

@@ -1,7 +1,7 @@
 // The argument of the slot that takes the body.
-ghost use Rattle.std.specs.Prelude.{◌≡◌, ◌⊎◌, ◌+◌, ◌-◌, ◌^◌, ◌<◌, [], ℕ, true, false};
+ghost use Rattle.std.specs.Prelude.{◌≡◌, ◌⊎◌, ◌+◌, ◌-◌, ◌^◌, ◌<◌, ◌≤◌, [], ℕ, true, false};
 ghost use Rattle.std.specs.Prelude.{IfSome, IsErrAnd, IsErrOf, Some};
-ghost use Rattle.http_bodies.specs.Bodies.{BodyState, frames_of, never_failing, state_of};
+ghost use Rattle.http_bodies.specs.Bodies.{BodyState, calls_of, frames_of, never_failing, state_of};
 ghost use Rattle.http_bodies.specs.Sources.{GoesOn, HasFailed};
 ghost use Rattle.body_reading.specs.Whole.{TakesAtMost, whole};
 ghost use Rattle.request_parts.specs.Wire.{wire_of};
@@ -59,6 +59,7 @@ pub(crate) fn body_argument(
     ensures counts { ¬ IsErrOf result ExtractError.BodyFault
         → (takes_stream slot.now ≡ true)
         ⊎ ((state_of body.new).faults ≡ (state_of body.old).faults) }
+    ensures calls { calls_of body.new ≤ calls_of body.old + reading.budget + 1 }
 {
     match slot {
         Slot::StreamBody => {
@@ -97,6 +98,7 @@ pub(crate) fn source_argument<S: FrameSource>(
         → (takes_stream slot.now ≡ true)
         ⊎ ((S.state source.new).faults ≡ (S.state source.old).faults) }
     ensures goes_on { GoesOn (S.state source.old) (S.state source.new) }
+    ensures calls { S.calls source.new ≤ S.calls source.old + reading.budget + 1 }
 {
     match slot {
         Slot::StreamBody => {
@@ -135,6 +137,7 @@ fn whole_argument<S: FrameSource>(
     ensures counts { ¬ IsErrOf result ExtractError.BodyFault
         → (S.state source.new).faults ≡ (S.state source.old).faults }
     ensures goes_on { GoesOn (S.state source.old) (S.state source.new) }
+    ensures calls { S.calls source.new ≤ S.calls source.old + reading.budget + 1 }
 {
     let content = read_whole(alloc, source, reading.limit, reading.budget)?;
     content_argument(

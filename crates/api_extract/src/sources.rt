@@ -1,5 +1,5 @@
 //! The same of a source of frames of one's own.
-ghost use Rattle.std.specs.Prelude.{◌≡◌, ◌⊎◌, ◌-◌, ◌^◌, ◌<◌, false};
+ghost use Rattle.std.specs.Prelude.{◌≡◌, ◌⊎◌, ◌+◌, ◌-◌, ◌^◌, ◌<◌, ◌≤◌, false};
 ghost use Rattle.std.specs.Prelude.{IfOk, IsErrAnd, IsErrOf, IsTrue};
 ghost use Rattle.std.specs.List.{list_any};
 ghost use Rattle.http_bodies.specs.Sources.{GoesOn, HasFailed};
@@ -67,6 +67,9 @@ pub fn extract_from<S: FrameSource>(
         → IsTrue (list_any takes_stream slots.now)
         ⊎ ((S.state source.new).faults ≡ (S.state source.old).faults) }
     ensures goes_on { GoesOn (S.state source.old) (S.state source.new) }
+
+    // It calls the source at most once more than the budget, to gather frames too.
+    ensures calls { S.calls source.new ≤ S.calls source.old + budget + 1 }
 {
     let (shared, last) = without_body(slots.as_slice());
     let args = shared_arguments(alloc, table, request, shared)?;

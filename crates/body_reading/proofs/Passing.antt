@@ -1,14 +1,14 @@
 -- Trailers that are passed over, and what comes behind them.
 use Rattle.std.proofs.Common.{◌≡◌, ℕ, ◌+◌, ◌-◌, ◌<◌, ◌≤◌, zero, suc, List, [], ◌∷◌, ◌++◌, length, drop, take}
 use Rattle.std.proofs.Common.{arith, sym, ◌∙◌, ap, refl, subst, true, append_assoc}
-use Rattle.std.specs.Prelude.{Option, Some, Result, Ok, Err, IfOk, OnOk, OnErr, nat_lt}
+use Rattle.std.specs.Prelude.{Option, Some, None, Result, Ok, Err, IfOk, IfSome, OnOk, OnErr, nat_lt}
 use Rattle.std.proofs.lemmas.Bool.Decides.{nat_tests}
 use Rattle.std.proofs.lemmas.List.{length-append}
 use Rattle.header_lists.specs.HeaderLists.{Line}
 use Rattle.http_bodies.proofs.CallerLemmas.{all_data-more}
 use Rattle.http_bodies.specs.declared.frame.Frame.{Frame}
 use Rattle.http_bodies.specs.declared.frame.Frame.TheVariants.{Bytes, Trailers}
-use Rattle.http_bodies.specs.Bodies.{can_fail_of, faults_of, frames_of}
+use Rattle.http_bodies.specs.Bodies.{calls_of, can_fail_of, faults_of, frames_of}
 use Rattle.http_bodies.specs.Frames.{all_data}
 use Rattle.body_reading.specs.declared.flaw.BodyFlaw.{BodyFlaw}
 use Rattle.body_reading.specs.Streams.{Advances, SameLimits, StreamState, contents, next_in, next_of, room_of, with_content}
@@ -25,7 +25,8 @@ first_enough cap sum (suc room) ((Trailers lines) ∷ fs) =
     let less : suc room - 1 ≡ room = omega arith in
     rw (some, less) (first_enough cap sum room fs)
 
--- what comes next, and what is left of the room, are those of the start; trailers came meanwhile, and no call failed
+-- what comes next, and what is left of the room, are those of the start; trailers came meanwhile, each by one call, and
+-- none of these failed
 pub record Passes (old now : StreamState) : Type 0 where
   pub next : next_of now ≡ next_of old
   pub contents_are : contents (frames_of now.body) ≡ contents (frames_of old.body)
@@ -37,6 +38,7 @@ pub record Passes (old now : StreamState) : Type 0 where
   pub closed : now.closed ≡ old.closed
   pub faults : faults_of now.body ≡ faults_of old.body
   pub same : can_fail_of now.body ≡ can_fail_of old.body
+  pub calls : calls_of now.body ≤ calls_of old.body + (room_of old - room_of now)
 
 pub passes_none : (old : StreamState) → Passes old old
 passes_none old = record {
@@ -50,6 +52,7 @@ passes_none old = record {
   closed = refl;
   faults = refl;
   same = refl;
+  calls = omega arith;
 }
 
 -- frames came of the body, and nothing else changed but their number
@@ -60,6 +63,7 @@ pub record TakesFirst (now after : StreamState) (frame : Frame) : Type 0 where
   pub closed : after.closed ≡ now.closed
   pub faults : faults_of after.body ≡ faults_of now.body
   pub same : can_fail_of after.body ≡ can_fail_of now.body
+  pub once : calls_of after.body ≤ calls_of now.body + 1
 
 next_passed : (now after : StreamState) (lines : List Line) → TakesFirst now after (Trailers lines)
     → now.frames < now.budget → after.frames ≡ now.frames + 1 → next_of after ≡ next_of now
@@ -102,6 +106,11 @@ passes_more old now after lines p t room one =
       closed = t.closed ∙ p.closed;
       faults = t.faults ∙ p.faults;
       same = t.same ∙ p.same;
+      calls =
+          let before = p.calls in
+          let once = t.once in
+          let start = p.limits.budget in
+          let budget = t.limits.budget in omega arith;
     }
 
 -- a frame with content more came, and is counted
@@ -156,3 +165,43 @@ judged_taken old now mid new content (Ok next) p t uncounted counted kept =
 judged_taken old now mid new content (Err wrong) p t uncounted counted kept =
     subst (λ (s : StreamState). TakesAtMost (room_of old + 1 - room_of s) (Some (frames_of old.body)) (Some (frames_of s.body)))
     (sym kept) (passes_taken old now mid (Bytes content ∷ []) p t.gives (omega arith) t.limits.budget (omega arith))
+
+-- behind trailers, one call more was made
+pub passes_called : (old now after : StreamState) → Passes old now → calls_of after.body ≤ calls_of now.body + 1
+    → after.budget ≡ now.budget → after.frames ≡ now.frames
+    → calls_of after.body ≤ calls_of old.body + (room_of old + 1 - room_of after)
+passes_called old now after p once budget frames =
+    let counted = p.advances.frames in
+    let start = p.limits.budget in
+    let before = p.calls in
+    omega arith
+
+-- it gave a frame with content, whether that is given or not
+pub judged_called : (old now mid new : StreamState) (content : List ℕ) (result : Result (Option (List ℕ)) BodyFlaw)
+    → Passes old now → TakesFirst now mid (Bytes content) → mid.frames ≡ now.frames
+    → OnOk result (new ≡ with_content mid content) → OnErr result (new ≡ mid)
+    → calls_of new.body ≤ calls_of old.body + (room_of old + 1 - room_of new)
+judged_called old now mid new content (Ok next) p t uncounted counted kept =
+    subst (λ (s : StreamState). calls_of s.body ≤ calls_of old.body + (room_of old + 1 - room_of s)) (sym counted)
+    (let called = passes_called old now mid p t.once t.limits.budget uncounted in omega arith)
+judged_called old now mid new content (Err wrong) p t uncounted counted kept =
+    subst (λ (s : StreamState). calls_of s.body ≤ calls_of old.body + (room_of old + 1 - room_of s)) (sym kept)
+    (passes_called old now mid p t.once t.limits.budget uncounted)
+
+-- a content that is given was called for once for each frame that is counted
+pub judged_each : (old now mid new : StreamState) (content : List ℕ) (result : Result (Option (List ℕ)) BodyFlaw)
+    → Passes old now → TakesFirst now mid (Bytes content) → mid.frames ≡ now.frames
+    → OnOk result (new ≡ with_content mid content) → OnOk result (new.frames ≤ new.budget)
+    → IfOk result (λ next. IfSome next (λ _. calls_of new.body ≤ calls_of old.body + (new.frames - old.frames)))
+judged_each old now mid new content (Ok None) p t uncounted counted within = tt
+judged_each old now mid new content (Ok (Some given)) p t uncounted counted within =
+    let frames = p.advances.frames in
+    let start = p.limits.budget in
+    let budget = t.limits.budget in
+    let before = p.calls in
+    let once = t.once in
+    let more : new.frames ≡ mid.frames + 1 = ap (λ (s : StreamState). s.frames) counted in
+    let bound : new.budget ≡ mid.budget = ap (λ (s : StreamState). s.budget) counted in
+    subst (λ (s : StreamState). calls_of s.body ≤ calls_of old.body + (s.frames - old.frames)) (sym counted)
+    (omega arith)
+judged_each old now mid new content (Err wrong) p t uncounted counted within = tt

@@ -1,5 +1,5 @@
 //! Frames of any source, gathered in memory.
-ghost use Rattle.std.specs.Prelude.{◌≡◌, ◌+◌, ◌-◌, ◌^◌, ◌<◌, [], ◌∷◌, IfOk};
+ghost use Rattle.std.specs.Prelude.{◌≡◌, ◌+◌, ◌-◌, ◌^◌, ◌<◌, ◌≤◌, [], ◌∷◌, IfOk};
 ghost use Rattle.http_bodies.specs.Bodies.{failing};
 ghost use Rattle.http_bodies.specs.Memory.{fresh_frames};
 ghost use Rattle.http_bodies.specs.Sources.{GoesOn};
@@ -27,6 +27,9 @@ pub fn gather_frames<S: FrameSource>(
     // However it ends, at most one frame more than the budget was taken.
     ensures most { TakesAtMost (budget + 1) (S.state source.old).left (S.state source.new).left }
     ensures goes_on { GoesOn (S.state source.old) (S.state source.new) }
+
+    // It calls the source at most once more than the budget.
+    ensures calls { S.calls source.new ≤ S.calls source.old + budget + 1 }
 {
     let mut frames = List::new(alloc);
     for count in 0..budget + 1 {

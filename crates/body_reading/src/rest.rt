@@ -1,5 +1,5 @@
 //! The rest of a body, which is thrown away.
-ghost use Rattle.std.specs.Prelude.{◌≡◌, IsErrOf, OnOk};
+ghost use Rattle.std.specs.Prelude.{◌≡◌, ◌+◌, ◌≤◌, IsErrOf, OnOk};
 ghost use Rattle.http_bodies.specs.Sources.{GoesOn, HasFailed};
 ghost use Rattle.body_reading.specs.Whole.{TakesAtMost, TakesRoom};
 
@@ -19,6 +19,7 @@ pub fn throw_away<S: FrameSource>(
     ensures counts { ¬ IsErrOf result FrameError.Failed
         → (S.state source.new).faults ≡ (S.state source.old).faults }
     ensures goes_on { GoesOn (S.state source.old) (S.state source.new) }
+    ensures calls { S.calls source.new ≤ S.calls source.old + room }
 {
     if room == 0 {
         return Ok(());

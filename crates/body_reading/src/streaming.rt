@@ -2,7 +2,7 @@
 ghost use Rattle.std.specs.Prelude.{◌≡◌, ◌+◌, ◌-◌, ◌<◌, ◌≤◌, ◌↔◌, ◌⊎◌, [], ◌∷◌, true, false, drop};
 ghost use Rattle.std.specs.Prelude.{if◌then◌else◌, nat_lt, length, IfOk, IfSome};
 ghost use Rattle.std.specs.Prelude.{IsErrOf, IsErr, OnErr, OnOk, is_err};
-ghost use Rattle.http_bodies.specs.Bodies.{faults_of, frames_of, never_failing, state_of};
+ghost use Rattle.http_bodies.specs.Bodies.{calls_of, faults_of, frames_of, never_failing, state_of};
 ghost use Rattle.http_bodies.specs.Frames.{content_frames};
 ghost use Rattle.http_bodies.specs.Sources.{GoesOn, HasFailed};
 ghost use Rattle.http_bodies.specs.declared.frame.Frame.TheVariants.{Bytes};
@@ -105,6 +105,12 @@ impl StreamingBody {
         ensures taken { TakesAtMost (room_of self.old + 1) (Some (frames_of self.old.body))
             (Some (frames_of self.new.body)) }
 
+        // It calls the body at most once more than frames may yet come, what it throws away with
+        // it; and for a content that it gives once for each frame that it counts.
+        ensures calls { calls_of self.new.body ≤ calls_of self.old.body + room_of self.old + 1 }
+        ensures each { IfOk result (λ next. IfSome next (λ _. calls_of self.new.body
+            ≤ calls_of self.old.body + (self.new.frames - self.old.frames))) }
+
         // A fault comes only where the count of faults rose, and a count that rose is told as that
         // fault, or as want of memory.
         ensures fault { IsErrOf result stream_fault
@@ -145,6 +151,10 @@ impl StreamingBody {
             → contents (frames_of self.new.body) ≡ contents (frames_of self.old.body) }
         ensures taken { TakesAtMost (room_of self.old + 1 - room_of self.new)
             (Some (frames_of self.old.body)) (Some (frames_of self.new.body)) }
+        ensures calls { calls_of self.new.body
+            ≤ calls_of self.old.body + (room_of self.old + 1 - room_of self.new) }
+        ensures each { IfOk result (λ next. IfSome next (λ _. calls_of self.new.body
+            ≤ calls_of self.old.body + (self.new.frames - self.old.frames))) }
         ensures room { room_of self.new ≤ room_of self.old }
         ensures fault { IsErrOf result BodyFlaw.Fault
             → HasFailed (state_of self.old.body) (state_of self.new.body) }
@@ -200,6 +210,7 @@ impl StreamingBody {
             (Some (frames_of self.old.body)) (Some (frames_of self.new.body)) }
         ensures taken { TakesAtMost (room_of self.old) (Some (frames_of self.old.body))
             (Some (frames_of self.new.body)) }
+        ensures calls { calls_of self.new.body ≤ calls_of self.old.body + room_of self.old }
         ensures still { (flaw ≡ BodyFlaw.Fault)
             → frames_of self.new.body ≡ frames_of self.old.body }
         ensures fault { result ≡ stream_fault → (flaw ≡ BodyFlaw.Fault)

@@ -1,6 +1,6 @@
 //! Bodies that are read whole.
-ghost use Rattle.std.specs.Prelude.{◌≡◌, ◌+◌, ◌-◌, ◌^◌, ◌<◌, ◌⊎◌, ◌++◌, IfSome, IsErrOf};
-ghost use Rattle.std.specs.Prelude.{ℕ, OnOk, Err, length};
+ghost use Rattle.std.specs.Prelude.{◌≡◌, ◌+◌, ◌-◌, ◌^◌, ◌<◌, ◌≤◌, ◌⊎◌, ◌++◌, IfSome};
+ghost use Rattle.std.specs.Prelude.{ℕ, IsErrOf, OnOk, Err, length};
 ghost use Rattle.http_bodies.specs.Frames.{data_of};
 ghost use Rattle.http_bodies.specs.Sources.{GoesOn, HasFailed};
 ghost use Rattle.body_reading.specs.Whole.{IsCutShort, Reads, TakesAtMost, TakesRoom, whole};
@@ -101,6 +101,9 @@ pub fn read_whole<S: FrameSource>(
     ensures counts { ¬ IsErrOf result BodyError.BodyFault
         → (S.state source.new).faults ≡ (S.state source.old).faults }
     ensures goes_on { GoesOn (S.state source.old) (S.state source.new) }
+
+    // It calls the source at most once more than the budget, what it throws away with it.
+    ensures calls { S.calls source.new ≤ S.calls source.old + budget + 1 }
 {
     let mut content = Vec::new(alloc);
     for count in 0..budget + 1 {
@@ -151,6 +154,7 @@ fn too_large<S: FrameSource>(alloc: Global, source: &mut S, sum: u64, room: u64)
     ensures counts { ¬ (result ≡ BodyError.BodyFault)
         → (S.state source.new).faults ≡ (S.state source.old).faults }
     ensures goes_on { GoesOn (S.state source.old) (S.state source.new) }
+    ensures calls { S.calls source.new ≤ S.calls source.old + room }
 {
     match throw_away(alloc, source, room) {
         Ok(()) => BodyError::BodyTooLarge(sum),

@@ -21,6 +21,11 @@ abbrev pub faults_of : BodyState → ℕ
 faults_of (never_failing frames) = 0
 faults_of (failing memory) = memory.faults
 
+-- how many calls were counted, which a body that never fails does not
+abbrev pub calls_of : BodyState → ℕ
+calls_of (never_failing frames) = 0
+calls_of (failing memory) = memory.calls
+
 -- whether a call can fail
 abbrev pub can_fail_of : BodyState → Bool
 can_fail_of (never_failing frames) = false

@@ -1,7 +1,8 @@
 //! Bodies of frames in memory.
-ghost use Rattle.std.specs.Prelude.{◌≡◌, [], Some, IfOk, IsErrOf, OnErr, is_err, option_to_list};
-ghost use Rattle.http_bodies.specs.Bodies.{after_body_call, failing, fails_next, faults_of};
-ghost use Rattle.http_bodies.specs.Bodies.{frames_of, never_failing, state_of};
+ghost use Rattle.std.specs.Prelude.{◌≡◌, ◌+◌, ◌≤◌, [], Some, IfOk, IsErrOf, OnErr, is_err};
+ghost use Rattle.std.specs.Prelude.{option_to_list};
+ghost use Rattle.http_bodies.specs.Bodies.{after_body_call, calls_of, failing, fails_next};
+ghost use Rattle.http_bodies.specs.Bodies.{faults_of, frames_of, never_failing, state_of};
 ghost use Rattle.http_bodies.specs.Frames.{content_frames};
 ghost use Rattle.http_bodies.specs.Sources.{GivesFrame, GoesOn, HasFailed};
 
@@ -98,6 +99,7 @@ impl Body {
         ensures exactly { is_err result ≡ fails_next self.old }
         ensures fault { OnErr result (IsErrOf result FrameError.Failed) }
         ensures after { self.new ≡ after_body_call self.old (frames_of self.new) }
+        ensures once { calls_of self.new ≤ calls_of self.old + 1 }
     {
         match &mut self.held {
             Held::Nothing => Ok(None),
@@ -122,6 +124,8 @@ fn content_frame(alloc: Global, content: &mut List<u8>) -> Option<Frame>
 
 impl FrameSource for Body {
     ghost state = { state_of };
+
+    ghost calls = { calls_of };
 
     fn next_frame(&mut self, alloc: Global) -> Result<Option<Frame>, FrameError> {
         Body::next_frame(self, alloc)

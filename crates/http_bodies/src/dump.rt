@@ -1,5 +1,5 @@
 //! Bodies that are read to their end and thrown away.
-ghost use Rattle.std.specs.Prelude.{◌≡◌, ◌-◌, ◌<◌, ◌^◌, IfOk, IfSome, IsErrOf};
+ghost use Rattle.std.specs.Prelude.{◌≡◌, ◌+◌, ◌-◌, ◌<◌, ◌≤◌, ◌^◌, IfOk, IfSome, IsErrOf};
 ghost use Rattle.http_bodies.specs.Dumping.{Dumps, IsOrRanOut, data_size, dumped};
 ghost use Rattle.http_bodies.specs.Sources.{GoesOn, HasFailed};
 
@@ -74,6 +74,9 @@ pub fn http_dump_body<B: FrameSource>(
     ensures counts { ¬ IsErrOf result DumpError.Failed
         → (B.state body.new).faults ≡ (B.state body.old).faults }
     ensures goes_on { GoesOn (B.state body.old) (B.state body.new) }
+
+    // It calls the body at most once more than the budget: not again behind the end or an error.
+    ensures calls { B.calls body.new ≤ B.calls body.old + budget + 1 }
 {
     let mut sum = 0u64;
     for _ in 0..budget + 1 {

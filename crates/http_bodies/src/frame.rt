@@ -1,5 +1,5 @@
 //! Frames of a body, and what gives them in turn.
-ghost use Rattle.std.specs.Prelude.{◌≡◌, IfOk, IsErrOf, OnErr};
+ghost use Rattle.std.specs.Prelude.{◌≡◌, ◌+◌, ◌≤◌, IfOk, IsErrOf, OnErr};
 ghost use Rattle.http_bodies.specs.Frames.{data_of};
 ghost use Rattle.http_bodies.specs.Sources.{GivesFrame, GoesOn, HasFailed};
 
@@ -66,11 +66,15 @@ impl fmt::Display for FrameError {
 
 /// Gives frames in turn. A box of a `FrameSource` is one too.
 pub trait FrameSource: Drop {
+    ghost use Rattle.std.specs.Prelude.{ℕ};
     ghost use Rattle.http_bodies.specs.Frames.{SourceState};
 
     /// The frames that are left, where the source tells them; how often it has failed; whether it
     /// can fail.
     ghost state: { Self → SourceState };
+
+    /// How often it was called, where it counts that.
+    ghost calls: { Self → ℕ } = { λ _. 0 };
 
     /// Takes the first frame that is left, and gives it; none exactly where no frame is left. After
     /// an error nothing was taken.
@@ -85,11 +89,16 @@ pub trait FrameSource: Drop {
             → HasFailed (state self.old) (state self.new) }
         ensures counts { ¬ IsErrOf result FrameError.Failed
             → (state self.new).faults ≡ (state self.old).faults }
-        ensures goes_on { GoesOn (state self.old) (state self.new) };
+        ensures goes_on { GoesOn (state self.old) (state self.new) }
+
+        // Whatever it answers, it counts as one call at most.
+        ensures once { calls self.new ≤ calls self.old + 1 };
 }
 
 impl FrameSource for Box<dyn FrameSource> {
     ghost state = { λ b. (FrameSource-box b).state b.value };
+
+    ghost calls = { λ b. (FrameSource-box b).calls b.value };
 
     fn next_frame(&mut self, alloc: Global) -> Result<Option<Frame>, FrameError> {
         (**self).next_frame(alloc)

@@ -1,5 +1,5 @@
 //! Frames in memory: with a list of calls that fail, or with none.
-ghost use Rattle.std.specs.Prelude.{◌≡◌, Some, IfOk, IsErrOf, IsOk, OnErr, is_err};
+ghost use Rattle.std.specs.Prelude.{◌≡◌, ◌+◌, ◌≤◌, Some, IfOk, IsErrOf, IsOk, OnErr, is_err};
 ghost use Rattle.http_bodies.specs.Bodies.{failing, never_failing, state_of};
 ghost use Rattle.http_bodies.specs.Memory.{after_frame_call, fresh_frames, is_failing, one_more};
 ghost use Rattle.http_bodies.specs.Sources.{GivesFrame, GoesOn, HasFailed};
@@ -135,6 +135,8 @@ impl FrameSource for SafeFrames {
 impl FrameSource for MemoryFrames {
     ghost state = { λ memory. state_of (failing memory) };
 
+    ghost calls = { λ memory. memory.calls };
+
     /// It takes no memory, and the same time for each frame, but for the search among the numbers
     /// of the calls that fail.
     fn next_frame(&mut self, _alloc: Global) -> Result<Option<Frame>, FrameError>
@@ -150,6 +152,7 @@ impl FrameSource for MemoryFrames {
         ensures exactly { is_err result ≡ is_failing self.old.failing self.old.calls }
         ensures fault { OnErr result (IsErrOf result FrameError.Failed) }
         ensures after { self.new ≡ after_frame_call self.old self.new.frames }
+        ensures once { self.new.calls ≤ self.old.calls + 1 }
     {
         if is_failing(self.failing.as_slice(), &mut self.calls) {
             self.faults = self.faults.saturating_add(1);

@@ -49,6 +49,7 @@ returns-in_err-endpoint g c =
           (unreached_reads (λ e. goal.RouteHandler-dyn g (e.handler.vtable, e.handler.value)) c.args.endpoints.now call
           c.args.budget (Some (frames_of c.args.body.now)) (Some (frames_of c.args.body.now)) error
           c.in_err-endpoint.ensures.unreached);
+      calls = omega arith;
     }
 
 -- the endpoint that is reached answers requests
@@ -132,4 +133,5 @@ returns g c =
           c.args.budget (Some (frames_of c.args.body.now)) (Some (frames_of c.extract-given.new.body)) e given
           c.answer.result reaches (rw (c.shape-shape.ensures, c.limit_at-limit.ensures) at c.extract-given.ensures.read)
           c.answer.ensures.read;
+      calls = c.extract-given.ensures.calls;
     }

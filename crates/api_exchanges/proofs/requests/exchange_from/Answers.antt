@@ -33,6 +33,7 @@ returns-in_err-endpoint g c =
           c.args.budget (g.S.FrameSource.state c.args.source.now).left (g.S.FrameSource.state c.args.source.now).left
           error c.in_err-endpoint.ensures.unreached);
       goes_on = record { later = omega arith; same = refl };
+      calls = omega arith;
     }
 
 -- the endpoint that is reached answers requests
@@ -93,4 +94,5 @@ returns g c =
           (rw (c.shape-shape.ensures, c.limit_at-limit.ensures) at c.extract_from-given.ensures.read)
           c.answer.ensures.read;
       goes_on = c.extract_from-given.ensures.goes_on;
+      calls = c.extract_from-given.ensures.calls;
     }

@@ -54,6 +54,7 @@ returns-in_err-args c =
           (Some (frames_of c.args.body.now)) (Some (frames_of c.args.body.now)) asks.shared;
       fault = λ e. front_not_reading table request slots result told (fault_of_reading result e);
       counts = λ h. inr refl;
+      calls = omega arith;
     }
 
 -- the answer of the slot that takes the body is pushed behind the others
@@ -95,6 +96,7 @@ returns-in-Some c =
           c.body_argument.ensures.read asks.reads;
       fault = last_fault table request slots slot last result behind c.body_argument.ensures.fault;
       counts = last_counts table request slots slot last result behind c.body_argument.ensures.counts;
+      calls = c.body_argument.ensures.calls;
     }
 
 -- no slot takes the body
@@ -128,4 +130,5 @@ returns-in-None c =
       read = λ asks. no_reader table request slots args front asks.reads;
       fault = λ e. absurd (cc e);
       counts = λ h. inr refl;
+      calls = omega arith;
     }

@@ -57,6 +57,7 @@ returns-in_err-args g c =
       fault = λ e. front_not_reading table request slots result told (fault_of_reading result e);
       counts = λ h. inr refl;
       goes_on = record { later = omega arith; same = refl };
+      calls = omega arith;
     }
 
 -- the answer of the slot that takes the body is pushed behind the others
@@ -100,6 +101,7 @@ returns-in-Some g c =
       fault = last_fault table request slots slot last result behind c.source_argument.ensures.fault;
       counts = last_counts table request slots slot last result behind c.source_argument.ensures.counts;
       goes_on = c.source_argument.ensures.goes_on;
+      calls = c.source_argument.ensures.calls;
     }
 
 -- no slot takes the body
@@ -135,4 +137,5 @@ returns-in-None g c =
       fault = λ e. absurd (cc e);
       counts = λ h. inr refl;
       goes_on = record { later = omega arith; same = refl };
+      calls = omega arith;
     }

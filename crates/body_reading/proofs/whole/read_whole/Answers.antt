@@ -12,7 +12,7 @@ returns-in_default-clause-outcome g c =
     (rw c.from_vec.ensures
     (reading_ends (g.S.FrameSource.state c.args.source.now) (g.S.FrameSource.state c.loop-count.source)
     (g.S.FrameSource.state c.next_frame.new.self) c.args.limit c.args.budget c.loop-count.content.items c.loop-count.count
-    c.loop-count.invariant gives (omega arith)))
+    c.loop-count.invariant.reading gives (omega arith)))
 
 pub returns-then-sum-limit-clause-came : goal.returns-then-sum-limit-clause-came
 returns-then-sum-limit-clause-came g c =
@@ -21,7 +21,7 @@ returns-then-sum-limit-clause-came g c =
     (g.S.FrameSource.state c.next_frame.new.self) (g.S.FrameSource.state c.too_large.new.source).left
     c.args.limit c.args.budget c.loop-count.content.items c.loop-count.count c.in-Some.frame c.sum_of-sum.result c.too_large.result
     (record {
-      reading = c.loop-count.invariant;
+      reading = c.loop-count.invariant.reading;
       gives = gives;
       allowed = omega arith;
       sum_is = rw (c.sum_of-sum.ensures, c.deref.ensures.value, c.data.ensures) refl;
@@ -40,7 +40,7 @@ returns-in_err-append-clause-came g c =
     rw (p.1, p.2)
     (reading_stops (g.S.FrameSource.state c.args.source.now) (g.S.FrameSource.state c.loop-count.source)
     (g.S.FrameSource.state c.next_frame.new.self) c.args.limit c.args.budget c.loop-count.content.items c.loop-count.count
-    c.in-Some.frame c.loop-count.invariant gives (omega arith))
+    c.in-Some.frame c.loop-count.invariant.reading gives (omega arith))
 
 pub loop-count-preserved : goal.loop-count-preserved
 loop-count-preserved g c =
@@ -48,13 +48,18 @@ loop-count-preserved g c =
     let counts = c.in_ok-frame.ensures.counts (λ failed. search rules) in
     let not_above : c.sum_of-sum.result ≤ c.args.limit = omega arith in
     let fits = rw (c.sum_of-sum.ensures, c.deref.ensures.value, c.data.ensures) at not_above in
-    rw c.in_ok-append.ensures
-    (reading_more (g.S.FrameSource.state c.args.source.now) (g.S.FrameSource.state c.loop-count.source)
-    (g.S.FrameSource.state c.next_frame.new.self) c.args.limit c.loop-count.content.items c.loop-count.count c.in-Some.frame
-    c.loop-count.invariant gives counts c.next_frame.ensures.goes_on fits)
+    let before = c.loop-count.invariant.calls in
+    let once = c.next_frame.ensures.once in
+    record {
+      reading = rw c.in_ok-append.ensures
+          (reading_more (g.S.FrameSource.state c.args.source.now) (g.S.FrameSource.state c.loop-count.source)
+          (g.S.FrameSource.state c.next_frame.new.self) c.args.limit c.loop-count.content.items c.loop-count.count
+          c.in-Some.frame c.loop-count.invariant.reading gives counts c.next_frame.ensures.goes_on fits);
+      calls = omega arith;
+    }
 
 pub returns-clause-outcome : goal.returns-clause-outcome
 returns-clause-outcome g c =
     reads_whole _ _ _ _ _
     (reading_over (g.S.FrameSource.state c.args.source.now) (g.S.FrameSource.state c.loop-count.source) c.args.limit c.args.budget
-    c.loop-count.content.items c.loop-count.count c.loop-count.invariant (omega arith))
+    c.loop-count.content.items c.loop-count.count c.loop-count.invariant.reading (omega arith))

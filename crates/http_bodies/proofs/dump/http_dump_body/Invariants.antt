@@ -1,5 +1,9 @@
+use Rattle.std.proofs.Common.{◌+◌, ◌≤◌}
 use Rattle.http_bodies.proofs.Dumping.{IsDumping}
 use Rattle.http_bodies.proofs.dump.http_dump_body.Given as goal
 
 abbrev pub invariant-loop : goal.invariant-loop
-invariant-loop g l = IsDumping (g.B.FrameSource.state l.fn.body) (g.B.FrameSource.state l.body) l.sum l.counter
+invariant-loop g l = record {
+  dumping : IsDumping (g.B.FrameSource.state l.fn.body) (g.B.FrameSource.state l.body) l.sum l.counter;
+  calls : g.B.FrameSource.calls l.body ≤ g.B.FrameSource.calls l.fn.body + l.counter;
+}
