@@ -5,7 +5,7 @@ ghost use Rattle.api_endpoints.specs.Endpoints.{boxed};
 ghost use Rattle.api_descriptions.specs.Ready.{IsReady};
 
 use crate::documents::{Head, head_of};
-use api_descriptions::ApiDescription;
+use api_descriptions::{ApiDescription, OpenApiDefinition};
 use api_respond::RouteHandler;
 use case_notation::{CaseError, Reader};
 use endpoint_notation::items_at;
@@ -35,10 +35,16 @@ pub fn document_said(alloc: Global, case: &Json, api: &ApiDescription) -> Result
             };
             reader.or(outcome, ());
         }
-        let copy = definition.copy(alloc)?;
-        copy.json(alloc)
+        json_of_copy(alloc, &definition)
     };
     reader.finish(json?)
+}
+
+fn json_of_copy(alloc: Global, definition: &OpenApiDefinition<'_>) -> Result<Json, AllocError>
+    requires { IsReady (boxed ⟦<dyn RouteHandler as RouteHandler>⟧) definition.now.api.now }
+{
+    let copy = definition.copy(alloc)?;
+    copy.json(alloc)
 }
 
 // The name of a call, and what it says: a licence its name and where it is found, any other call one text.
