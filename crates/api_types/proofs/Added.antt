@@ -2,14 +2,14 @@
 use Rattle.std.proofs.Common.{◌≡◌, List, [], ◌∷◌, ◌++◌, Option, Some, None, ℕ, refl, sym, ◌∙◌, ap, subst, inl, inr, Result, Ok, Err}
 use Rattle.std.proofs.lemmas.List.{append_assoc}
 use Rattle.std.proofs.lemmas.List.Elements.{Contains-append_cases}
-use Rattle.std.specs.Prelude.{IsErrAnd}
+use Rattle.std.specs.Prelude.{IsErrAnd, OnErr}
 use Rattle.descriptors.specs.declared.table.Definition.{Definition}
 use Rattle.descriptors.specs.declared.table.AddError.{AddError}
 use Rattle.descriptors.specs.declared.table.AddError.TheVariants.{Clash, OutOfMemory}
 use Rattle.descriptors.specs.Definitions.{entry_of}
 use Rattle.api_types.specs.Additions.{with_missing, with_all, AreRefused}
 use Rattle.api_types.specs.Types.{HoldsAll}
-use Rattle.api_types.specs.Adds.{AddsAll}
+use Rattle.api_types.specs.Adds.{AddsAll, AddsFirst}
 use Rattle.api_types.proofs.AddedInOrder.{entry_stays}
 
 added_twice : (table a b : List Definition) → with_all table (a ++ b) ≡ with_all (with_all table a) b
@@ -85,3 +85,19 @@ pub second_refused : {T : Type 0} (result : Result T AddError) (error : AddError
 second_refused result error table a b middle new is added held refused =
     told result error table (a ++ b) new is
     (refused_then table a b error (subst (λ (t : List Definition). HoldsAll t a) added held) (subst (λ (t : List Definition). AreRefused t b error) added refused))
+
+-- at an error of the first call, none is added
+pub none_added : {T : Type 0} (result : Result T AddError) (table ds new : List Definition) → new ≡ table → OnErr result (AddsFirst table ds new)
+none_added (Ok value) table ds new same = tt
+none_added (Err e) table ds new same = record { first = []; others = ds; parts = refl; added = same }
+
+-- at an error of the second call, those of the first one and some more
+pub some_added : {T : Type 0} (result : Result T AddError) (table a b middle new : List Definition)
+    → middle ≡ with_all table a → AddsFirst middle b new → OnErr result (AddsFirst table (a ++ b) new)
+some_added (Ok value) table a b middle new is more = tt
+some_added (Err e) table a b middle new is more = record {
+  first = a ++ more.first;
+  others = more.others;
+  parts = ap (λ (xs : List Definition). a ++ xs) more.parts ∙ sym (append_assoc a more.first more.others);
+  added = more.added ∙ ap (λ (t : List Definition). with_all t more.first) is ∙ sym (added_twice table a more.first);
+}

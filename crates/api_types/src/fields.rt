@@ -1,6 +1,6 @@
 //! The types of the fields of a struct.
-ghost use Rattle.std.specs.Prelude.{◌≡◌, ◌++◌, ◌∷◌, [], map, IfOk};
-ghost use Rattle.api_types.specs.Adds.{AddsAll};
+ghost use Rattle.std.specs.Prelude.{◌≡◌, ◌++◌, ◌∷◌, [], map, IfOk, OnErr};
+ghost use Rattle.api_types.specs.Adds.{AddsAll, AddsFirst};
 ghost use Rattle.api_types.specs.Kinds.{definitions_behind, kept, kind_desc, skipped};
 ghost use Rattle.api_types.specs.Kinds.{KindsFitOne, KindsReach};
 ghost use Rattle.api_types.specs.Options.{option_tree};
@@ -29,9 +29,11 @@ pub trait FieldTypes: Sized + Drop {
     fn fields(alloc: Global, heads: &[FieldHead]) -> Result<List<Field>, AllocError>
         ensures { IfOk result (λ fields. fields ≡ fields_with (map kind_desc kinds_of) heads.now) };
 
-    /// Adds the definitions of the types, up to the first clash, which is told.
+    /// Adds the definitions of the types, in order: all of them, or those before an error. The first clash is
+    /// told.
     fn add_definitions(alloc: Global, table: &mut DescTable) -> Result<(), AddError>
-        ensures { AddsAll result table.old (definitions_behind kinds_of) table.new };
+        ensures adds { AddsAll result table.old (definitions_behind kinds_of) table.new }
+        ensures err { OnErr result (AddsFirst table.old (definitions_behind kinds_of) table.new) };
 
     /// Does nothing. It shows that each descriptor reaches its type's definitions and no other.
     fn reach()
@@ -154,7 +156,9 @@ fn field_before(field: Field, others: List<Field>) -> Result<List<Field>, AllocE
 
 // Adds the definitions of one type, and then those of the others.
 fn add_both<A: ApiType, R: FieldTypes>(alloc: Global, table: &mut DescTable) -> Result<(), AddError>
-    ensures { AddsAll result table.old (A.definitions_of ++ definitions_behind R.kinds_of) table.new }
+    ensures adds { AddsAll result table.old (A.definitions_of ++ definitions_behind R.kinds_of) table.new }
+    ensures err { OnErr result
+        (AddsFirst table.old (A.definitions_of ++ definitions_behind R.kinds_of) table.new) }
 {
     A::add_definitions(alloc, table)?;
     R::add_definitions(alloc, table)?;

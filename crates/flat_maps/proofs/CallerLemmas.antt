@@ -1,11 +1,11 @@
 -- What proofs of the crates above take from here: lemmas over the words of specs/, and the notions that they are stated in.
 
--- what a text denotes, descriptor by descriptor, with no steps in it; and that it fits
-pub use Rattle.scalar_texts.proofs.CallerLemmas.{text_row, no_text, text_fits}
+-- what a text denotes, descriptor by descriptor, with no steps in it
+pub use Rattle.scalar_texts.proofs.CallerLemmas.{text_row}
 -- what references lead to, with no steps in it
 pub use Rattle.flat_maps.proofs.ResolveSteps.{resolved_row, at_name, here}
 -- a measure that falls behind options and references
-pub use Rattle.scalar_texts.proofs.CallerLemmas.{steps, fewer_inside, fewer_behind}
+pub use Rattle.scalar_texts.proofs.CallerLemmas.{steps, fewer_behind}
 -- what is told under a struct, and of a list of texts
 pub use Rattle.flat_maps.proofs.Arms.{open_struct, denied_struct, no_struct, told_list, no_list, items_within}
 -- what flat names denote, field by field; and that it fits
