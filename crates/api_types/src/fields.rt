@@ -29,8 +29,8 @@ pub trait FieldTypes: Sized + Drop {
     fn fields(alloc: Global, heads: &[FieldHead]) -> Result<List<Field>, AllocError>
         ensures { IfOk result (λ fields. fields ≡ fields_with (map kind_desc kinds_of) heads.now) };
 
-    /// Adds the definitions of the types, in order: all of them, or those before an error. The first clash is
-    /// told.
+    /// Adds the definitions of the types, in order: all of them or, at an error, the first of them, some or
+    /// none. The first clash is told.
     fn add_definitions(alloc: Global, table: &mut DescTable) -> Result<(), AddError>
         ensures adds { AddsAll result table.old (definitions_behind kinds_of) table.new }
         ensures err { OnErr result (AddsFirst table.old (definitions_behind kinds_of) table.new) };
