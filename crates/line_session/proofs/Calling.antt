@@ -1,10 +1,12 @@
 -- What the calls of a source and a sink gave and took, from call to call.
 use Rattle.std.proofs.Common.{◌≡◌, ◌≢◌, ℕ, ◌+◌, ◌-◌, ◌<◌, List, [], ◌∷◌, ◌++◌, length, take, drop, refl, sym, ap, ◌∙◌}
-use Rattle.std.proofs.Common.{subst, arith, append-nil, length-append, Some, None, Ok, Err, Result}
+use Rattle.std.proofs.Common.{subst, arith, append-nil, length-append, inl, Some, None, Ok, Err}
 use Rattle.std.proofs.Math.Seq.{take-add}
+use Rattle.std.proofs.lemmas.List.{take-append-drop}
 use Rattle.std.proofs.lemmas.List.Folds.{concat-append}
 use Rattle.std.specs.List.{FoldsTo, concat}
-use Rattle.line_session.specs.Calls.{ByCalls, Gave, GaveAll, GaveAndFailed, GivesPiece, IsWrittenBy, PeeksBy, TookPart}
+use Rattle.line_session.specs.Calls.{ByCalls, Gave, GaveAll, GaveAndFailed, GivesPiece, PeeksBy, Took, TookPart}
+use Rattle.line_session.specs.Calls.{TookPartAndFailed, WriteCall}
 use Rattle.line_session.specs.Reading.{Reading, Handles}
 use Rattle.line_session.specs.NextLine.{IsOpen}
 use Rattle.line_session.specs.declared.ends.Failed.{Failed}
@@ -43,11 +45,22 @@ module _ {X : Type 0} (Call : X → List ℕ → X → Type 0) where
       (ap (λ (l : List ℕ). take at bytes ++ take n l) (rest-whole bytes at) ∙ sym (take-add at n bytes))
       (ByCalls-then a b c (take at bytes) (take n (take (length bytes - at) (drop at bytes))) p (ByCalls-one b c _ q))
 
--- a part was written
-pub written-part : {K T : Type 0} (sink : SinkGhosts K) (bytes : List ℕ) (old new : K) (result : Result T SinkError)
-    (error : SinkError) → result ≡ Err error → TookPart sink old bytes error new
-    → IsWrittenBy sink bytes old new result
-written-part sink bytes old new result error is part = subst (IsWrittenBy sink bytes old new) (sym is) part
+module _ {K : Type 0} (sink : SinkGhosts K) (bytes : List ℕ) (old new : K) where
+  -- a call for what stands behind the first `at` bytes answered an error
+  pub failed-at : (at : ℕ) (mid : K) (error : SinkError) → Took sink old (take at bytes) mid
+      → WriteCall sink mid (take (length bytes - at) (drop at bytes)) (Err error) new
+      → TookPartAndFailed sink old bytes error new
+  failed-at at mid error took call = (
+    take at bytes,
+    drop at bytes,
+    take-append-drop at bytes,
+    (mid, take (length bytes - at) (drop at bytes), took, call),
+  )
+
+  -- so calls took a part of the bytes
+  pub part-before : (error : SinkError) → TookPartAndFailed sink old bytes error new
+      → TookPart sink old bytes error new
+  part-before error (part, more, whole, failed) = (part, more, whole, inl failed)
 
 -- ---- bytes that come later
 

@@ -144,6 +144,11 @@ module _ {K : Type 0} (sink : SinkGhosts K) where
   TookPart old bytes error new =
       (part : List ℕ) × (more : List ℕ) × (part ++ more ≡ bytes) × TookUpTo old part error new
 
+  -- calls took a part of these bytes from the front, and a call behind them, the last, answered this error
+  abbrev pub TookPartAndFailed : K → List ℕ → SinkError → K → Type 0
+  TookPartAndFailed old bytes error new =
+      (part : List ℕ) × (more : List ℕ) × (part ++ more ≡ bytes) × TookAndFailed old part error new
+
   -- calls took all of these bytes, or up to an error a part of them
   abbrev pub IsWrittenBy : {T : Type 0} → List ℕ → K → K → Result T SinkError → Type 0
   IsWrittenBy bytes old new (Ok done) = Took old bytes new

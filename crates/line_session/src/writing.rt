@@ -1,15 +1,16 @@
 //! Whole texts to a sink, which may take them in parts.
-ghost use Rattle.std.specs.Prelude.{◌≡◌, ◌≤◌, OnOk, OnErr, IsErrOf};
+ghost use Rattle.std.specs.Prelude.{◌≡◌, ◌≤◌, OnOk, OnErr, IfErr, IsErrOf};
 ghost use Rattle.std.specs.Io.KnownBytes.{Appends};
 ghost use Rattle.schema_values.specs.Causes.{HasRisen};
-ghost use Rattle.line_session.specs.Calls.{IsWrittenBy};
+ghost use Rattle.line_session.specs.Calls.{IsWrittenBy, TookPartAndFailed};
 ghost use Rattle.line_session.specs.Lines.{end_line};
 ghost use Rattle.line_session.specs.Parts.{AppendsPart};
 
 use crate::ends::{Sink, SinkError};
 use schema_values::List;
 
-/// Writes all of `bytes`; at an `Err` a part from the front.
+/// Writes all of `bytes`; at an `Err` a part from the front. It takes no memory itself: each error is the answer of
+/// the sink to the last call.
 pub fn write_all<K: Sink>(sink: &mut K, bytes: &[u8]) -> Result<(), SinkError>
     ensures ok { OnOk result (Appends (K.taken sink.old) (K.taken sink.new) bytes.now) }
     ensures part { OnErr result (AppendsPart (K.taken sink.old) (K.taken sink.new) bytes.now) }
@@ -17,6 +18,7 @@ pub fn write_all<K: Sink>(sink: &mut K, bytes: &[u8]) -> Result<(), SinkError>
     ensures failed { IsErrOf result SinkError.Failed → HasRisen (K.faults sink.old) (K.faults sink.new) }
     ensures counts { ¬ IsErrOf result SinkError.Failed → K.faults sink.new ≡ K.faults sink.old }
     ensures calls { IsWrittenBy K.Sink bytes.now sink.old sink.new result }
+    ensures told { IfErr result (λ error. TookPartAndFailed K.Sink sink.old bytes.now error sink.new) }
 {
     let mut at = 0;
     while at < bytes.len() {
