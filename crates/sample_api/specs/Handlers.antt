@@ -79,7 +79,8 @@ pub record TellsSize (args : List Arg) (before : Tables) (reply : Reply) (after 
   pub reply_is : reply ≡ gives 200 (trees.Int (pos (length bytes)))
   pub stays : after ≡ before
 
--- the number of folders is given back, or 2^32-1 where there are more
+-- The number of folders is given back, or 2^32-1 where there are more. Folders of one tree are as many, as
+-- `trees_tell_counts` of `sample_types` says, so that is one number.
 pub record CountsFolders (args : List Arg) (before : Tables) (reply : Reply) (after : Tables) : Type 0 where
   pub folder : Folder
   pub given : args ≡ arguments.Tree (folder_tree folder) ∷ []

@@ -15,6 +15,6 @@ mod sample_handler;
 
 pub use endpoint::{SampleEndpoint, endpoints};
 pub use first_store::points_store;
-pub use limits::{FRAME_BUDGET, LONGEST_LINE, MOST_INPUT, TITLE, server_config};
+pub use limits::{FRAME_BUDGET, LONGEST_LINE, MOST_INPUT, TITLE, limits_are, server_config};
 pub use sample_handler::SampleHandler;
 pub use sample_types::Operation;

@@ -1,5 +1,5 @@
 //! The title and the limits that the sample is served with.
-ghost use Rattle.std.specs.Prelude.{◌≡◌, ◌^◌};
+ghost use Rattle.std.specs.Prelude.{◌≡◌, ◌^◌, codes};
 
 use request_parts::ServerConfig;
 use std::num::NonZeroU32;
@@ -15,6 +15,14 @@ pub const LONGEST_LINE: u64 = 1_048_576;
 
 /// The most bytes of the whole input.
 pub const MOST_INPUT: u64 = 2_147_483_648;
+
+/// What the constants of this crate are. It does nothing: its clauses are for proofs.
+pub fn limits_are()
+    ensures title { TITLE.now ≡ codes "sample" }
+    ensures frames { FRAME_BUDGET ≡ 1000 }
+    ensures line { LONGEST_LINE ≡ 2 ^ 20 }
+    ensures input { MOST_INPUT ≡ 2 ^ 31 }
+{}
 
 /// Bodies of at most 1,024 bytes where an endpoint does not say, and pages of 100 items where a request does not say,
 /// of at most 10,000.

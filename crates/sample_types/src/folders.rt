@@ -1,5 +1,7 @@
 //! How many folders a folder is.
 ghost use Rattle.std.specs.Prelude.{◌≡◌, ◌-◌, ◌^◌, map, min, sum};
+ghost use Rattle.own_types.specs.Folders.{folder_tree};
+ghost use Rattle.own_types.specs.declared.folder.Folder.{Folder as FolderValue};
 ghost use Rattle.sample_types.specs.Folders.{folder_count};
 
 use own_types::Folder;
@@ -22,3 +24,9 @@ fn counted(folders: &[Folder]) -> u32
     }
     count
 }
+
+/// Folders of one tree are as many. It does nothing: its clause is for proofs.
+pub fn trees_tell_counts()
+    ensures { (one other : FolderValue) → folder_tree one ≡ folder_tree other
+        → folder_count one ≡ folder_count other }
+{}

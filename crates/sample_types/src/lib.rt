@@ -10,7 +10,7 @@ mod shape_parts;
 mod shapes;
 mod trees;
 
-pub use folders::folder_count;
+pub use folders::{folder_count, trees_tell_counts};
 pub use label::PointLabel;
 pub use operation::Operation;
 pub use point::{LabelPath, Point};

@@ -44,6 +44,11 @@ abbrev pub ConvertsFirst : {S R : Type 0} → (Arg → S → Type 0) → (List A
 ConvertsFirst one others [] value rest = ⊥
 ConvertsFirst one others (arg ∷ args) value rest = one arg value × others args rest
 
+-- in the place of the first argument is left what one relation says, and in those of the others what another says
+abbrev pub LeavesFirst : (Arg → Arg → Type 0) → (List Arg → List Arg → Type 0) → List Arg → List Arg → Type 0
+LeavesFirst one others (before ∷ befores) (after ∷ afters) = one before after × others befores afters
+LeavesFirst one others _ _ = ⊥
+
 -- no argument converts to nothing
 abbrev pub IsNothing : List Arg → ⊤ → Type 0
 IsNothing args value = args ≡ []

@@ -189,6 +189,10 @@ impl ExclusiveExtractor for StreamingBody {
 
     ghost converts = { λ arg body. arg ≡ arguments.Stream body };
 
+    ghost leaves = { λ before after. after ≡ arguments.Stream (fresh_stream (never_failing []) 0 0) };
+
+    ghost may_fail = { ⊥ };
+
     fn slot(_alloc: Global, _table: &mut DescTable) -> Result<Slot, AddError> {
         Ok(Slot::StreamBody)
     }

@@ -20,7 +20,7 @@ use typed_values::{AddError, Desc, DescTable};
 ///
 /// An extractor of one's own names a slot and a conversion; it reads nothing of the request.
 pub trait SharedExtractor: Sized + Drop {
-    ghost use Rattle.std.specs.Prelude.{List, []};
+    ghost use Rattle.std.specs.Prelude.{⊤, List, []};
     ghost use Rattle.descriptors.specs.declared.table.Definition.{Definition};
     ghost use Rattle.handler_shapes.specs.declared.arguments.Arg.{Arg};
     ghost use Rattle.handler_shapes.specs.declared.slot.Slot.{Slot};
@@ -39,6 +39,13 @@ pub trait SharedExtractor: Sized + Drop {
     /// The values that an argument converts to.
     ghost converts: { Arg → Self → Type 0 };
 
+    /// What is left in the place of an argument that was converted, besides that trees and bytes
+    /// stay. Where this is not given, nothing is said of it.
+    ghost leaves: { Arg → Arg → Type 0 } = { λ before after. ⊤ };
+
+    /// That memory may run out in a conversion. Where this is not given, it may.
+    ghost may_fail: { Type 0 } = { ⊤ };
+
     /// The slot, with the descriptors of its types. Adds the definitions that it reaches to the
     /// table, and no others: all of them, or none where one clashes. The clash is told.
     fn slot(alloc: Global, table: &mut DescTable) -> Result<Slot, AddError>
@@ -56,7 +63,9 @@ pub trait SharedExtractor: Sized + Drop {
     fn from_arg(alloc: Global, arg: &mut Arg) -> Result<Self, AllocError>
         requires { IsTaken slot_of definitions_of selectors_of arg.old }
         ensures converted { IfOk result (λ value. converts arg.old value) }
-        ensures stays { ArgStays arg.old arg.new };
+        ensures stays { ArgStays arg.old arg.new }
+        ensures left { OnOk result (leaves arg.old arg.new) }
+        ensures memory { OnErr result may_fail };
 }
 
 /// What is made of one argument of a handler, in the last place, as a body is. Each shared
@@ -64,7 +73,7 @@ pub trait SharedExtractor: Sized + Drop {
 ///
 /// An extractor of one's own names a slot and a conversion; it reads nothing of the request.
 pub trait ExclusiveExtractor: Sized + Drop {
-    ghost use Rattle.std.specs.Prelude.{List, []};
+    ghost use Rattle.std.specs.Prelude.{⊤, List, []};
     ghost use Rattle.descriptors.specs.declared.table.Definition.{Definition};
     ghost use Rattle.handler_shapes.specs.declared.arguments.Arg.{Arg};
     ghost use Rattle.handler_shapes.specs.declared.slot.Slot.{Slot};
@@ -83,6 +92,13 @@ pub trait ExclusiveExtractor: Sized + Drop {
     /// The values that an argument converts to.
     ghost converts: { Arg → Self → Type 0 };
 
+    /// What is left in the place of an argument that was converted, besides that trees and bytes
+    /// stay. Where this is not given, nothing is said of it.
+    ghost leaves: { Arg → Arg → Type 0 } = { λ before after. ⊤ };
+
+    /// That memory may run out in a conversion. Where this is not given, it may.
+    ghost may_fail: { Type 0 } = { ⊤ };
+
     /// The slot, with the descriptors of its types. Adds the definitions that it reaches to the
     /// table, and no others: all of them, or none where one clashes. The clash is told.
     fn slot(alloc: Global, table: &mut DescTable) -> Result<Slot, AddError>
@@ -100,7 +116,9 @@ pub trait ExclusiveExtractor: Sized + Drop {
     fn from_arg(alloc: Global, arg: &mut Arg) -> Result<Self, AllocError>
         requires { IsTaken slot_of definitions_of selectors_of arg.old }
         ensures converted { IfOk result (λ value. converts arg.old value) }
-        ensures stays { ArgStays arg.old arg.new };
+        ensures stays { ArgStays arg.old arg.new }
+        ensures left { OnOk result (leaves arg.old arg.new) }
+        ensures memory { OnErr result may_fail };
 }
 
 impl<S: SharedExtractor> ExclusiveExtractor for S {
@@ -111,6 +129,10 @@ impl<S: SharedExtractor> ExclusiveExtractor for S {
     ghost selectors_of = { S.selectors_of };
 
     ghost converts = { S.converts };
+
+    ghost leaves = { S.leaves };
+
+    ghost may_fail = { S.may_fail };
 
     fn slot(alloc: Global, table: &mut DescTable) -> Result<Slot, AddError> {
         <S as SharedExtractor>::slot(alloc, table)
@@ -124,7 +146,7 @@ impl<S: SharedExtractor> ExclusiveExtractor for S {
 /// What is made of all arguments of a handler: a tuple of shared extractors and an exclusive one,
 /// or nothing.
 pub trait RequestExtractor: Sized + Drop {
-    ghost use Rattle.std.specs.Prelude.{List, []};
+    ghost use Rattle.std.specs.Prelude.{⊤, List, []};
     ghost use Rattle.descriptors.specs.declared.table.Definition.{Definition};
     ghost use Rattle.handler_shapes.specs.declared.arguments.Arg.{Arg};
     ghost use Rattle.handler_shapes.specs.declared.slot.Slot.{Slot};
@@ -142,6 +164,13 @@ pub trait RequestExtractor: Sized + Drop {
 
     /// The values that arguments convert to.
     ghost converts: { List Arg → Self → Type 0 };
+
+    /// What is left in the places of arguments that were converted, besides that trees and bytes
+    /// stay. Where this is not given, nothing is said of it.
+    ghost leaves: { List Arg → List Arg → Type 0 } = { λ before after. ⊤ };
+
+    /// That memory may run out in a conversion. Where this is not given, it may.
+    ghost may_fail: { Type 0 } = { ⊤ };
 
     /// The slots, with the descriptors of their types. Adds the definitions that they reach to the
     /// table, and no others: all of them, or none where one clashes. The clash is told.
@@ -161,7 +190,9 @@ pub trait RequestExtractor: Sized + Drop {
     fn from_args(alloc: Global, args: &mut [Arg]) -> Result<Self, AllocError>
         requires { AreTaken slots_of definitions_of selectors_of args.old }
         ensures converted { IfOk result (λ value. converts args.old value) }
-        ensures stay { ArgsStay args.old args.new };
+        ensures stay { ArgsStay args.old args.new }
+        ensures left { OnOk result (leaves args.old args.new) }
+        ensures memory { OnErr result may_fail };
 }
 
 // Adds the definitions of a type to a table, and gives the type's descriptor.

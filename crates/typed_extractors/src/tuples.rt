@@ -1,5 +1,5 @@
 //! Tuples of up to four shared extractors and an exclusive one.
-ghost use Rattle.std.specs.Prelude.{◌≡◌, ◌++◌, ◌∷◌, [], IfErr, IfOk, OnErr, OnOk};
+ghost use Rattle.std.specs.Prelude.{◌≡◌, ◌⊎◌, ◌++◌, ◌∷◌, [], IfErr, IfOk, OnErr, OnOk};
 ghost use Rattle.std.specs.List.{flat_map};
 ghost use Rattle.api_types.specs.Additions.{with_all};
 ghost use Rattle.api_types.specs.Types.{HoldsAll};
@@ -7,7 +7,7 @@ ghost use Rattle.handler_shapes.specs.Arguments.{ArgsStay};
 ghost use Rattle.typed_extractors.specs.Selectors.{HaveOwnTables, selectors_in};
 ghost use Rattle.typed_extractors.specs.SlotAdditions.{AreSlotsRefused, HaveTables};
 ghost use Rattle.typed_extractors.specs.SlotsReach.{SlotsReachExactly};
-ghost use Rattle.typed_extractors.specs.Taken.{AreTaken, ConvertsFirst, IsNothing};
+ghost use Rattle.typed_extractors.specs.Taken.{AreTaken, ConvertsFirst, IsNothing, LeavesFirst};
 
 use crate::common::{ExclusiveExtractor, RequestExtractor, SharedExtractor};
 use handler_shapes::{Arg, Slot};
@@ -21,6 +21,8 @@ impl RequestExtractor for () {
     ghost definitions_of = { [] };
 
     ghost converts = { IsNothing };
+
+    ghost may_fail = { ⊥ };
 
     fn slots(alloc: Global, _table: &mut DescTable) -> Result<List<Slot>, AddError> {
         Ok(List::new(alloc))
@@ -39,6 +41,10 @@ impl<X: ExclusiveExtractor> RequestExtractor for (X,) {
     ghost selectors_of = { X.selectors_of ++ [] };
 
     ghost converts = { λ args value. ConvertsFirst X.converts IsNothing args value.0 tt };
+
+    ghost leaves = { LeavesFirst X.leaves ⟦<() as RequestExtractor>⟧.leaves };
+
+    ghost may_fail = { X.may_fail ⊎ ⊥ };
 
     fn slots(alloc: Global, table: &mut DescTable) -> Result<List<Slot>, AddError> {
         slots_with::<X, ()>(alloc, table)
@@ -59,6 +65,10 @@ impl<A: SharedExtractor, X: ExclusiveExtractor> RequestExtractor for (A, X) {
 
     ghost converts = { λ args value. ConvertsFirst A.converts ⟦<(X,) as RequestExtractor>⟧.converts
         args value.0 (record { 0 = value.1 }) };
+
+    ghost leaves = { LeavesFirst A.leaves ⟦<(X,) as RequestExtractor>⟧.leaves };
+
+    ghost may_fail = { A.may_fail ⊎ ⟦<(X,) as RequestExtractor>⟧.may_fail };
 
     fn slots(alloc: Global, table: &mut DescTable) -> Result<List<Slot>, AddError> {
         slots_with::<A, (X,)>(alloc, table)
@@ -84,6 +94,10 @@ where
 
     ghost converts = { λ args value. ConvertsFirst A.converts
         ⟦<(B, X) as RequestExtractor>⟧.converts args value.0 (value.1, value.2) };
+
+    ghost leaves = { LeavesFirst A.leaves ⟦<(B, X) as RequestExtractor>⟧.leaves };
+
+    ghost may_fail = { A.may_fail ⊎ ⟦<(B, X) as RequestExtractor>⟧.may_fail };
 
     fn slots(alloc: Global, table: &mut DescTable) -> Result<List<Slot>, AddError> {
         slots_with::<A, (B, X)>(alloc, table)
@@ -112,6 +126,10 @@ where
 
     ghost converts = { λ args value. ConvertsFirst A.converts
         ⟦<(B, C, X) as RequestExtractor>⟧.converts args value.0 (value.1, value.2, value.3) };
+
+    ghost leaves = { LeavesFirst A.leaves ⟦<(B, C, X) as RequestExtractor>⟧.leaves };
+
+    ghost may_fail = { A.may_fail ⊎ ⟦<(B, C, X) as RequestExtractor>⟧.may_fail };
 
     fn slots(alloc: Global, table: &mut DescTable) -> Result<List<Slot>, AddError> {
         slots_with::<A, (B, C, X)>(alloc, table)
@@ -142,6 +160,10 @@ where
     ghost converts = { λ args value. ConvertsFirst A.converts
         ⟦<(B, C, D, X) as RequestExtractor>⟧.converts args value.0
         (value.1, value.2, value.3, value.4) };
+
+    ghost leaves = { LeavesFirst A.leaves ⟦<(B, C, D, X) as RequestExtractor>⟧.leaves };
+
+    ghost may_fail = { A.may_fail ⊎ ⟦<(B, C, D, X) as RequestExtractor>⟧.may_fail };
 
     fn slots(alloc: Global, table: &mut DescTable) -> Result<List<Slot>, AddError> {
         slots_with::<A, (B, C, D, X)>(alloc, table)
@@ -228,6 +250,8 @@ fn first_of<S: ExclusiveExtractor, R: RequestExtractor>(
     ensures converted { IfOk result (λ value. ConvertsFirst S.converts R.converts args.old
         value.0 value.1) }
     ensures stay { ArgsStay args.old args.new }
+    ensures left { OnOk result (LeavesFirst S.leaves R.leaves args.old args.new) }
+    ensures memory { OnErr result (S.may_fail ⊎ R.may_fail) }
 {
     match args.split_first_mut() {
         Some((first, others)) => {
