@@ -1,5 +1,5 @@
 //! What an endpoint answers a request that reaches it.
-ghost use Rattle.std.specs.Prelude.{◌≡◌, ◌⊎◌, Err, IfOk, IsErrAnd, IsErrOf, IsOk};
+ghost use Rattle.std.specs.Prelude.{◌≡◌, ◌⊎◌, ℕ, Err, IfOk, IsErrAnd, IsErrOf, IsOk};
 ghost use Rattle.body_reading.specs.Flaws.{flaw_error};
 ghost use Rattle.handler_shapes.specs.Arguments.{ArgsFit};
 ghost use Rattle.handler_shapes.specs.ShapeChecks.{ShapePasses};
@@ -22,7 +22,7 @@ use request_parts::{RequestParts, ServerConfig};
 use std::alloc::{AllocError, Global};
 use tree_store::Store;
 
-/// How many bytes a body has at most.
+/// How many bytes a body has at most: as the endpoint says, and else the server.
 pub fn limit_at(endpoint: &ApiEndpoint, config: &ServerConfig) -> u64
     ensures { result ≡ limit_at endpoint.now config.now }
 {
@@ -31,7 +31,8 @@ pub fn limit_at(endpoint: &ApiEndpoint, config: &ServerConfig) -> u64
         .unwrap_or(config.default_request_body_max_bytes)
 }
 
-/// What the endpoint answers a request of this id whose slots are given arguments, or an error.
+/// What the endpoint answers a request of this id whose slots are given arguments, or an error. A number of frames, and
+/// want of memory for the arguments, are handed on without asking for memory.
 pub fn answer(
     alloc: Global,
     endpoint: &ApiEndpoint,
@@ -54,6 +55,9 @@ pub fn answer(
     ensures read { TellsAsGiven given result }
     ensures fault { IsErrAnd result IsFault → IsErrOf given ExtractError.BodyFault }
     ensures cut { IsErrOf given ExtractError.BodyFault → IsOutcomeCutShort result }
+    ensures budget { (count : ℕ) → IsErrOf given (ExtractError.FrameBudget count)
+        → IsErrOf result (ExchangeError.FrameBudget count) }
+    ensures memory { IsErrOf given ExtractError.OutOfMemory → IsErrOf result ExchangeError.OutOfMemory }
 {
     match given {
         Ok(args) => Ok(handle(alloc, endpoint, store, request, request_id, config, args)?),
@@ -78,6 +82,9 @@ fn refuse(
     ensures read { TellsAsGiven (Err error) result }
     ensures fault { IsErrAnd result IsFault → error ≡ ExtractError.BodyFault }
     ensures cut { error ≡ ExtractError.BodyFault → IsOutcomeCutShort result }
+    ensures budget { (count : ℕ) → error ≡ ExtractError.FrameBudget count
+        → IsErrOf result (ExchangeError.FrameBudget count) }
+    ensures memory { error ≡ ExtractError.OutOfMemory → IsErrOf result ExchangeError.OutOfMemory }
 {
     match error {
         ExtractError::Refused(fault, message) => {

@@ -25,6 +25,8 @@ returns-in_err-handle-in-Ok g c =
       read = λ limit budget old new reads. rw is tt;
       fault = λ fault. absurd (rw is at fault);
       cut = λ same. absurd (cc (c.in-Ok.is, same));
+      budget = λ count same. absurd (cc (c.in-Ok.is, same));
+      memory = λ same. absurd (cc (c.in-Ok.is, same));
     }
 
 -- the handler was called
@@ -39,6 +41,8 @@ returns-in_ok-handle-in-Ok g c = record {
   read = reads_by c.args.given (Ok c.in-Ok.args) c.in-Ok.is;
   fault = λ fault. absurd fault;
   cut = λ same. absurd (cc (c.in-Ok.is, same));
+  budget = λ count same. absurd (cc (c.in-Ok.is, same));
+  memory = λ same. absurd (cc (c.in-Ok.is, same));
 }
 
 -- the slots were not given arguments
@@ -59,4 +63,6 @@ returns-in-Err g c = record {
       (reads_by c.args.given (Err c.in-Err.error) c.in-Err.is limit budget old new reads);
   fault = λ fault. c.in-Err.is ∙ ap Err (c.refuse.ensures.fault fault);
   cut = λ same. c.refuse.ensures.cut (cc (c.in-Err.is, same));
+  budget = λ count same. c.refuse.ensures.budget count (cc (c.in-Err.is, same));
+  memory = λ same. c.refuse.ensures.memory (cc (c.in-Err.is, same));
 }

@@ -25,6 +25,8 @@ returns-in_err-error-in-Refused g c =
       read = λ limit budget old new reads. rw is tt;
       fault = λ fault. absurd (rw is at fault);
       cut = λ same. absurd (cc (c.in-Refused.is, same));
+      budget = λ count same. absurd (cc (c.in-Refused.is, same));
+      memory = λ same. absurd (cc (c.in-Refused.is, same));
     }
 
 -- memory ran out for its response
@@ -39,6 +41,8 @@ returns-in_err-response-in-Refused g c =
       read = λ limit budget old new reads. rw is tt;
       fault = λ fault. absurd (rw is at fault);
       cut = λ same. absurd (cc (c.in-Refused.is, same));
+      budget = λ count same. absurd (cc (c.in-Refused.is, same));
+      memory = λ same. absurd (cc (c.in-Refused.is, same));
     }
 
 -- a slot is given nothing
@@ -62,6 +66,8 @@ returns-in_ok-response-in-Refused g c = record {
       (ap Err c.in-Refused.is);
   fault = λ fault. absurd fault;
   cut = λ same. absurd (cc (c.in-Refused.is, same));
+  budget = λ count same. absurd (cc (c.in-Refused.is, same));
+  memory = λ same. absurd (cc (c.in-Refused.is, same));
 }
 
 -- memory ran out for the response to a fault
@@ -76,6 +82,8 @@ returns-in_err-response-in-BodyFault g c =
       read = λ limit budget old new reads. rw is tt;
       fault = λ fault. absurd (rw is at fault);
       cut = λ same. rw is tt;
+      budget = λ count same. absurd (cc (c.in-BodyFault.is, same));
+      memory = λ same. absurd (cc (c.in-BodyFault.is, same));
     }
 
 -- a call on the body failed
@@ -97,6 +105,8 @@ returns-in_ok-response-in-BodyFault g c = record {
   read = reads_by (Err c.args.error) (Err errors.BodyFault) (ap Err c.in-BodyFault.is);
   fault = λ fault. c.in-BodyFault.is;
   cut = λ same. tt;
+  budget = λ count same. absurd (cc (c.in-BodyFault.is, same));
+  memory = λ same. absurd (cc (c.in-BodyFault.is, same));
 }
 
 -- memory ran out for the response to a size
@@ -111,6 +121,8 @@ returns-in_err-response-in-BodyTooLarge g c =
       read = λ limit budget old new reads. rw is tt;
       fault = λ fault. absurd (rw is at fault);
       cut = λ same. absurd (cc (c.in-BodyTooLarge.is, same));
+      budget = λ count same. absurd (cc (c.in-BodyTooLarge.is, same));
+      memory = λ same. absurd (cc (c.in-BodyTooLarge.is, same));
     }
 
 -- the content is above the limit
@@ -135,6 +147,8 @@ returns-in_ok-response-in-BodyTooLarge g c = record {
   read = reads_by (Err c.args.error) (Err (errors.BodyTooLarge c.in-BodyTooLarge.sum)) (ap Err c.in-BodyTooLarge.is);
   fault = λ fault. absurd fault;
   cut = λ same. absurd (cc (c.in-BodyTooLarge.is, same));
+  budget = λ count same. absurd (cc (c.in-BodyTooLarge.is, same));
+  memory = λ same. absurd (cc (c.in-BodyTooLarge.is, same));
 }
 
 -- there are more frames than the budget
@@ -151,6 +165,8 @@ returns-in-FrameBudget g c = record {
   read = reads_by (Err c.args.error) (Err (errors.FrameBudget c.in-FrameBudget.count)) (ap Err c.in-FrameBudget.is);
   fault = λ fault. absurd fault;
   cut = λ same. absurd (cc (c.in-FrameBudget.is, same));
+  budget = λ count same. cc (c.in-FrameBudget.is, same);
+  memory = λ same. absurd (cc (c.in-FrameBudget.is, same));
 }
 
 -- memory ran out for the arguments
@@ -161,4 +177,6 @@ returns-in-OutOfMemory g c = record {
   read = λ limit budget old new reads. tt;
   fault = λ fault. absurd fault;
   cut = λ same. tt;
+  budget = λ count same. absurd (cc (c.in-OutOfMemory.is, same));
+  memory = λ same. refl;
 }
