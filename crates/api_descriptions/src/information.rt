@@ -1,5 +1,5 @@
 //! What a document says of an API as a whole.
-ghost use Rattle.std.specs.Prelude.{◌≡◌, OnErr, OnOk};
+ghost use Rattle.std.specs.Prelude.{◌≡◌, IsOk, IsSome, OnErr, OnOk};
 ghost use Rattle.std.specs.Str.{chars};
 ghost use Rattle.api_descriptions.specs.Information.{contact_of, license_or, with_contact_email};
 ghost use Rattle.api_descriptions.specs.Information.{with_contact_name, with_contact_url};
@@ -86,11 +86,12 @@ impl OpenApiDefinition<'_> {
         Ok(())
     }
 
-    /// Says under which licence the API may be used, unless one is named already.
+    /// Says under which licence the API may be used, unless one is named already: then it asks for no memory.
     pub fn license_name(&mut self, name: &str) -> Result<(), AllocError>
         ensures ok { OnOk result (self.new
             ≡ record self.old { info = with_license_name (chars name.now) self.old.info }) }
         ensures err { OnErr result (self.new ≡ self.old) }
+        ensures named { IsSome self.old.info.license → IsOk result }
     {
         if self.info.license.is_none() {
             let name = Text::from_str(self.alloc, name)?;
