@@ -1,5 +1,5 @@
 -- The document of endpoints as it is written, and the calls of a sink that write it.
-use Rattle.std.specs.Prelude.{ℕ, List, [], ◌∷◌, ◌++◌, Result, Ok, Err}
+use Rattle.std.specs.Prelude.{⊤, ℕ, List, [], ◌∷◌, ◌++◌, Result, Ok, Err}
 use Rattle.schema_values.specs.declared.json_value.Json.{Json}
 use Rattle.schema_values.specs.Pretty.{pretty_of}
 use Rattle.line_session.specs.Calls.{Took, TookPart}
@@ -25,7 +25,7 @@ abbrev pub document_text :
 document_text m tags endpoints info version = pretty_of (document_at m tags endpoints info version) ++ 10 ∷ []
 
 -- calls of a sink took all of these bytes, or up to an error a part of them from the front
-abbrev pub WritesBy : {K T : Type 0} → SinkGhosts K → List ℕ → K → K → Result T WriteError → Type 0
+abbrev pub WritesBy : {K : Type 0} → SinkGhosts K → List ℕ → K → K → Result ⊤ WriteError → Type 0
 WritesBy sink bytes old new (Ok done) = Took sink old bytes new
 WritesBy sink bytes old new (Err WriteFault) = TookPart sink old bytes sink_error.Failed new
 WritesBy sink bytes old new (Err OutOfMemory) = TookPart sink old bytes sink_error.OutOfMemory new

@@ -1,13 +1,11 @@
 -- How a run ends: what each status says.
-use Rattle.std.specs.Prelude.{ℕ, ◌≡◌, ◌⊎◌, List}
+use Rattle.std.specs.Prelude.{ℕ, ◌≡◌, ◌⊎◌, List, Ok, Err}
 use Rattle.std.specs.Io.KnownBytes.{Appends}
 use Rattle.std.specs.declared.alloc.Global.{Global}
 use Rattle.std.specs.declared.string.String.{String}
 use Rattle.schema_values.specs.Causes.{HasRisen}
-use Rattle.line_session.specs.Calls.{Took, TookPart}
 use Rattle.line_session.specs.Parts.{AppendsPart}
 use Rattle.line_session.specs.declared.ends.Sink.{Ghosts as SinkGhosts}
-use Rattle.line_session.specs.declared.ends.SinkError.TheVariants as sink_error
 use Rattle.line_session.specs.declared.ends.Source.{Ghosts as SourceGhosts}
 use Rattle.semver.specs.Parse.{Parts}
 use Rattle.tag_config.specs.Configurations.{Configuration}
@@ -16,6 +14,8 @@ use Rattle.api_registration.specs.declared.error.ApiDescriptionRegisterError.{Ap
 use Rattle.api_endpoints.specs.declared.endpoint.ApiEndpoint.{ApiEndpoint}
 use Rattle.api_endpoints.specs.Endpoints.{Meanings, declarations_of}
 use Rattle.api_descriptions.specs.Refusals.{IsFirstRefused}
+use Rattle.api_descriptions.specs.Written.{WritesBy}
+use Rattle.api_descriptions.specs.declared.definition.WriteError.TheVariants.{WriteFault, OutOfMemory}
 use Rattle.command_line.specs.declared.config.ToolConfig.{ToolConfig}
 use Rattle.command_line.specs.declared.config.ToolStatus.{ToolStatus}
 use Rattle.command_line.specs.declared.config.ToolStatus.TheVariants as status
@@ -38,15 +38,15 @@ SessionEnds m s = ServingEnds (LineAnswers m s) (LineIsLost m s) (preamble_of m 
 -- ---- a document alone
 
 -- What each status says of a document of these bytes: it was written whole, or a part of it from the front, by the
--- bytes that the sink tells, and by those that the calls of it took.
+-- bytes that the sink tells, and by those that the calls of it took, as `write` says it.
 abbrev pub DocumentEnds : {K : Type 0} → SinkGhosts K → K → K → List ℕ → ToolStatus → Type 0
 DocumentEnds sink before after bytes status.Done =
-    Appends (sink.taken before) (sink.taken after) bytes × Took sink before bytes after
+    Appends (sink.taken before) (sink.taken after) bytes × WritesBy sink bytes before after (Ok tt)
 DocumentEnds sink before after bytes status.WriteFault =
     HasRisen (sink.faults before) (sink.faults after) × AppendsPart (sink.taken before) (sink.taken after) bytes
-    × TookPart sink before bytes sink_error.Failed after
+    × WritesBy sink bytes before after (Err WriteFault)
 DocumentEnds sink before after bytes status.OutOfMemory =
-    AppendsPart (sink.taken before) (sink.taken after) bytes × TookPart sink before bytes sink_error.OutOfMemory after
+    AppendsPart (sink.taken before) (sink.taken after) bytes × WritesBy sink bytes before after (Err OutOfMemory)
 DocumentEnds sink before after bytes _ = ⊥
 
 -- ---- a run
