@@ -1,5 +1,5 @@
 //! The values of an object's members, moved out of it by their names. No text is copied.
-ghost use Rattle.std.specs.Prelude.{◌≡◌, IfOk, IsTrue, List as ListOf, OnErr, Some, bytes_eq, ℕ};
+ghost use Rattle.std.specs.Prelude.{◌≡◌, IfOk, IsErrOf, IsTrue, List as ListOf, OnErr, Some, bytes_eq, ℕ};
 ghost use Rattle.std.specs.List.{position};
 ghost use Rattle.std.specs.Str.{chars};
 ghost use Rattle.schema_values.specs.Ascii.{all_ascii};
@@ -37,10 +37,11 @@ fn is_named(member: &Member, name: &str) -> bool
     member.name.equals_str(name)
 }
 
-/// The text that a value is.
+/// The text that a value is. It takes no memory.
 pub(crate) fn text_in(json: Json) -> Result<Text, LineError>
     ensures text { IfOk result (IsText json) }
     ensures bad { OnErr result ((text : ListOf ℕ) → ¬ IsText json text) }
+    ensures told { OnErr result (IsErrOf result LineError.Bad) }
 {
     match json {
         Json::Text(text) => Ok(text),
@@ -48,12 +49,13 @@ pub(crate) fn text_in(json: Json) -> Result<Text, LineError>
     }
 }
 
-/// Moves out the text of a name, which has to be there.
+/// Moves out the text of a name, which has to be there. It takes no memory.
 pub(crate) fn text_named(members: &mut Vec<Member>, name: &str) -> Result<Text, LineError>
     requires { IsTrue (all_ascii name.now) }
     ensures text { IfOk result (λ text. value_named members.old.items name.now ≡ Some (jsons.Text text)) }
     ensures bad { OnErr result ((text : ListOf ℕ)
         → ¬ (value_named members.old.items name.now ≡ Some (jsons.Text text))) }
+    ensures told { OnErr result (IsErrOf result LineError.Bad) }
     ensures others { KeepsOthers name.now members.old.items members.new.items }
 {
     match take_value(members, name) {
@@ -62,7 +64,7 @@ pub(crate) fn text_named(members: &mut Vec<Member>, name: &str) -> Result<Text, 
     }
 }
 
-/// Moves out the items of the list of a name: none where there is no such member.
+/// Moves out the items of the list of a name: none where there is no such member. It takes no memory.
 pub(crate) fn items_named(
     alloc: Global,
     members: &mut Vec<Member>,
@@ -72,6 +74,7 @@ pub(crate) fn items_named(
     ensures items { IfOk result (AreItems (value_named members.old.items name.now)) }
     ensures bad { OnErr result ((items : ListOf JsonValue)
         → ¬ AreItems (value_named members.old.items name.now) items) }
+    ensures told { OnErr result (IsErrOf result LineError.Bad) }
     ensures others { KeepsOthers name.now members.old.items members.new.items }
 {
     match take_value(members, name) {
@@ -81,7 +84,7 @@ pub(crate) fn items_named(
     }
 }
 
-/// Moves out the members of the object of a name: none where there is no such member.
+/// Moves out the members of the object of a name: none where there is no such member. It takes no memory.
 pub(crate) fn members_named(
     alloc: Global,
     members: &mut Vec<Member>,
@@ -91,6 +94,7 @@ pub(crate) fn members_named(
     ensures members { IfOk result (AreMembers (value_named members.old.items name.now)) }
     ensures bad { OnErr result ((inner : ListOf MemberValue)
         → ¬ AreMembers (value_named members.old.items name.now) inner) }
+    ensures told { OnErr result (IsErrOf result LineError.Bad) }
     ensures others { KeepsOthers name.now members.old.items members.new.items }
 {
     match take_value(members, name) {

@@ -4,8 +4,8 @@ ghost use Rattle.std.specs.List.{AllZip};
 ghost use Rattle.schema_values.specs.declared.json_value.Json.TheVariants as jsons;
 ghost use Rattle.typed_values.specs.Denotes.{value_named};
 ghost use Rattle.http_bodies.specs.declared.frame.Frame.{Frame as FrameValue};
-ghost use Rattle.request_lines.specs.RequestLines.{IsFrame, as_hex};
-ghost use Rattle.request_lines.specs.Said.{IsFrameOf};
+ghost use Rattle.request_lines.specs.RequestLines.{IsFrame, WrittenFrame, as_hex};
+ghost use Rattle.request_lines.specs.Said.{IsFrameOf, SaysFrame};
 
 use crate::line_error::LineError;
 use crate::members::text_named;
@@ -25,9 +25,11 @@ pub(crate) fn frames_of(alloc: Global, items: List<Json>) -> Result<List<Frame>,
     Ok(frames)
 }
 
+// The frame of a text, or of digits. Where a value is neither, it takes no memory.
 fn frame_of(alloc: Global, json: Json) -> Result<Frame, LineError>
     ensures frame { IfOk result (IsFrameOf json) }
     ensures bad { IsErrOf result LineError.Bad → (frame : FrameValue) → ¬ IsFrameOf json frame }
+    ensures memory { IsErrOf result LineError.OutOfMemory → (written : WrittenFrame) × SaysFrame json written }
 {
     match json {
         Json::Text(text) => Ok(Frame::Bytes(text.into_bytes())),
@@ -36,11 +38,12 @@ fn frame_of(alloc: Global, json: Json) -> Result<Frame, LineError>
     }
 }
 
-// The text under `hex`.
+// The text under `hex`. It takes no memory.
 fn digits_of(members: List<Member>) -> Result<Text, LineError>
     ensures digits { IfOk result (λ digits. value_named members (codes "hex") ≡ Some (jsons.Text digits)) }
     ensures bad { OnErr result ((digits : ListOf ℕ)
         → ¬ (value_named members (codes "hex") ≡ Some (jsons.Text digits))) }
+    ensures told { OnErr result (IsErrOf result LineError.Bad) }
 {
     let mut members = members.into_vec();
     text_named(&mut members, "hex")

@@ -8,8 +8,8 @@ ghost use Rattle.http_header.specs.Token.{IsToken};
 ghost use Rattle.http_uri.specs.Uri.{Spells};
 ghost use Rattle.http_uri.specs.declared.uri.Uri.{Uri as UriValue};
 ghost use Rattle.request_parts.specs.declared.info.RequestInfo.{RequestInfo as InfoValue};
-ghost use Rattle.request_lines.specs.RequestLines.{IsFieldLine, field_line};
-ghost use Rattle.request_lines.specs.Said.{IsHeadIn, IsLineOf, SaysTarget};
+ghost use Rattle.request_lines.specs.RequestLines.{IsFieldLine, WrittenLine, field_line};
+ghost use Rattle.request_lines.specs.Said.{IsHeadIn, IsLineOf, SaysLine, SaysTarget};
 
 use crate::line_error::LineError;
 use crate::members::{items_named, take_value, text_in, text_named};
@@ -86,10 +86,11 @@ fn lines_of(alloc: Global, items: List<Json>) -> Result<HeaderList, LineError>
     Ok(lines)
 }
 
-// The header line of a list of two texts.
+// The header line of a list of two texts. Where it is none, it takes no memory.
 fn line_of(alloc: Global, json: Json) -> Result<(HeaderName, HeaderValue), LineError>
     ensures line { IfOk result (IsLineOf json) }
     ensures bad { IsErrOf result LineError.Bad → (line : Line) → ¬ IsLineOf json line }
+    ensures memory { IsErrOf result LineError.OutOfMemory → (line : WrittenLine) × SaysLine json line }
 {
     let Json::List(items) = json else {
         return Err(LineError::Bad);

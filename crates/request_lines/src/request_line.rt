@@ -1,7 +1,9 @@
 //! Request lines: what they ask for, moved out of their JSON.
-ghost use Rattle.std.specs.Prelude.{IfOk, IsErrOf, List as ListOf};
+ghost use Rattle.std.specs.Prelude.{◌≡◌, IfOk, IsErrOf, IsUtf8, List as ListOf};
 ghost use Rattle.semver.specs.Identifiers.{parts_of};
 ghost use Rattle.semver.specs.Parse.{Parts};
+ghost use Rattle.schema_values.specs.declared.json_value.Json.TheVariants as jsons;
+ghost use Rattle.schema_values.specs.declared.json_value.Member.{Member as MemberValue};
 ghost use Rattle.schema_values.specs.Sound.{IsSound};
 ghost use Rattle.schema_values.specs.SoundMembers.{HasSoundMembers};
 ghost use Rattle.http_bodies.specs.declared.frame.Frame.{Frame as FrameValue};
@@ -29,8 +31,9 @@ pub struct AskedRequest {
     pub frames: List<Frame>,
 }
 
-/// What a line asks of a version of the API; `Bad` comes only where it asks for nothing. It is read in room that is
-/// kept from line to line. The texts of its JSON are moved into the request, and are not copied out of it.
+/// What a line asks of a version of the API; `Bad` comes only where it asks for nothing, and always where it is no
+/// UTF-8, whatever memory there is. It is read in room that is kept from line to line. The texts of its JSON are moved
+/// into the request, and are not copied out of it.
 pub fn read_line(
     alloc: Global,
     room: &mut Scratch,
@@ -39,12 +42,13 @@ pub fn read_line(
 ) -> Result<AskedRequest, LineError>
     ensures asks { IfOk result (λ asked. AsksFor (parts_of version.now) line.now asked.request asked.frames) }
     ensures bad { IsErrOf result LineError.Bad → IsBadLine line.now }
+    ensures no_text { ¬ IsUtf8 line.now → IsErrOf result LineError.Bad }
 {
     let json = Json::read_with(alloc, room, line)?;
     request_in(alloc, version, json)
 }
 
-// What a JSON value asks for.
+// What a JSON value asks for. Where it is no object, it takes no memory.
 fn request_in(alloc: Global, version: &Version, json: Json) -> Result<AskedRequest, LineError>
     requires { IsSound json }
     ensures made { IfOk result (λ asked. (said : Members) × SaysMembers json said
@@ -52,6 +56,8 @@ fn request_in(alloc: Global, version: &Version, json: Json) -> Result<AskedReque
     ensures bad { IsErrOf result LineError.Bad → (said : Members) → SaysMembers json said
         → (at : Parts) (request : Request) (frames : ListOf FrameValue)
         → ¬ AreMade at said request frames }
+    ensures memory { IsErrOf result LineError.OutOfMemory
+        → (members : ListOf MemberValue) × (json ≡ jsons.Object members) }
 {
     let Json::Object(members) = json else {
         return Err(LineError::Bad);

@@ -4,6 +4,8 @@ ghost use Rattle.std.specs.BTreeMap.{insert_entry};
 ghost use Rattle.std.specs.Cmp.Lexicographic.{slice_cmp};
 ghost use Rattle.std.specs.List.{AllZip};
 ghost use Rattle.std.specs.Ordering.{nat_cmp};
+ghost use Rattle.schema_values.specs.declared.json_value.Json.{Json as JsonValue};
+ghost use Rattle.schema_values.specs.declared.json_value.Json.TheVariants as jsons;
 ghost use Rattle.schema_values.specs.declared.variables.VariableValue.{VariableValue as Variable};
 ghost use Rattle.schema_values.specs.Member.{name_of};
 ghost use Rattle.schema_values.specs.Order.{sorted_by};
@@ -43,9 +45,12 @@ fn put(variables: &mut VariableSet, name: Text, value: VariableValue) -> Result<
     Ok(())
 }
 
+// What a variable stands for. Where a value is no list, it takes no memory.
 fn variable_of(alloc: Global, json: Json) -> Result<VariableValue, LineError>
     ensures variable { IfOk result (SaysVariable json) }
     ensures bad { IsErrOf result LineError.Bad → (value : Variable) → ¬ SaysVariable json value }
+    ensures memory { IsErrOf result LineError.OutOfMemory
+        → (items : ListOf JsonValue) × (json ≡ jsons.List items) }
 {
     match json {
         Json::Text(text) => Ok(VariableValue::String(text)),

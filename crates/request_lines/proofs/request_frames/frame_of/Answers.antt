@@ -1,5 +1,5 @@
 use Rattle.std.proofs.Common.{◌∙◌, ap, codes, subst}
-use Rattle.std.proofs.lemmas.Result.{IfOk-weaker}
+use Rattle.std.proofs.lemmas.Result.{IfOk-weaker, err_from_is_err_and}
 use Rattle.typed_values.specs.Denotes.{value_named}
 use Rattle.http_bodies.specs.declared.frame.Frame.TheVariants.{Bytes}
 use Rattle.request_lines.specs.RequestLines.{IsFrame, WrittenFrame, as_hex, as_text}
@@ -21,6 +21,17 @@ returns-in-Object-clause-frame c =
       ),
       is,
     )) c.frame_of_digits-in-Object.ensures.frame
+
+pub returns-in-Object-clause-memory : goal.returns-in-Object-clause-memory
+returns-in-Object-clause-memory c memory = (
+  as_hex c.in_ok-digits_of-in-Object.field-0,
+  (c.in-Object.members, c.in-Object.is, c.in_ok-digits_of-in-Object.ensures.digits),
+)
+
+pub returns-in_err-digits_of-in-Object-clause-memory : goal.returns-in_err-digits_of-in-Object-clause-memory
+returns-in_err-digits_of-in-Object-clause-memory c memory =
+    let made = err_from_is_err_and c.from_residual.result c.from_residual.ensures.1 in
+    absurd (cc (made.1, made.2, memory, c.in_err-digits_of-in-Object.ensures.told))
 
 pub returns-in-Object-clause-bad : goal.returns-in-Object-clause-bad
 returns-in-Object-clause-bad c bad frame of =

@@ -16,6 +16,9 @@ request_of-requires c =
 pub returns-in_default-clause-bad : goal.returns-in_default-clause-bad
 returns-in_default-clause-bad c bad said says at request frames made = c.in_default.not-Object says.0 says.1
 
+pub returns-clause-memory : goal.returns-clause-memory
+returns-clause-memory c memory = (c.in-Object.members, c.in-Object.is)
+
 pub returns-clause-made : goal.returns-clause-made
 returns-clause-made c =
     IfOk-weaker c.request_of.result _ _
