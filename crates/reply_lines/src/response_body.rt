@@ -1,6 +1,6 @@
 //! The body of a response, read whole.
-ghost use Rattle.std.specs.Prelude.{◌≡◌, ◌-◌, ◌<◌, ◌^◌, ◌++◌, IfOk, IsErrOf, OnOk};
-ghost use Rattle.http_bodies.specs.Bodies.{frames_of};
+ghost use Rattle.std.specs.Prelude.{◌≡◌, ◌+◌, ◌-◌, ◌<◌, ◌≤◌, ◌^◌, ◌++◌, IfOk, IsErrOf, OnOk};
+ghost use Rattle.http_bodies.specs.Bodies.{calls_of, frames_of};
 ghost use Rattle.http_bodies.specs.Frames.{all_data, data_of};
 ghost use Rattle.reply_lines.specs.ResponseBodies.{FailsWithin, HasMoreFrames, IsReadWhole};
 
@@ -42,6 +42,7 @@ pub(crate) fn read_content(
         IsReadWhole budget body.old × (content ≡ all_data (frames_of body.old))) }
     ensures fault { IsErrOf result ContentError.BodyFault → FailsWithin budget body.old }
     ensures over { IsErrOf result ContentError.FrameBudget → HasMoreFrames budget body.old }
+    ensures calls { calls_of body.new ≤ calls_of body.old + budget + 1 }
 {
     let mut content = Vec::new(alloc);
     for _ in 0..budget + 1 {

@@ -23,8 +23,10 @@ returns-in-Object-clause-frame c =
     )) c.frame_of_digits-in-Object.ensures.frame
 
 pub returns-in-Object-clause-memory : goal.returns-in-Object-clause-memory
-returns-in-Object-clause-memory c memory =
-    (as_hex c.in_ok-digits_of-in-Object.field-0, (c.in-Object.members, c.in-Object.is, c.in_ok-digits_of-in-Object.ensures.digits))
+returns-in-Object-clause-memory c memory = (
+  as_hex c.in_ok-digits_of-in-Object.field-0,
+  (c.in-Object.members, c.in-Object.is, c.in_ok-digits_of-in-Object.ensures.digits),
+)
 
 pub returns-in_err-digits_of-in-Object-clause-memory : goal.returns-in_err-digits_of-in-Object-clause-memory
 returns-in_err-digits_of-in-Object-clause-memory c memory =
