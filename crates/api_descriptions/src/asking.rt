@@ -76,7 +76,7 @@ impl ApiDescription {
             (called config.now request.now store.old) budget
             (Some (frames_of body.old)) (Some (frames_of body.new)) result }
 
-        // The body is called at most once more than the budget.
+        // The body, where it counts its calls, is called at most once more than the budget.
         ensures calls { calls_of body.new ≤ calls_of body.old + budget + 1 }
     {
         let (endpoints, index) = (self.endpoints.as_slice(), self.index.templates());
@@ -120,7 +120,7 @@ impl ApiDescription {
             (S.state source.old).left (S.state source.new).left result }
         ensures goes_on { GoesOn (S.state source.old) (S.state source.new) }
 
-        // The source is called at most once more than the budget, to gather frames too.
+        // The source, where it counts its calls, is called at most once more than the budget, to gather frames too.
         ensures calls { S.calls source.new ≤ S.calls source.old + budget + 1 }
     {
         let (endpoints, index) = (self.endpoints.as_slice(), self.index.templates());

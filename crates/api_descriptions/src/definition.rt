@@ -82,9 +82,9 @@ impl ApiDescription {
     }
 }
 
-impl OpenApiDefinition<'_> {
+impl<'a> OpenApiDefinition<'a> {
     /// A definition that says the same of the same API. Fails only for want of memory.
-    pub fn copy(&self, alloc: Global) -> Result<OpenApiDefinition<'_>, AllocError>
+    pub fn copy(&self, alloc: Global) -> Result<OpenApiDefinition<'a>, AllocError>
         ensures api { IfOk result (λ copy. copy.api.now ≡ self.now.api.now) }
         ensures version { IfOk result (λ copy. parts_of copy.version ≡ parts_of self.now.version) }
         ensures info { IfOk result (λ copy. copy.info ≡ self.now.info) }
