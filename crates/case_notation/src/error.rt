@@ -14,18 +14,34 @@ pub enum CaseError {
 }
 
 impl From<AllocError> for CaseError {
+    ghost use Rattle.std.specs.Prelude.{◌≡◌};
+    ghost use Rattle.case_notation.specs.declared.error.CaseError.TheVariants.{OutOfMemory};
+
+    ghost from_gives = { λ _ made. made ≡ OutOfMemory };
+
     fn from(_: AllocError) -> CaseError {
         CaseError::OutOfMemory
     }
 }
 
 impl<T: Drop> From<AllocFailed<T>> for CaseError {
+    ghost use Rattle.std.specs.Prelude.{◌≡◌};
+    ghost use Rattle.case_notation.specs.declared.error.CaseError.TheVariants.{OutOfMemory};
+
+    ghost from_gives = { λ _ made. made ≡ OutOfMemory };
+
     fn from(_: AllocFailed<T>) -> CaseError {
         CaseError::OutOfMemory
     }
 }
 
 impl From<ReadError> for CaseError {
+    ghost use Rattle.std.specs.Prelude.{◌≡◌, ◌↔◌};
+    ghost use Rattle.schema_values.specs.declared.read.ReadError.TheVariants.{OutOfMemory as NoMemory};
+    ghost use Rattle.case_notation.specs.declared.error.CaseError.TheVariants.{OutOfMemory};
+
+    ghost from_gives = { λ error made. made ≡ OutOfMemory ↔ error ≡ NoMemory };
+
     fn from(error: ReadError) -> CaseError {
         match error {
             ReadError::Unreadable => CaseError::Expected("JSON"),
