@@ -1,12 +1,14 @@
 -- Two words, and what they ask for.
-use Rattle.std.proofs.Common.{◌≡◌, ◌≢◌, ℕ, List, [], ◌∷◌, String, Global, Ok, string_bytes, codes, Bool, true, bytes_eq}
+use Rattle.std.proofs.Common.{◌≡◌, ◌≢◌, ◌⊎◌, ℕ, List, [], ◌∷◌, String, Global, Ok, Err, Result, string_bytes, codes}
+use Rattle.std.proofs.Common.{Bool, true, bytes_eq, subst}
 use Rattle.std.proofs.Common.{◌<◌, ◌≤◌, length, get_or, arith, sym, ◌∙◌, ap, inl, inr}
 use Rattle.std.proofs.lemmas.Slice.Eq.{bytes_eq-Decides}
 use Rattle.semver.specs.Identifiers.{parts_of}
-use Rattle.semver.specs.Parse.{Parts, version_parts}
+use Rattle.semver.specs.Parse.{Parts, version_parts, IsPlain}
+use Rattle.semver.specs.declared.error.Error.{Error}
 use Rattle.command_line.specs.declared.words.Command.{Command}
 use Rattle.command_line.specs.declared.words.Command.TheVariants as commands
-use Rattle.command_line.specs.Words.{AskFor, AskForDocument, AskForSession, IsCommand, IsCommandOf}
+use Rattle.command_line.specs.Words.{AskFor, AskForDocument, AskForSession, IsCommand, IsCommandOf, IsPlainVersion}
 
 -- two items
 pub two_items : {A : Type 0} (xs : List A) (one two : A) → 2 ≤ length xs → length xs < 3 → one ≡ get_or xs 0 one
@@ -36,9 +38,20 @@ module _ (words : List (String Global)) (one two : String Global) (text : List �
       let second : two ≡ asked.second = cc lists in
       ap version_parts (same ∙ ap string_bytes second) ∙ asked.read
 
+  pub version_read : (version : Parts) → AskForSession words version ⊎ AskForDocument words version
+      → version_parts text ≡ Ok version
+  version_read version (inl asked) = text_read (codes "session") version asked
+  version_read version (inr asked) = text_read (codes "document") version asked
+
   pub no_command : ((version : Parts) → version_parts text ≢ Ok version) → ¬ IsCommand words
-  no_command none (version, inl asked) = none version (text_read (codes "session") version asked)
-  no_command none (version, inr asked) = none version (text_read (codes "document") version asked)
+  no_command none (version, asked) = none version (version_read version asked)
+
+-- a plain version is not refused
+pub plain_taken : (T : Type 0) (read : Result Parts Error) (error : Error) (parts : Parts)
+    → IsPlain {T = T} read (Err error) → read ≡ Ok parts → IsPlainVersion parts → ⊥
+plain_taken T read error parts plain is (pre, build) =
+    let refused = subst (λ (r : Result Parts Error). IsPlain {T = T} r (Err error)) is plain in
+    cc (refused (ap length pre) (ap length build))
 
 -- a command asks for one version
 pub asked_once : (command other : List ℕ) (words : List (String Global)) (one two : Parts) → AskFor command words one

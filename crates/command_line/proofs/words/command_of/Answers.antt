@@ -1,7 +1,7 @@
 use Rattle.std.proofs.Common.{◌≡◌, string_bytes, codes, inl, inr}
 use Rattle.std.proofs.lemmas.Result.{err_from_is_err_and}
 use Rattle.semver.specs.Identifiers.{parts_of}
-use Rattle.command_line.proofs.WordLemmas.{asked_so, named_so, no_command, two_items}
+use Rattle.command_line.proofs.WordLemmas.{asked_so, named_so, no_command, two_items, version_read}
 use Rattle.command_line.proofs.words.command_of.Goals as goal
 
 pub returns-in_err-parse_version-in-len2-clause-usage : goal.returns-in_err-parse_version-in-len2-clause-usage
@@ -46,6 +46,28 @@ returns-in_err-parse_version-in-len2-2-clause-usage c =
           (version, inr (asked_so words one two text are same (codes "document") version named read))) in
           cc (made.1, made.2, q),
     )
+
+pub returns-in_err-parse_version-in-len2-clause-plain : goal.returns-in_err-parse_version-in-len2-clause-plain
+returns-in_err-parse_version-in-len2-clause-plain c (version, plain, asked) =
+    let one = c.word-item.result in
+    let two = c.version-item.result in
+    let are =
+    two_items c.args.words.now one two c.in-len2.len_at_least c.in-len2.len_below c.word-item.is
+    c.version-item.is in
+    let read = version_read c.args.words.now one two c.as_str-in-len2.result.now are
+    c.as_str-in-len2.ensures.value version asked in
+    absurd (cc (c.in_err-parse_version-in-len2.ensures.plain version read plain))
+
+pub returns-in_err-parse_version-in-len2-2-clause-plain : goal.returns-in_err-parse_version-in-len2-2-clause-plain
+returns-in_err-parse_version-in-len2-2-clause-plain c (version, plain, asked) =
+    let one = c.word-item-then-words-lt3.result in
+    let two = c.version-item-then-words-lt3.result in
+    let are =
+    two_items c.args.words.now one two c.in-len2.len_at_least c.in-len2.len_below c.word-item-then-words-lt3.is
+    c.version-item-then-words-lt3.is in
+    let read = version_read c.args.words.now one two c.as_str-in-len2-2.result.now are
+    c.as_str-in-len2-2.ensures.value version asked in
+    absurd (cc (c.in_err-parse_version-in-len2-2.ensures.plain version read plain))
 
 pub returns-in_ok-parse_version-in-len2-clause-command : goal.returns-in_ok-parse_version-in-len2-clause-command
 returns-in_ok-parse_version-in-len2-clause-command c =

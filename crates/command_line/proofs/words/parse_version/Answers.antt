@@ -1,7 +1,9 @@
 use Rattle.std.proofs.Common.{◌≡◌, Err, ap, inl, inr}
 use Rattle.std.proofs.lemmas.Result.{err_from_is_err_and}
+use Rattle.semver.specs.Parse.{version_parts}
 use Rattle.command_line.specs.declared.words.WordsError.TheVariants.{Usage}
 use Rattle.command_line.proofs.VersionErrors.{refused-by_text}
+use Rattle.command_line.proofs.WordLemmas.{plain_taken}
 use Rattle.command_line.proofs.words.parse_version.Goals as goal
 
 pub returns-in_err-parse-clause-usage : goal.returns-in_err-parse-clause-usage
@@ -15,3 +17,7 @@ returns-in_err-parse-clause-usage c =
           ],
       λ none. ap Err (made.2.1 (refused-by_text _ c.args.text.now _ c.in_err-parse.ensures.refused none)),
     )
+
+pub returns-in_err-parse-clause-plain : goal.returns-in_err-parse-clause-plain
+returns-in_err-parse-clause-plain c parts is plain =
+    absurd (plain_taken _ (version_parts c.args.text.now) _ parts c.in_err-parse.ensures.plain is plain)
