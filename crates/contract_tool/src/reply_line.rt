@@ -33,8 +33,12 @@ fn exchange_line(alloc: Global, exchange: Exchange, budget: u64) -> Result<List<
         × (line ≡ bytes_of_line json)) }
 {
     match exchange {
-        Exchange::Handled { response, .. } => response_line(alloc, "handled", response, budget),
-        Exchange::Refused { response, .. } => response_line(alloc, "refused", response, budget),
+        Exchange::Handled { mut response, .. } => {
+            response_line(alloc, "handled", &mut response, budget)
+        }
+        Exchange::Refused { mut response, .. } => {
+            response_line(alloc, "refused", &mut response, budget)
+        }
     }
 }
 
@@ -48,9 +52,11 @@ fn error_line(alloc: Global, error: ExchangeError, budget: u64) -> Result<List<u
         ExchangeError::BadRequestId => outcome_line(alloc, "bad-request-id"),
         ExchangeError::NoSuchOperation => outcome_line(alloc, "no-such-operation"),
         ExchangeError::WrongVariables => outcome_line(alloc, "wrong-variables"),
-        ExchangeError::BodyFault(response) => response_line(alloc, "body-fault", response, budget),
-        ExchangeError::BodyTooLarge(_, response) => {
-            response_line(alloc, "body-too-large", response, budget)
+        ExchangeError::BodyFault(mut response) => {
+            response_line(alloc, "body-fault", &mut response, budget)
+        }
+        ExchangeError::BodyTooLarge(_, mut response) => {
+            response_line(alloc, "body-too-large", &mut response, budget)
         }
         ExchangeError::FrameBudget(_) => outcome_line(alloc, "frame-budget"),
         ExchangeError::OutOfMemory => Err(AllocError),

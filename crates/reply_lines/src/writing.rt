@@ -1,8 +1,9 @@
 //! The lines that tell an outcome, and the response where there is one, written straight into their bytes.
-ghost use Rattle.std.specs.Prelude.{◌≡◌, ◌<◌, ◌-◌, ◌^◌, [], ◌∷◌, ◌++◌, IfOk, OnOk, IsTrue, List as ListOf};
-ghost use Rattle.std.specs.Prelude.{codes, map, pos, slice_index};
+ghost use Rattle.std.specs.Prelude.{◌≡◌, ◌<◌, ◌≤◌, ◌+◌, ◌-◌, ◌^◌, [], ◌∷◌, ◌++◌, IfOk, OnOk, IsTrue};
+ghost use Rattle.std.specs.Prelude.{List as ListOf, codes, map, pos, slice_index};
 ghost use Rattle.std.specs.List.{flat_map};
 ghost use Rattle.hex.specs.Hex.{encode_lower, lower_digits};
+ghost use Rattle.http_bodies.specs.Bodies.{calls_of};
 ghost use Rattle.schema_values.specs.Ascii.{all_ascii};
 ghost use Rattle.schema_values.specs.Print.{comma_before, compact_of, escape, joined};
 ghost use Rattle.schema_values.specs.PrintMember.{compact_member};
@@ -44,25 +45,24 @@ pub fn outcome_line(alloc: Global, outcome: &str) -> Result<List<u8>, AllocError
 /// of a compact object that tells the outcome, the status, the header lines and the content of the body. Where a call
 /// on the body fails, the line tells `reply-fault` in place of the outcome, and where the body has more frames than
 /// the budget, `reply-budget`; then it tells nothing of the response. The outcome is ASCII, and the budget below
-/// 2^64-1.
+/// 2^64-1. The body is called at most once more than the budget.
 pub fn response_line(
     alloc: Global,
     outcome: &str,
-    response: Response,
+    response: &mut Response,
     budget: u64,
 ) -> Result<List<u8>, AllocError>
     requires ascii { IsTrue (all_ascii outcome.now) }
     requires budget { budget < 2 ^ 64 - 1 }
-    ensures { IfOk result (λ line. (json : JsonValue) × Shows budget outcome.now response json
+    ensures line { IfOk result (λ line. (json : JsonValue) × Shows budget outcome.now response.old json
         × (line ≡ bytes_of_line json)) }
+    ensures calls { calls_of response.new.body ≤ calls_of response.old.body + budget + 1 }
 {
-    let Response {
-        status,
-        headers,
-        mut body,
-    } = response;
-    match read_content(alloc, &mut body, budget) {
-        Ok(content) => whole_line(alloc, outcome, status, headers.lines(), content.as_slice()),
+    match read_content(alloc, &mut response.body, budget) {
+        Ok(content) => {
+            let lines = response.headers.lines();
+            whole_line(alloc, outcome, response.status, lines, content.as_slice())
+        }
         Err(ContentError::BodyFault) => outcome_line(alloc, "reply-fault"),
         Err(ContentError::FrameBudget) => outcome_line(alloc, "reply-budget"),
         Err(ContentError::OutOfMemory) => Err(AllocError),

@@ -47,7 +47,7 @@ returns-in-BodyFault c =
       told.0,
       subst (λ (e : ExchangeError). Tells c.args.budget (Err e) told.0) (sym c.in-BodyFault.is) told.1,
       told.2,
-    )) c.response_line.ensures
+    )) c.response_line.ensures.line
 
 pub returns-in-BodyTooLarge : goal.returns-in-BodyTooLarge
 returns-in-BodyTooLarge c =
@@ -55,4 +55,4 @@ returns-in-BodyTooLarge c =
       told.0,
       subst (λ (e : ExchangeError). Tells c.args.budget (Err e) told.0) (sym c.in-BodyTooLarge.is) told.1,
       told.2,
-    )) c.response_line-in-BodyTooLarge.ensures
+    )) c.response_line-in-BodyTooLarge.ensures.line

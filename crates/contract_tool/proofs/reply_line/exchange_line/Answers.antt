@@ -10,7 +10,7 @@ returns-in-Handled c =
       told.0,
       subst (λ (e : Exchange). Tells c.args.budget (Ok e) told.0) (sym c.in-Handled.is) told.1,
       told.2,
-    )) c.response_line.ensures
+    )) c.response_line.ensures.line
 
 pub returns : goal.returns
 returns c =
@@ -18,4 +18,4 @@ returns c =
       told.0,
       subst (λ (e : Exchange). Tells c.args.budget (Ok e) told.0) (sym c.in-Refused.is) told.1,
       told.2,
-    )) c.response_line-in-Refused.ensures
+    )) c.response_line-in-Refused.ensures.line
