@@ -57,7 +57,7 @@ pub fn answer(
     ensures cut { IsErrOf given ExtractError.BodyFault → IsOutcomeCutShort result }
     ensures budget { (count : ℕ) → IsErrOf given (ExtractError.FrameBudget count)
         → IsErrOf result (ExchangeError.FrameBudget count) }
-    ensures memory { IsErrOf given ExtractError.OutOfMemory → IsErrOf result ExchangeError.OutOfMemory }
+    ensures handed_on { IsErrOf given ExtractError.OutOfMemory → IsErrOf result ExchangeError.OutOfMemory }
 {
     match given {
         Ok(args) => Ok(handle(alloc, endpoint, store, request, request_id, config, args)?),
@@ -84,7 +84,7 @@ fn refuse(
     ensures cut { error ≡ ExtractError.BodyFault → IsOutcomeCutShort result }
     ensures budget { (count : ℕ) → error ≡ ExtractError.FrameBudget count
         → IsErrOf result (ExchangeError.FrameBudget count) }
-    ensures memory { error ≡ ExtractError.OutOfMemory → IsErrOf result ExchangeError.OutOfMemory }
+    ensures handed_on { error ≡ ExtractError.OutOfMemory → IsErrOf result ExchangeError.OutOfMemory }
 {
     match error {
         ExtractError::Refused(fault, message) => {

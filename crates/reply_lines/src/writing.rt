@@ -45,7 +45,8 @@ pub fn outcome_line(alloc: Global, outcome: &str) -> Result<List<u8>, AllocError
 /// of a compact object that tells the outcome, the status, the header lines and the content of the body. Where a call
 /// on the body fails, the line tells `reply-fault` in place of the outcome, and where the body has more frames than
 /// the budget, `reply-budget`; then it tells nothing of the response. The outcome is ASCII, and the budget below
-/// 2^64-1. The body is called at most once more than the budget.
+/// 2^64-1. The body, where it counts its calls, is called at most once more than the budget; all else of the response
+/// stays.
 pub fn response_line(
     alloc: Global,
     outcome: &str,
@@ -57,6 +58,8 @@ pub fn response_line(
     ensures line { IfOk result (λ line. (json : JsonValue) × Shows budget outcome.now response.old json
         × (line ≡ bytes_of_line json)) }
     ensures calls { calls_of response.new.body ≤ calls_of response.old.body + budget + 1 }
+    ensures status { response.new.status ≡ response.old.status }
+    ensures headers { response.new.headers ≡ response.old.headers }
 {
     match read_content(alloc, &mut response.body, budget) {
         Ok(content) => {

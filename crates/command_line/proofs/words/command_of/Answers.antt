@@ -51,8 +51,7 @@ pub returns-in_err-parse_version-in-len2-clause-plain : goal.returns-in_err-pars
 returns-in_err-parse_version-in-len2-clause-plain c (version, plain, asked) =
     let one = c.word-item.result in
     let two = c.version-item.result in
-    let are =
-    two_items c.args.words.now one two c.in-len2.len_at_least c.in-len2.len_below c.word-item.is
+    let are = two_items c.args.words.now one two c.in-len2.len_at_least c.in-len2.len_below c.word-item.is
     c.version-item.is in
     let read = version_read c.args.words.now one two c.as_str-in-len2.result.now are
     c.as_str-in-len2.ensures.value version asked in
@@ -62,9 +61,8 @@ pub returns-in_err-parse_version-in-len2-2-clause-plain : goal.returns-in_err-pa
 returns-in_err-parse_version-in-len2-2-clause-plain c (version, plain, asked) =
     let one = c.word-item-then-words-lt3.result in
     let two = c.version-item-then-words-lt3.result in
-    let are =
-    two_items c.args.words.now one two c.in-len2.len_at_least c.in-len2.len_below c.word-item-then-words-lt3.is
-    c.version-item-then-words-lt3.is in
+    let are = two_items c.args.words.now one two c.in-len2.len_at_least c.in-len2.len_below
+    c.word-item-then-words-lt3.is c.version-item-then-words-lt3.is in
     let read = version_read c.args.words.now one two c.as_str-in-len2-2.result.now are
     c.as_str-in-len2-2.ensures.value version asked in
     absurd (cc (c.in_err-parse_version-in-len2-2.ensures.plain version read plain))
@@ -73,8 +71,7 @@ pub returns-in_ok-parse_version-in-len2-clause-command : goal.returns-in_ok-pars
 returns-in_ok-parse_version-in-len2-clause-command c =
     let one = c.word-item.result in
     let two = c.version-item.result in
-    let are =
-    two_items c.args.words.now one two c.in-len2.len_at_least c.in-len2.len_below c.word-item.is
+    let are = two_items c.args.words.now one two c.in-len2.len_at_least c.in-len2.len_below c.word-item.is
     c.version-item.is in
     let named : string_bytes one ≡ codes "session" =
     named_so one c.as_str.result.now (codes "session") c.eq.result c.as_str.ensures.value c.eq.ensures c.if-eq.true in
@@ -90,9 +87,8 @@ pub returns-in_ok-parse_version-in-len2-2-clause-command : goal.returns-in_ok-pa
 returns-in_ok-parse_version-in-len2-2-clause-command c =
     let one = c.word-item-then-words-lt3.result in
     let two = c.version-item-then-words-lt3.result in
-    let are =
-    two_items c.args.words.now one two c.in-len2.len_at_least c.in-len2.len_below c.word-item-then-words-lt3.is
-    c.version-item-then-words-lt3.is in
+    let are = two_items c.args.words.now one two c.in-len2.len_at_least c.in-len2.len_below
+    c.word-item-then-words-lt3.is c.version-item-then-words-lt3.is in
     let named : string_bytes one ≡ codes "document" =
     named_so one c.as_str-then-words-lt3.result.now (codes "document") c.eq-then-words-lt3.result
     c.as_str-then-words-lt3.ensures.value c.eq-then-words-lt3.ensures c.if-eq-2.true in

@@ -26,7 +26,7 @@ returns-in_err-handle-in-Ok g c =
       fault = λ fault. absurd (rw is at fault);
       cut = λ same. absurd (cc (c.in-Ok.is, same));
       budget = λ count same. absurd (cc (c.in-Ok.is, same));
-      memory = λ same. absurd (cc (c.in-Ok.is, same));
+      handed_on = λ same. absurd (cc (c.in-Ok.is, same));
     }
 
 -- the handler was called
@@ -42,7 +42,7 @@ returns-in_ok-handle-in-Ok g c = record {
   fault = λ fault. absurd fault;
   cut = λ same. absurd (cc (c.in-Ok.is, same));
   budget = λ count same. absurd (cc (c.in-Ok.is, same));
-  memory = λ same. absurd (cc (c.in-Ok.is, same));
+  handed_on = λ same. absurd (cc (c.in-Ok.is, same));
 }
 
 -- the slots were not given arguments
@@ -64,5 +64,5 @@ returns-in-Err g c = record {
   fault = λ fault. c.in-Err.is ∙ ap Err (c.refuse.ensures.fault fault);
   cut = λ same. c.refuse.ensures.cut (cc (c.in-Err.is, same));
   budget = λ count same. c.refuse.ensures.budget count (cc (c.in-Err.is, same));
-  memory = λ same. c.refuse.ensures.memory (cc (c.in-Err.is, same));
+  handed_on = λ same. c.refuse.ensures.handed_on (cc (c.in-Err.is, same));
 }

@@ -26,7 +26,7 @@ returns-in_err-error-in-Refused g c =
       fault = λ fault. absurd (rw is at fault);
       cut = λ same. absurd (cc (c.in-Refused.is, same));
       budget = λ count same. absurd (cc (c.in-Refused.is, same));
-      memory = λ same. absurd (cc (c.in-Refused.is, same));
+      handed_on = λ same. absurd (cc (c.in-Refused.is, same));
     }
 
 -- memory ran out for its response
@@ -42,7 +42,7 @@ returns-in_err-response-in-Refused g c =
       fault = λ fault. absurd (rw is at fault);
       cut = λ same. absurd (cc (c.in-Refused.is, same));
       budget = λ count same. absurd (cc (c.in-Refused.is, same));
-      memory = λ same. absurd (cc (c.in-Refused.is, same));
+      handed_on = λ same. absurd (cc (c.in-Refused.is, same));
     }
 
 -- a slot is given nothing
@@ -67,7 +67,7 @@ returns-in_ok-response-in-Refused g c = record {
   fault = λ fault. absurd fault;
   cut = λ same. absurd (cc (c.in-Refused.is, same));
   budget = λ count same. absurd (cc (c.in-Refused.is, same));
-  memory = λ same. absurd (cc (c.in-Refused.is, same));
+  handed_on = λ same. absurd (cc (c.in-Refused.is, same));
 }
 
 -- memory ran out for the response to a fault
@@ -83,7 +83,7 @@ returns-in_err-response-in-BodyFault g c =
       fault = λ fault. absurd (rw is at fault);
       cut = λ same. rw is tt;
       budget = λ count same. absurd (cc (c.in-BodyFault.is, same));
-      memory = λ same. absurd (cc (c.in-BodyFault.is, same));
+      handed_on = λ same. absurd (cc (c.in-BodyFault.is, same));
     }
 
 -- a call on the body failed
@@ -106,7 +106,7 @@ returns-in_ok-response-in-BodyFault g c = record {
   fault = λ fault. c.in-BodyFault.is;
   cut = λ same. tt;
   budget = λ count same. absurd (cc (c.in-BodyFault.is, same));
-  memory = λ same. absurd (cc (c.in-BodyFault.is, same));
+  handed_on = λ same. absurd (cc (c.in-BodyFault.is, same));
 }
 
 -- memory ran out for the response to a size
@@ -122,7 +122,7 @@ returns-in_err-response-in-BodyTooLarge g c =
       fault = λ fault. absurd (rw is at fault);
       cut = λ same. absurd (cc (c.in-BodyTooLarge.is, same));
       budget = λ count same. absurd (cc (c.in-BodyTooLarge.is, same));
-      memory = λ same. absurd (cc (c.in-BodyTooLarge.is, same));
+      handed_on = λ same. absurd (cc (c.in-BodyTooLarge.is, same));
     }
 
 -- the content is above the limit
@@ -148,7 +148,7 @@ returns-in_ok-response-in-BodyTooLarge g c = record {
   fault = λ fault. absurd fault;
   cut = λ same. absurd (cc (c.in-BodyTooLarge.is, same));
   budget = λ count same. absurd (cc (c.in-BodyTooLarge.is, same));
-  memory = λ same. absurd (cc (c.in-BodyTooLarge.is, same));
+  handed_on = λ same. absurd (cc (c.in-BodyTooLarge.is, same));
 }
 
 -- there are more frames than the budget
@@ -166,7 +166,7 @@ returns-in-FrameBudget g c = record {
   fault = λ fault. absurd fault;
   cut = λ same. absurd (cc (c.in-FrameBudget.is, same));
   budget = λ count same. cc (c.in-FrameBudget.is, same);
-  memory = λ same. absurd (cc (c.in-FrameBudget.is, same));
+  handed_on = λ same. absurd (cc (c.in-FrameBudget.is, same));
 }
 
 -- memory ran out for the arguments
@@ -178,5 +178,5 @@ returns-in-OutOfMemory g c = record {
   fault = λ fault. absurd fault;
   cut = λ same. tt;
   budget = λ count same. absurd (cc (c.in-OutOfMemory.is, same));
-  memory = λ same. refl;
+  handed_on = λ same. refl;
 }
