@@ -1,4 +1,4 @@
-ghost use Rattle.std.specs.Prelude.{◌≡◌, [], codes, Ok, Err, if◌then◌else◌};
+ghost use Rattle.std.specs.Prelude.{◌≡◌, [], codes, IfOk, Ok, Err, if◌then◌else◌};
 ghost use Rattle.schema_values.specs.Sound.{IsSound};
 ghost use Rattle.schema_values.specs.SoundTest.{is_sound};
 ghost use Rattle.descriptors.specs.declared.desc.Desc.TheVariants as descs;
@@ -41,6 +41,15 @@ impl AnyValue {
         } else {
             Err(json)
         }
+    }
+
+    /// A value equal to this one. Fails only for want of memory.
+    pub fn copy(&self, alloc: Global) -> Result<AnyValue, AllocError>
+        ensures { IfOk result (λ copy. copy ≡ self.now) }
+    {
+        Ok(AnyValue {
+            json: self.json.copy(alloc)?,
+        })
     }
 
     /// The JSON of the value.

@@ -1,5 +1,8 @@
 //! The settings of a run, and how it ends.
-ghost use Rattle.std.specs.Prelude.{◌≡◌, IfOk};
+ghost use Rattle.std.specs.Prelude.{◌≡◌, IfOk, IsOk};
+ghost use Rattle.api_registration.specs.declared.error.ApiDescriptionRegisterError.{
+  ApiDescriptionRegisterError as RegisterError,
+};
 ghost use Rattle.command_line.specs.Statuses.{code_of};
 
 use api_registration::ApiDescriptionRegisterError;
@@ -83,9 +86,11 @@ impl From<SessionEnd> for ToolStatus {
 }
 
 impl ToolStatus {
-    /// A status equal to this one.
+    /// A status equal to this one. Fails only for want of memory, which none takes but `Refused`.
     pub fn copy(&self, alloc: Global) -> Result<ToolStatus, AllocError>
-        ensures { IfOk result (λ copy. copy ≡ self.now) }
+        ensures copy { IfOk result (λ copy. copy ≡ self.now) }
+        ensures plain { ((error : RegisterError) → ¬ (self.now ≡ ToolStatus.Refused error))
+            → IsOk result }
     {
         match self {
             ToolStatus::Done => Ok(ToolStatus::Done),

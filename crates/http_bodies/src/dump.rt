@@ -77,6 +77,10 @@ pub fn http_dump_body<B: FrameSource>(
 
     // It calls the body at most once more than the budget: not again behind the end or an error.
     ensures calls { B.calls body.new ≤ B.calls body.old + budget + 1 }
+
+    // It takes no memory itself.
+    ensures memory { IsErrOf result DumpError.OutOfMemory → B.asks body.old }
+    ensures spared { B.asks body.new → B.asks body.old }
 {
     let mut sum = 0u64;
     for _ in 0..budget + 1 {

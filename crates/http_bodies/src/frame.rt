@@ -66,7 +66,7 @@ impl fmt::Display for FrameError {
 
 /// Gives frames in turn. A box of a `FrameSource` is one too.
 pub trait FrameSource: Drop {
-    ghost use Rattle.std.specs.Prelude.{ℕ};
+    ghost use Rattle.std.specs.Prelude.{ℕ, ⊤};
     ghost use Rattle.http_bodies.specs.Frames.{SourceState};
 
     /// The frames that are left, where the source tells them; how often it has failed; whether it
@@ -75,6 +75,9 @@ pub trait FrameSource: Drop {
 
     /// How often it was called, where it counts that.
     ghost calls: { Self → ℕ } = { λ _. 0 };
+
+    /// That a call may want memory. Where this is not given, it may.
+    ghost asks: { Self → Type 0 } = { λ _. ⊤ };
 
     /// Takes the first frame that is left, and gives it; none exactly where no frame is left. After
     /// an error nothing was taken.
@@ -92,13 +95,19 @@ pub trait FrameSource: Drop {
         ensures goes_on { GoesOn (state self.old) (state self.new) }
 
         // Whatever it answers, it counts as one call at most.
-        ensures once { calls self.new ≤ calls self.old + 1 };
+        ensures once { calls self.new ≤ calls self.old + 1 }
+
+        // Memory runs out only where it may want some, and a source that never does stays so.
+        ensures memory { IsErrOf result FrameError.OutOfMemory → asks self.old }
+        ensures spared { asks self.new → asks self.old };
 }
 
 impl FrameSource for Box<dyn FrameSource> {
     ghost state = { λ b. (FrameSource-box b).state b.value };
 
     ghost calls = { λ b. (FrameSource-box b).calls b.value };
+
+    ghost asks = { λ b. (FrameSource-box b).asks b.value };
 
     fn next_frame(&mut self, alloc: Global) -> Result<Option<Frame>, FrameError> {
         (**self).next_frame(alloc)

@@ -1,5 +1,5 @@
 //! Frames in memory: with a list of calls that fail, or with none.
-ghost use Rattle.std.specs.Prelude.{◌≡◌, ◌+◌, ◌≤◌, Some, IfOk, IsErrOf, IsOk, OnErr, is_err};
+ghost use Rattle.std.specs.Prelude.{◌≡◌, ◌+◌, ◌≤◌, ⊥, Some, IfOk, IsErrOf, IsOk, OnErr, is_err};
 ghost use Rattle.http_bodies.specs.Bodies.{failing, never_failing, state_of};
 ghost use Rattle.http_bodies.specs.Memory.{after_frame_call, fresh_frames, is_failing, one_more};
 ghost use Rattle.http_bodies.specs.Sources.{GivesFrame, GoesOn, HasFailed};
@@ -123,6 +123,8 @@ fn is_failing(failing: &[u64], calls: &mut u64) -> bool
 impl FrameSource for SafeFrames {
     ghost state = { λ frames. state_of (never_failing frames) };
 
+    ghost asks = { λ _. ⊥ };
+
     /// It takes no memory, and the same time for each frame.
     fn next_frame(&mut self, _alloc: Global) -> Result<Option<Frame>, FrameError>
         ensures gives { IfOk result (λ given. GivesFrame (Some self.old) given (Some self.new)) }
@@ -136,6 +138,8 @@ impl FrameSource for MemoryFrames {
     ghost state = { λ memory. state_of (failing memory) };
 
     ghost calls = { λ memory. memory.calls };
+
+    ghost asks = { λ _. ⊥ };
 
     /// It takes no memory, and the same time for each frame, but for the search among the numbers
     /// of the calls that fail.

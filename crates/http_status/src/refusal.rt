@@ -1,5 +1,5 @@
 //! Errors that are answered, beside want of memory.
-ghost use Rattle.std.specs.Prelude.{◌≡◌, IfOk};
+ghost use Rattle.std.specs.Prelude.{◌≡◌, IfOk, IsOk};
 
 use crate::HttpError;
 use std::alloc::{AllocError, Global};
@@ -53,9 +53,11 @@ impl From<HttpError> for HttpRefusal {
 }
 
 impl HttpRefusal {
-    /// A refusal equal to this one. Fails only for want of memory.
+    /// A refusal equal to this one. Fails only for want of memory, which that of want of memory
+    /// does not take.
     pub fn copy(&self, alloc: Global) -> Result<HttpRefusal, AllocError>
-        ensures { IfOk result (λ copy. copy ≡ self.now) }
+        ensures copy { IfOk result (λ copy. copy ≡ self.now) }
+        ensures plain { self.now ≡ HttpRefusal.OutOfMemory → IsOk result }
     {
         match self {
             HttpRefusal::Http(error) => Ok(HttpRefusal::Http(error.copy(alloc)?)),

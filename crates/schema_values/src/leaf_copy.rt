@@ -1,6 +1,6 @@
 //! Copies of the parts of a schema that have no schema within them.
 
-ghost use Rattle.std.specs.Prelude.{◌≡◌, IfOk, Ok};
+ghost use Rattle.std.specs.Prelude.{◌≡◌, IfOk, IsOk, None, Ok};
 ghost use Rattle.schema_values.specs.declared.schema.SchemaObject.{out-SchemaObject};
 
 use crate::copy::copy_members;
@@ -159,9 +159,10 @@ impl LengthBounds {
     }
 }
 
-/// A text equal to another, where there is one.
+/// A text equal to another, where there is one. Where there is none, it takes no memory.
 pub fn copy_text(alloc: Global, text: &Option<Text>) -> Result<Option<Text>, AllocError>
-    ensures { IfOk result (λ copy. copy ≡ text.now) }
+    ensures copy { IfOk result (λ copy. copy ≡ text.now) }
+    ensures none { text.now ≡ None → IsOk result }
 {
     match text {
         None => Ok(None),

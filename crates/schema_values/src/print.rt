@@ -1,4 +1,4 @@
-ghost use Rattle.std.specs.Prelude.{◌≡◌, ◌≤◌, ◌++◌, IfOk, OnErr, OnOk, map, codes, if◌then◌else◌};
+ghost use Rattle.std.specs.Prelude.{◌≡◌, ◌≤◌, ◌++◌, IfOk, IsOk, OnErr, OnOk, map, codes, if◌then◌else◌};
 ghost use Rattle.std.specs.Io.{StartsWith};
 ghost use Rattle.std.specs.Str.{encode_utf8_all};
 ghost use Rattle.schema_values.specs.Depth.{depth};
@@ -78,10 +78,12 @@ fn write_members(alloc: Global, members: &[Member], out: &mut Text) -> Result<()
     Ok(())
 }
 
-/// Puts a comma at the end where texts stand before the next one. The index is how many stand before it.
+/// Puts a comma at the end where texts stand before the next one, and takes no memory where none
+/// does. The index is how many stand before it.
 pub fn write_comma(index: usize, out: &mut Text) -> Result<(), AllocError>
     ensures ok { OnOk result (out.new ≡ out.old ++ comma_before index) }
     ensures err { OnErr result (out.new ≡ out.old) }
+    ensures first { index ≡ 0 → IsOk result }
 {
     if index == 0 { Ok(()) } else { out.push(',') }
 }

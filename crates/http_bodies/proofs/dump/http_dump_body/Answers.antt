@@ -11,5 +11,6 @@ loop-preserved g c =
     record {
       dumping = rw (c.saturating_add-sum.ensures, c.data.ensures)
           (dumping_more _ _ _ _ _ _ c.loop.invariant.dumping gives counts c.next_frame.ensures.goes_on);
+      spared = λ asks. c.loop.invariant.spared (c.next_frame.ensures.spared asks);
       calls = omega arith;
     }
