@@ -81,7 +81,8 @@ pub fn exchange(
         (called config.now request.now store.old) budget
         (Some (frames_of body.old)) (Some (frames_of body.new)) result }
 
-    // The body, where it counts its calls, is called at most once more than the budget.
+    // The body, where it counts its calls, is called at most once more than the budget, but for what a handler
+    // calls of a stream.
     ensures calls { calls_of body.new ≤ calls_of body.old + budget + 1 }
 {
     // It does nothing: the causes in `answers`, and `handled`, rest on its clause.

@@ -95,7 +95,8 @@ pub fn extract(
         → IsTrue (list_any takes_stream slots.now)
         ⊎ ((state_of body.new).faults ≡ (state_of body.old).faults) }
 
-    // It calls the body at most once more than the budget.
+    // The body, where it counts its calls, is called at most once more than the budget; one that a
+    // stream takes is not called.
     ensures calls { calls_of body.new ≤ calls_of body.old + budget + 1 }
 {
     let (shared, last) = without_body(slots.as_slice());

@@ -1,6 +1,6 @@
 -- Endpoints each of which may stand behind those before it.
-use Rattle.std.proofs.Common.{◌≡◌, Bool, true, false, List, [], ◌∷◌, ◌++◌, Some, map, subst, sym, append_assoc, arith}
-use Rattle.std.specs.Prelude.{if◌then◌else◌, All, AllPairs, Contains, find}
+use Rattle.std.proofs.Common.{List, [], ◌∷◌, ◌++◌, subst, sym, append_assoc, arith}
+use Rattle.std.specs.Prelude.{All, AllPairs, Contains}
 use Rattle.std.proofs.lemmas.List.{append-nil}
 use Rattle.std.proofs.lemmas.List.Elements.{All-cons, All-nil, Contains-append_left, Contains-push}
 use Rattle.std.proofs.lemmas.List.Kept.{AllPairs-cons}
@@ -19,16 +19,6 @@ module _ (May : List DeclarationValue → DeclarationValue → Type 0) where
       → (before es : List DeclarationValue) → EachBehind May before es → All Has es
   each_accepted Has each before [] accepted = All-nil Has
   each_accepted Has each before (e ∷ es) accepted = All-cons Has e es (each before e accepted.0) (each_accepted Has each (before ++ e ∷ []) es accepted.1)
-
-  -- the same of one that is found
-  pub found_accepted : {A : Type 0} (declared : A → DeclarationValue) (Has : DeclarationValue → Type 0) → ((before : List DeclarationValue) (e : DeclarationValue) → May before e → Has e)
-      → (holds : A → Bool) (before : List DeclarationValue) (xs : List A) (x : A) → EachBehind May before (map declared xs) → find holds xs ≡ Some x → Has (declared x)
-  found_accepted declared Has each holds before [] x accepted found = absurd (cc found)
-  found_accepted declared Has each holds before (y ∷ xs) x accepted found =
-      elim (holds y) as (λ (here : Bool). (if here then Some y else find holds xs) ≡ Some x → Has (declared x)) [
-        | true ↦ λ is. subst (λ z. Has (declared z)) (cc is) (each before (declared y) accepted.0)
-        | false ↦ λ is. found_accepted declared Has each holds (before ++ declared y ∷ []) xs x accepted.1 is
-      ] found
 
   module _ (R : DeclarationValue → DeclarationValue → Type 0)
       (each : (before : List DeclarationValue) (e : DeclarationValue) → May before e → (other : DeclarationValue) → Contains before other → R other e) where

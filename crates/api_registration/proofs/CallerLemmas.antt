@@ -1,21 +1,16 @@
 -- What proofs of the crates above take from here: lemmas over the words of specs/.
-use Rattle.std.proofs.Common.{List, [], ◌∷◌, ◌++◌}
+use Rattle.std.proofs.Common.{List}
 use Rattle.handler_shapes.specs.ShapeChecks.{ShapePasses}
 use Rattle.api_declarations.specs.Values.{DeclarationValue}
 use Rattle.tag_config.specs.Configurations.{Configuration}
-use Rattle.api_registration.specs.Accepted.{AreAccepted, MayStandBehind, WereAccepted}
+use Rattle.api_registration.specs.Accepted.{MayStandBehind}
 use Rattle.api_registration.specs.Registering.{MayRegister, RefusedBy}
 use Rattle.api_registration.specs.declared.cause.RegisterCause.TheVariants as cause
 use Rattle.api_registration.specs.declared.error.ApiDescriptionRegisterError.{ApiDescriptionRegisterError}
 -- endpoints each of which may stand behind those before it
-pub use Rattle.api_registration.proofs.Accepted.{accepted_behind, each_accepted, found_accepted, pairs_accepted}
+pub use Rattle.api_registration.proofs.Accepted.{accepted_behind, each_accepted, pairs_accepted}
 -- no two that were accepted serve one method and one template in versions that overlap
 pub use Rattle.api_registration.proofs.ServedOnce.{apart_behind}
-
--- those that are accepted under one configuration of tags were accepted
-pub accepted_were : (tags : Configuration) (before es : List DeclarationValue) → AreAccepted tags before es → WereAccepted before es
-accepted_were tags before [] accepted = tt
-accepted_were tags before (e ∷ es) accepted = ((tags, accepted.0), accepted_were tags (before ++ e ∷ []) es accepted.1)
 
 -- the shape of what may be registered passes its checks
 pub may_passes : (before : List DeclarationValue) (e : DeclarationValue) → MayStandBehind before e → ShapePasses e.shape

@@ -8,7 +8,7 @@ use Rattle.semver.specs.Parse.{Parts, version_parts, IsPlain}
 use Rattle.semver.specs.declared.error.Error.{Error}
 use Rattle.command_line.specs.declared.words.Command.{Command}
 use Rattle.command_line.specs.declared.words.Command.TheVariants as commands
-use Rattle.command_line.specs.Words.{AskFor, AskForDocument, AskForSession, IsCommand, IsCommandOf, IsPlainVersion}
+use Rattle.command_line.specs.Words.{AskFor, AskForDocument, AskForSession, IsCommand, IsCommandOf, IsNormalVersion}
 
 -- two items
 pub two_items : {A : Type 0} (xs : List A) (one two : A) → 2 ≤ length xs → length xs < 3 → one ≡ get_or xs 0 one
@@ -48,7 +48,7 @@ module _ (words : List (String Global)) (one two : String Global) (text : List �
 
 -- a plain version is not refused
 pub plain_taken : (T : Type 0) (read : Result Parts Error) (error : Error) (parts : Parts)
-    → IsPlain {T = T} read (Err error) → read ≡ Ok parts → IsPlainVersion parts → ⊥
+    → IsPlain {T = T} read (Err error) → read ≡ Ok parts → IsNormalVersion parts → ⊥
 plain_taken T read error parts plain is (pre, build) =
     let refused = subst (λ (r : Result Parts Error). IsPlain {T = T} r (Err error)) is plain in
     cc (refused (ap length pre) (ap length build))

@@ -27,14 +27,14 @@ AskForDocument = AskFor (codes "document")
 abbrev pub IsCommand : List (String Global) → Type 0
 IsCommand words = (version : Parts) × (AskForSession words version ⊎ AskForDocument words version)
 
--- a version without a prerelease and without build metadata (Semantic Versioning 2.0.0, sections 9 and 10)
-abbrev pub IsPlainVersion : Parts → Type 0
-IsPlainVersion version = (version.3 ≡ []) × (version.4 ≡ [])
+-- a normal version: without a prerelease and without build metadata (Semantic Versioning 2.0.0, sections 2, 9 and 10)
+abbrev pub IsNormalVersion : Parts → Type 0
+IsNormalVersion version = (version.3 ≡ []) × (version.4 ≡ [])
 
--- the words are a command with such a version
-abbrev pub IsPlainCommand : List (String Global) → Type 0
-IsPlainCommand words =
-    (version : Parts) × IsPlainVersion version × (AskForSession words version ⊎ AskForDocument words version)
+-- the words are a command with a normal version
+abbrev pub IsNormalCommand : List (String Global) → Type 0
+IsNormalCommand words =
+    (version : Parts) × IsNormalVersion version × (AskForSession words version ⊎ AskForDocument words version)
 
 -- they are this one
 abbrev pub IsCommandOf : List (String Global) → Command → Type 0

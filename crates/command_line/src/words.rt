@@ -2,7 +2,7 @@
 ghost use Rattle.std.specs.Prelude.{◌≡◌, ◌≢◌, ◌↔◌, Ok, IfOk, IsErrOf, IsOk};
 ghost use Rattle.semver.specs.Identifiers.{parts_of};
 ghost use Rattle.semver.specs.Parse.{Parts, version_parts};
-ghost use Rattle.command_line.specs.Words.{IsCommand, IsCommandOf, IsPlainCommand, IsPlainVersion};
+ghost use Rattle.command_line.specs.Words.{IsCommand, IsCommandOf, IsNormalCommand, IsNormalVersion};
 
 use semver::Version;
 use std::alloc::{AllocError, Global};
@@ -42,12 +42,12 @@ impl From<semver::Error> for WordsError {
 }
 
 /// What the words of a command line ask for: they are `session` or `document`, and behind it a version by Semantic
-/// Versioning 2.0.0. `Usage` is told exactly of words that are no such command. A version without a prerelease and
-/// without build metadata takes no memory.
+/// Versioning 2.0.0. `Usage` is told exactly of words that are no such command. A normal version, without a
+/// prerelease and without build metadata, takes no memory.
 pub fn command_of(alloc: Global, words: &[String]) -> Result<Command, WordsError>
     ensures command { IfOk result (IsCommandOf words.now) }
     ensures usage { IsErrOf result WordsError.Usage ↔ ¬ IsCommand words.now }
-    ensures plain { IsPlainCommand words.now → IsOk result }
+    ensures normal { IsNormalCommand words.now → IsOk result }
 {
     match words {
         [word, version] if word.as_str() == "session" => {
@@ -63,7 +63,7 @@ pub fn command_of(alloc: Global, words: &[String]) -> Result<Command, WordsError
 fn parse_version(alloc: Global, text: &str) -> Result<Version, WordsError>
     ensures version { IfOk result (λ version. version_parts text.now ≡ Ok (parts_of version)) }
     ensures usage { IsErrOf result WordsError.Usage ↔ ((parts : Parts) → version_parts text.now ≢ Ok parts) }
-    ensures plain { (parts : Parts) → version_parts text.now ≡ Ok parts → IsPlainVersion parts → IsOk result }
+    ensures normal { (parts : Parts) → version_parts text.now ≡ Ok parts → IsNormalVersion parts → IsOk result }
 {
     Ok(Version::parse(alloc, text)?)
 }

@@ -2,7 +2,7 @@
 
 -- ---- texts: their characters, their bytes and the order of both
 pub use Rattle.schema_values.proofs.TextLemmas.{IsAscii-from_test, chars-all_ascii}
-pub use Rattle.schema_values.proofs.Characters.{IsText, bytes_back, chars-encoded}
+pub use Rattle.schema_values.proofs.Characters.{chars-encoded}
 pub use Rattle.schema_values.proofs.Utf8Order.{Bytes, one, two, three, four, bytes_of, cmp-encodes}
 -- ---- lists: what they contain, and what holds of each item
 pub use Rattle.schema_values.proofs.Contained.{contains_first, contains_later, contains_cases}

@@ -1,5 +1,5 @@
 -- The bytes of characters spell these characters.
-use Rattle.std.proofs.Common.{◌≡◌, ℕ, zero, suc, ◌+◌, ◌-◌, ◌*◌, ◌/◌, ◌%◌, List, [], ◌∷◌, ◌++◌, refl, sym, ap, ◌∙◌, arith}
+use Rattle.std.proofs.Common.{◌≡◌, ℕ, zero, suc, ◌+◌, ◌-◌, ◌*◌, ◌/◌, ◌%◌, List, [], ◌∷◌, ◌++◌, refl, ap, ◌∙◌, arith}
 use Rattle.std.specs.Str.{chars, chars_after, continuation_len, lead_bits, encode_utf8_all}
 use Rattle.std.proofs.Math.Utf8.{encode}
 use Rattle.std.proofs.lemmas.Str.{chars-nil}
@@ -35,10 +35,3 @@ by_bytes c rest (four low e) =
 pub chars-encoded : (cs : List ℕ) → chars (encode_utf8_all cs) ≡ cs
 chars-encoded [] = chars-nil
 chars-encoded (c ∷ cs) = by_bytes c (encode_utf8_all cs) (bytes_of c) ∙ ap (λ (l : List ℕ). c ∷ l) (chars-encoded cs)
-
--- the bytes of some characters
-abbrev pub IsText : List ℕ → Type 0
-IsText bs = (cs : List ℕ) × (encode_utf8_all cs ≡ bs)
-
-pub bytes_back : (bs : List ℕ) → IsText bs → encode_utf8_all (chars bs) ≡ bs
-bytes_back bs t = ap (λ (l : List ℕ). encode_utf8_all (chars l)) (sym t.1) ∙ ap encode_utf8_all (chars-encoded t.0) ∙ t.1

@@ -47,25 +47,25 @@ returns-in_err-parse_version-in-len2-2-clause-usage c =
           cc (made.1, made.2, q),
     )
 
-pub returns-in_err-parse_version-in-len2-clause-plain : goal.returns-in_err-parse_version-in-len2-clause-plain
-returns-in_err-parse_version-in-len2-clause-plain c (version, plain, asked) =
+pub returns-in_err-parse_version-in-len2-clause-normal : goal.returns-in_err-parse_version-in-len2-clause-normal
+returns-in_err-parse_version-in-len2-clause-normal c (version, normal, asked) =
     let one = c.word-item.result in
     let two = c.version-item.result in
     let are = two_items c.args.words.now one two c.in-len2.len_at_least c.in-len2.len_below c.word-item.is
     c.version-item.is in
     let read = version_read c.args.words.now one two c.as_str-in-len2.result.now are
     c.as_str-in-len2.ensures.value version asked in
-    absurd (cc (c.in_err-parse_version-in-len2.ensures.plain version read plain))
+    absurd (cc (c.in_err-parse_version-in-len2.ensures.normal version read normal))
 
-pub returns-in_err-parse_version-in-len2-2-clause-plain : goal.returns-in_err-parse_version-in-len2-2-clause-plain
-returns-in_err-parse_version-in-len2-2-clause-plain c (version, plain, asked) =
+pub returns-in_err-parse_version-in-len2-2-clause-normal : goal.returns-in_err-parse_version-in-len2-2-clause-normal
+returns-in_err-parse_version-in-len2-2-clause-normal c (version, normal, asked) =
     let one = c.word-item-then-words-lt3.result in
     let two = c.version-item-then-words-lt3.result in
     let are = two_items c.args.words.now one two c.in-len2.len_at_least c.in-len2.len_below
     c.word-item-then-words-lt3.is c.version-item-then-words-lt3.is in
     let read = version_read c.args.words.now one two c.as_str-in-len2-2.result.now are
     c.as_str-in-len2-2.ensures.value version asked in
-    absurd (cc (c.in_err-parse_version-in-len2-2.ensures.plain version read plain))
+    absurd (cc (c.in_err-parse_version-in-len2-2.ensures.normal version read normal))
 
 pub returns-in_ok-parse_version-in-len2-clause-command : goal.returns-in_ok-parse_version-in-len2-clause-command
 returns-in_ok-parse_version-in-len2-clause-command c =

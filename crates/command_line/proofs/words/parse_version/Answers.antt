@@ -18,6 +18,6 @@ returns-in_err-parse-clause-usage c =
       λ none. ap Err (made.2.1 (refused-by_text _ c.args.text.now _ c.in_err-parse.ensures.refused none)),
     )
 
-pub returns-in_err-parse-clause-plain : goal.returns-in_err-parse-clause-plain
-returns-in_err-parse-clause-plain c parts is plain =
-    absurd (plain_taken _ (version_parts c.args.text.now) _ parts c.in_err-parse.ensures.plain is plain)
+pub returns-in_err-parse-clause-normal : goal.returns-in_err-parse-clause-normal
+returns-in_err-parse-clause-normal c parts is normal =
+    absurd (plain_taken _ (version_parts c.args.text.now) _ parts c.in_err-parse.ensures.plain is normal)
