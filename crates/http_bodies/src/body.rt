@@ -1,5 +1,5 @@
 //! Bodies of frames in memory.
-ghost use Rattle.std.specs.Prelude.{◌≡◌, ◌+◌, ◌≤◌, [], ⊥, Some, IfOk, IsErrOf, OnErr, is_err};
+ghost use Rattle.std.specs.Prelude.{◌≡◌, ◌+◌, ◌≤◌, [], Some, IfOk, IsErrOf, OnErr, is_err};
 ghost use Rattle.std.specs.Prelude.{option_to_list};
 ghost use Rattle.http_bodies.specs.Bodies.{after_body_call, calls_of, failing, fails_next};
 ghost use Rattle.http_bodies.specs.Bodies.{faults_of, frames_of, never_failing, state_of};

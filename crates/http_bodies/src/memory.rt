@@ -1,5 +1,5 @@
 //! Frames in memory: with a list of calls that fail, or with none.
-ghost use Rattle.std.specs.Prelude.{◌≡◌, ◌+◌, ◌≤◌, ⊥, Some, IfOk, IsErrOf, IsOk, OnErr, is_err};
+ghost use Rattle.std.specs.Prelude.{◌≡◌, ◌+◌, ◌≤◌, Some, IfOk, IsErrOf, IsOk, OnErr, is_err};
 ghost use Rattle.http_bodies.specs.Bodies.{failing, never_failing, state_of};
 ghost use Rattle.http_bodies.specs.Memory.{after_frame_call, fresh_frames, is_failing, one_more};
 ghost use Rattle.http_bodies.specs.Sources.{GivesFrame, GoesOn, HasFailed};
