@@ -81,7 +81,8 @@ impl ApiDescription {
         )
     }
 
-    // Adds an endpoint and its places. After want of memory the endpoints are as they were, and so is the index.
+    // Adds an endpoint and its places. After want of memory the endpoints are as they were, and at each key of the
+    // index the places of before.
     fn push(&mut self, endpoint: ApiEndpoint) -> Result<(), AllocError>
         requires { IsIndexed (declarations_of (boxed ⟦<dyn RouteHandler as RouteHandler>⟧)
             self.old.endpoints.items) self.old.index }

@@ -1,10 +1,11 @@
 //! Why an endpoint was not registered.
-ghost use Rattle.std.specs.Prelude.{◌≡◌, IfOk};
+ghost use Rattle.std.specs.Prelude.{◌≡◌, IfOk, IsOk};
 
 use api_registration::ApiDescriptionRegisterError;
 use std::alloc::{AllocError, Global};
 
-/// Why an endpoint was not registered. Endpoints, tags and the index are as they were then.
+/// Why an endpoint was not registered. Endpoints and tags are as they were then, and the index has at each key the
+/// places of before.
 #[derive(Debug, Drop)]
 pub enum RegisterError {
     /// A cause stands against it.
@@ -14,9 +15,10 @@ pub enum RegisterError {
 }
 
 impl RegisterError {
-    /// An error equal to this one. Fails only for want of memory.
+    /// An error equal to this one. Fails only for want of memory, and never of `OutOfMemory`.
     pub fn copy(&self, alloc: Global) -> Result<RegisterError, AllocError>
-        ensures { IfOk result (λ copy. copy ≡ self.now) }
+        ensures copy { IfOk result (λ copy. copy ≡ self.now) }
+        ensures plain { self.now ≡ RegisterError.OutOfMemory → IsOk result }
     {
         match self {
             RegisterError::Refused(error) => Ok(RegisterError::Refused(error.copy(alloc)?)),

@@ -1,5 +1,5 @@
 //! Why there is no endpoint.
-ghost use Rattle.std.specs.Prelude.{◌≡◌, IfOk};
+ghost use Rattle.std.specs.Prelude.{◌≡◌, IfOk, IsOk, List as ListOf, ℕ};
 
 use endpoint_metadata::ModeError;
 use schema_values::Text;
@@ -20,9 +20,10 @@ pub enum NewEndpointError {
 }
 
 impl NewEndpointError {
-    /// An error equal to this one. Fails only for want of memory.
+    /// An error equal to this one. Fails only for want of memory, which none takes but `UnsupportedMime`.
     pub fn copy(&self, alloc: Global) -> Result<NewEndpointError, AllocError>
-        ensures { IfOk result (λ copy. copy ≡ self.now) }
+        ensures copy { IfOk result (λ copy. copy ≡ self.now) }
+        ensures plain { ((mime : ListOf ℕ) → ¬ (self.now ≡ NewEndpointError.UnsupportedMime mime)) → IsOk result }
     {
         match self {
             NewEndpointError::UnsupportedMime(mime) => {

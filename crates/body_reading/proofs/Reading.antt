@@ -1,16 +1,18 @@
 -- The loop that reads a body whole.
 use Rattle.std.proofs.Common.{◌≡◌, ℕ, ◌+◌, ◌-◌, ◌^◌, ◌<◌, ◌≤◌, inl, inr, List, [], ◌∷◌, ◌++◌, length, arith, sym, ap, ◌∙◌, refl, subst}
 use Rattle.std.specs.Prelude.{◌⊎◌, Option, Some, None, Ok, Err}
-use Rattle.std.proofs.lemmas.List.{length-append, take_all}
+use Rattle.std.proofs.lemmas.List.{length-append, nil_from_length, take_all}
 use Rattle.http_bodies.proofs.CallerLemmas.{all_data-more}
 use Rattle.http_bodies.specs.declared.frame.Frame.{Frame}
+use Rattle.http_bodies.specs.declared.frame.FrameError.{FrameError}
+use Rattle.http_bodies.specs.declared.frame.FrameError.TheVariants as frame
 use Rattle.http_bodies.specs.Dumping.{data_size}
 use Rattle.http_bodies.specs.Frames.{SourceState, data_of, all_data}
 use Rattle.http_bodies.specs.Sources.{GivesFrame, GoesOn, IsAtEnd, TakesFrames}
 use Rattle.body_reading.specs.declared.whole.BodyError.{BodyError}
 use Rattle.body_reading.specs.declared.whole.BodyError.TheVariants as body
-use Rattle.body_reading.specs.Whole.{HasCause, IsCutShort, Reads, TakesAtMost, TakesRoom}
-use Rattle.body_reading.proofs.FirstAbove.{data_length-more, first_above, take_front}
+use Rattle.body_reading.specs.Whole.{HasCause, HasContent, IsCutShort, Reads, TakesAtMost, TakesRoom, body_error_of}
+use Rattle.body_reading.proofs.FirstAbove.{data_length-append, data_length-more, first_above, take_front}
 use Rattle.body_reading.proofs.Taking.{takes_both}
 
 -- so many frames came, with this content, and no call failed
@@ -37,6 +39,34 @@ reading_more start now after limit content count f d gives kept on fits = record
   faults = kept ∙ d.faults;
   same = on.same ∙ d.same;
 }
+
+-- frames with content came, so the source has some
+pub content_came : (start now : Option (List Frame)) (came : List Frame) → TakesFrames start came now → ¬ (all_data came ≡ []) → HasContent start
+content_came None now came taken some = tt
+content_came (Some before) None came taken some = absurd taken
+content_came (Some before) (Some after) came taken some = λ none.
+    let size = ap (λ (frames : List Frame). length (all_data frames)) taken in
+    let nothing = ap length none in
+    some (nil_from_length (all_data came) (omega (arith, data_length-append came after)))
+
+cut_short : (error : FrameError) → IsCutShort (Err (body_error_of error))
+cut_short frame.Failed = tt
+cut_short frame.OutOfMemory = tt
+
+-- a call gave no frame
+pub reading_fails : (start now after : SourceState) (limit budget : ℕ) (content : List ℕ) (count : ℕ) (error : FrameError)
+    → IsReading start now limit content count → after.left ≡ now.left → count < budget + 1
+    → Reads limit budget start.left after.left (Err (body_error_of error))
+reading_fails start now after limit budget content count error d kept more =
+    let counted = d.counted in
+    record {
+      came = d.came;
+      taken = subst (λ (left : Option (List Frame)). TakesFrames start.left d.came left) (sym kept) d.taken;
+      most = omega arith;
+      cause = inl (cut_short error);
+      ended = tt;
+      dumped = inl (cut_short error);
+    }
 
 -- no frame was left
 pub reading_ends : (start now after : SourceState) (limit budget : ℕ) (content : List ℕ) (count : ℕ)

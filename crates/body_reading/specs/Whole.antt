@@ -1,6 +1,6 @@
 -- What a body that is read whole gives, by a limit on its content, a budget of frames, and the frames (of this library).
 use Rattle.std.specs.Prelude.{ℕ, ◌≡◌, ◌⊎◌, ◌+◌, ◌-◌, ◌^◌, ◌<◌, ◌≤◌, min, nat_lt, Bool, true, false, List, [], ◌∷◌, length, take}
-use Rattle.std.specs.Prelude.{Option, Some, None, Result, Ok, Err, OnOk}
+use Rattle.std.specs.Prelude.{Option, Some, None, Result, Ok, Err, IfSome, OnOk}
 use Rattle.std.specs.List.{find}
 use Rattle.http_bodies.specs.declared.frame.Frame.{Frame}
 use Rattle.http_bodies.specs.declared.frame.FrameError.{FrameError}
@@ -92,6 +92,10 @@ pub record TakesRoom (room : ℕ) (old new : Option (List Frame)) : Type 0 where
   pub taken : TakesFrames old came new
   pub most : length came ≤ room
   pub all : (length came ≡ room) ⊎ IsAtEnd new
+
+-- where the source tells its frames, some of them have content
+abbrev pub HasContent : Option (List Frame) → Type 0
+HasContent left = IfSome left (λ frames. ¬ (all_data frames ≡ []))
 
 -- what is answered where a call gives no frame
 abbrev pub body_error_of : FrameError → BodyError

@@ -1,5 +1,5 @@
 //! The rest of a body, which is thrown away.
-ghost use Rattle.std.specs.Prelude.{◌≡◌, ◌+◌, ◌≤◌, IsErrOf, IsOk, OnOk};
+ghost use Rattle.std.specs.Prelude.{◌≡◌, ◌+◌, ◌≤◌, IsErrOf, OnOk};
 ghost use Rattle.http_bodies.specs.Sources.{GoesOn, HasFailed};
 ghost use Rattle.body_reading.specs.Whole.{TakesAtMost, TakesRoom};
 
@@ -21,10 +21,8 @@ pub fn throw_away<S: FrameSource>(
     ensures goes_on { GoesOn (S.state source.old) (S.state source.new) }
     ensures calls { S.calls source.new ≤ S.calls source.old + room }
 
-    // It takes no memory itself, and without room it calls nothing.
+    // It takes no memory itself.
     ensures memory { IsErrOf result FrameError.OutOfMemory → S.asks source.old }
-    ensures spared { S.asks source.new → S.asks source.old }
-    ensures none { room ≡ 0 → IsOk result }
 {
     if room == 0 {
         return Ok(());

@@ -1,9 +1,9 @@
 //! Bodies that are read whole.
 ghost use Rattle.std.specs.Prelude.{◌≡◌, ◌+◌, ◌-◌, ◌^◌, ◌<◌, ◌≤◌, ◌⊎◌, ◌++◌, IfSome};
-ghost use Rattle.std.specs.Prelude.{ℕ, IsErrOf, OnOk, Err, length};
+ghost use Rattle.std.specs.Prelude.{ℕ, [], IsErrOf, IsOk, OnOk, Err, length};
 ghost use Rattle.http_bodies.specs.Frames.{data_of};
 ghost use Rattle.http_bodies.specs.Sources.{GoesOn, HasFailed};
-ghost use Rattle.body_reading.specs.Whole.{IsCutShort, Reads, TakesAtMost, TakesRoom, whole};
+ghost use Rattle.body_reading.specs.Whole.{HasContent, IsCutShort, Reads, TakesAtMost, TakesRoom, whole};
 
 use crate::rest::throw_away;
 use http_bodies::{Frame, FrameError, FrameSource};
@@ -104,6 +104,10 @@ pub fn read_whole<S: FrameSource>(
 
     // It calls the source at most once more than the budget, what it throws away with it.
     ensures calls { S.calls source.new ≤ S.calls source.old + budget + 1 }
+
+    // Memory runs out only where the source may want some, or some frame has content.
+    ensures memory { IsErrOf result BodyError.OutOfMemory
+        → S.asks source.old ⊎ HasContent (S.state source.old).left }
 {
     let mut content = Vec::new(alloc);
     for count in 0..budget + 1 {
@@ -126,9 +130,11 @@ fn sum_of(front: &[u8], back: &[u8]) -> u64
     front.len() as u64 + back.len() as u64
 }
 
-// Puts the content of a frame behind what came before. The first content is not copied.
+// Puts the content of a frame behind what came before. The first content is not copied, so it takes
+// no memory.
 fn append(content: &mut Vec<u8>, frame: Frame) -> Result<(), AllocError>
-    ensures { OnOk result (content.new.items ≡ content.old.items ++ data_of frame) }
+    ensures content { OnOk result (content.new.items ≡ content.old.items ++ data_of frame) }
+    ensures none { content.old.items ≡ [] → IsOk result }
 {
     match frame {
         Frame::Bytes(bytes) => {
@@ -155,6 +161,7 @@ fn too_large<S: FrameSource>(alloc: Global, source: &mut S, sum: u64, room: u64)
         → (S.state source.new).faults ≡ (S.state source.old).faults }
     ensures goes_on { GoesOn (S.state source.old) (S.state source.new) }
     ensures calls { S.calls source.new ≤ S.calls source.old + room }
+    ensures memory { result ≡ BodyError.OutOfMemory → S.asks source.old }
 {
     match throw_away(alloc, source, room) {
         Ok(()) => BodyError::BodyTooLarge(sum),

@@ -46,10 +46,10 @@ module _ (words : List (String Global)) (one two : String Global) (text : List �
   pub no_command : ((version : Parts) → version_parts text ≢ Ok version) → ¬ IsCommand words
   no_command none (version, asked) = none version (version_read version asked)
 
--- a plain version is not refused
-pub plain_taken : (T : Type 0) (read : Result Parts Error) (error : Error) (parts : Parts)
+-- a normal version is not refused
+pub normal_taken : (T : Type 0) (read : Result Parts Error) (error : Error) (parts : Parts)
     → IsPlain {T = T} read (Err error) → read ≡ Ok parts → IsNormalVersion parts → ⊥
-plain_taken T read error parts plain is (pre, build) =
+normal_taken T read error parts plain is (pre, build) =
     let refused = subst (λ (r : Result Parts Error). IsPlain {T = T} r (Err error)) is plain in
     cc (refused (ap length pre) (ap length build))
 

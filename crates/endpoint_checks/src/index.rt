@@ -23,8 +23,8 @@ use std::alloc::{AllocError, Global};
 /// Whoever registers endpoints in a vector keeps the index beside it. `first_cause` of
 /// `api_registration` is asked with both. Where it tells nothing, the vector makes room for one
 /// more by `reserve`, then `add` is called, and then the endpoint is put at the end of the vector,
-/// for which no memory is wanted any more. So want of memory leaves the endpoints and the index as
-/// they were.
+/// for which no memory is wanted any more. So want of memory leaves the endpoints as they were, and
+/// at each key of the index the places of before.
 #[derive(Drop)]
 pub struct EndpointIndex {
     templates: PlaceIndex,

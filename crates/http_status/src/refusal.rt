@@ -53,8 +53,7 @@ impl From<HttpError> for HttpRefusal {
 }
 
 impl HttpRefusal {
-    /// A refusal equal to this one. Fails only for want of memory, which that of want of memory
-    /// does not take.
+    /// A refusal equal to this one. Fails only for want of memory, and never of `OutOfMemory`.
     pub fn copy(&self, alloc: Global) -> Result<HttpRefusal, AllocError>
         ensures copy { IfOk result (λ copy. copy ≡ self.now) }
         ensures plain { self.now ≡ HttpRefusal.OutOfMemory → IsOk result }

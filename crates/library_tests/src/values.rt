@@ -11,6 +11,16 @@ fn shows_a_flag(table: &DescTable) -> bool {
     table.len() == 1 && !table.is_empty() && finds_a_flag(table) && table.entry(1).is_none()
 }
 
+#[test]
+fn a_copy_of_any_value_has_its_json(rt: HostRuntime) -> Result<(), Fail> {
+    let alloc = rt.alloc();
+    match AnyValue::new(Json::Int(-7)) {
+        Ok(value) => assert!(rt; matches!(value.copy(alloc)?.json(), Json::Int(-7))),
+        Err(_) => assert!(rt; false),
+    }
+    Ok(())
+}
+
 fn finds_a_flag(table: &DescTable) -> bool {
     let is_first = match table.entry(0) {
         Some((name, Some(description), Desc::Bool)) => {

@@ -1,18 +1,30 @@
-use Rattle.std.proofs.Common.{◌≤◌, Ok, arith, refl, rules}
+use Rattle.std.proofs.Common.{◌≤◌, ◌∙◌, arith, inr, refl, rules}
 use Rattle.std.proofs.lemmas.Result.{err_from_is_err_and}
 use Rattle.body_reading.proofs.Outcomes.{reads_whole}
-use Rattle.body_reading.proofs.Reading.{reading_ends, reading_large, reading_more, reading_over, reading_stops}
+use Rattle.body_reading.proofs.Reading.{content_came, reading_ends, reading_fails, reading_large, reading_more, reading_over, reading_stops}
 use Rattle.body_reading.proofs.whole.read_whole.Goals as goal
 
-pub returns-in_default-clause-outcome : goal.returns-in_default-clause-outcome
-returns-in_default-clause-outcome g c =
+pub returns-in_err-frame-clause-came : goal.returns-in_err-frame-clause-came
+returns-in_err-frame-clause-came g c =
+    let p = err_from_is_err_and c.from_residual.result c.from_residual.ensures.1 in
+    rw (p.1, p.2)
+    (reading_fails (g.S.FrameSource.state c.args.source.now) (g.S.FrameSource.state c.loop-count.source)
+    (g.S.FrameSource.state c.next_frame.new.self) c.args.limit c.args.budget c.loop-count.content.items c.loop-count.count
+    c.in_err-frame.field-0.0 c.loop-count.invariant.reading c.in_err-frame.ensures.kept (omega arith))
+
+pub returns-in_err-frame-clause-outcome : goal.returns-in_err-frame-clause-outcome
+returns-in_err-frame-clause-outcome g c = reads_whole _ _ _ _ _ (returns-in_err-frame-clause-came g c)
+
+pub returns-in_default-clause-came : goal.returns-in_default-clause-came
+returns-in_default-clause-came g c =
     let gives = rw c.in_default.is at c.in_ok-frame.ensures.gives in
-    reads_whole c.args.limit c.args.budget (g.S.FrameSource.state c.args.source.now).left
-    (g.S.FrameSource.state c.next_frame.new.self).left (Ok c.from_vec.result)
-    (rw c.from_vec.ensures
+    rw c.from_vec.ensures
     (reading_ends (g.S.FrameSource.state c.args.source.now) (g.S.FrameSource.state c.loop-count.source)
     (g.S.FrameSource.state c.next_frame.new.self) c.args.limit c.args.budget c.loop-count.content.items c.loop-count.count
-    c.loop-count.invariant.reading gives (omega arith)))
+    c.loop-count.invariant.reading gives (omega arith))
+
+pub returns-in_default-clause-outcome : goal.returns-in_default-clause-outcome
+returns-in_default-clause-outcome g c = reads_whole _ _ _ _ _ (returns-in_default-clause-came g c)
 
 pub returns-then-sum-limit-clause-came : goal.returns-then-sum-limit-clause-came
 returns-then-sum-limit-clause-came g c =
@@ -42,6 +54,15 @@ returns-in_err-append-clause-came g c =
     (g.S.FrameSource.state c.next_frame.new.self) c.args.limit c.args.budget c.loop-count.content.items c.loop-count.count
     c.in-Some.frame c.loop-count.invariant.reading gives (omega arith))
 
+pub returns-in_err-append-clause-outcome : goal.returns-in_err-append-clause-outcome
+returns-in_err-append-clause-outcome g c = reads_whole _ _ _ _ _ (returns-in_err-append-clause-came g c)
+
+pub returns-in_err-append-clause-memory : goal.returns-in_err-append-clause-memory
+returns-in_err-append-clause-memory g c is =
+    let d = c.loop-count.invariant.reading in
+    inr (content_came (g.S.FrameSource.state c.args.source.now).left (g.S.FrameSource.state c.loop-count.source).left d.came d.taken
+    (λ nothing. absurd (cc (c.in_err-append.ensures.none (d.content_is ∙ nothing)))))
+
 pub loop-count-preserved : goal.loop-count-preserved
 loop-count-preserved g c =
     let gives = rw c.in-Some.is at c.in_ok-frame.ensures.gives in
@@ -51,15 +72,18 @@ loop-count-preserved g c =
     let before = c.loop-count.invariant.calls in
     let once = c.next_frame.ensures.once in
     record {
-      reading = rw c.in_ok-append.ensures
+      reading = rw c.in_ok-append.ensures.content
           (reading_more (g.S.FrameSource.state c.args.source.now) (g.S.FrameSource.state c.loop-count.source)
           (g.S.FrameSource.state c.next_frame.new.self) c.args.limit c.loop-count.content.items c.loop-count.count
           c.in-Some.frame c.loop-count.invariant.reading gives counts c.next_frame.ensures.goes_on fits);
+      spared = λ asks. c.loop-count.invariant.spared (c.next_frame.ensures.spared asks);
       calls = omega arith;
     }
 
+pub returns-clause-came : goal.returns-clause-came
+returns-clause-came g c =
+    reading_over (g.S.FrameSource.state c.args.source.now) (g.S.FrameSource.state c.loop-count.source) c.args.limit c.args.budget
+    c.loop-count.content.items c.loop-count.count c.loop-count.invariant.reading (omega arith)
+
 pub returns-clause-outcome : goal.returns-clause-outcome
-returns-clause-outcome g c =
-    reads_whole _ _ _ _ _
-    (reading_over (g.S.FrameSource.state c.args.source.now) (g.S.FrameSource.state c.loop-count.source) c.args.limit c.args.budget
-    c.loop-count.content.items c.loop-count.count c.loop-count.invariant.reading (omega arith))
+returns-clause-outcome g c = reads_whole _ _ _ _ _ (returns-clause-came g c)

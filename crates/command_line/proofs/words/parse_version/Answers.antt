@@ -3,7 +3,7 @@ use Rattle.std.proofs.lemmas.Result.{err_from_is_err_and}
 use Rattle.semver.specs.Parse.{version_parts}
 use Rattle.command_line.specs.declared.words.WordsError.TheVariants.{Usage}
 use Rattle.command_line.proofs.VersionErrors.{refused-by_text}
-use Rattle.command_line.proofs.WordLemmas.{plain_taken}
+use Rattle.command_line.proofs.WordLemmas.{normal_taken}
 use Rattle.command_line.proofs.words.parse_version.Goals as goal
 
 pub returns-in_err-parse-clause-usage : goal.returns-in_err-parse-clause-usage
@@ -20,4 +20,4 @@ returns-in_err-parse-clause-usage c =
 
 pub returns-in_err-parse-clause-normal : goal.returns-in_err-parse-clause-normal
 returns-in_err-parse-clause-normal c parts is normal =
-    absurd (plain_taken _ (version_parts c.args.text.now) _ parts c.in_err-parse.ensures.plain is normal)
+    absurd (normal_taken _ (version_parts c.args.text.now) _ parts c.in_err-parse.ensures.plain is normal)
