@@ -1,5 +1,5 @@
 -- What a call on a source of frames changes (of this library).
-use Rattle.std.specs.Prelude.{◌≡◌, ◌≤◌, true, List, [], ◌∷◌, ◌++◌, Option, Some, None}
+use Rattle.std.specs.Prelude.{◌≡◌, ℕ, ◌+◌, ◌≤◌, true, List, [], ◌∷◌, ◌++◌, length, Option, Some, None}
 use Rattle.std.specs.Option.{IfSome}
 use Rattle.schema_values.specs.Causes.{HasRisen}
 use Rattle.http_bodies.specs.declared.frame.Frame.{Frame}
@@ -14,6 +14,12 @@ TakesFrames (Some before) taken (Some after) = before ≡ taken ++ after
 -- no frame is left, where that is told
 abbrev pub IsAtEnd : Option (List Frame) → Type 0
 IsAtEnd left = IfSome left (λ frames. frames ≡ [])
+
+-- Where the frames that are left are told, these calls were at most one for each frame that came, and one more: none
+-- was made behind the end or an error.
+abbrev pub CalledFor : (before after : Option (List Frame)) → (old new : ℕ) → Type 0
+CalledFor before after old new =
+    IfSome before (λ frames. IfSome after (λ rest. new + length rest ≤ old + length frames + 1))
 
 -- what a call gives: the first frame that is left, which is taken; or none, where none is left
 abbrev pub GivesFrame : Option (List Frame) → Option Frame → Option (List Frame) → Type 0

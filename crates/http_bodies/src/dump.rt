@@ -1,7 +1,7 @@
 //! Bodies that are read to their end and thrown away.
 ghost use Rattle.std.specs.Prelude.{◌≡◌, ◌+◌, ◌-◌, ◌<◌, ◌≤◌, ◌^◌, IfOk, IfSome, IsErrOf};
 ghost use Rattle.http_bodies.specs.Dumping.{Dumps, IsOrRanOut, data_size, dumped};
-ghost use Rattle.http_bodies.specs.Sources.{GoesOn, HasFailed};
+ghost use Rattle.http_bodies.specs.Sources.{CalledFor, GoesOn, HasFailed};
 
 use crate::frame::{FrameError, FrameSource};
 use std::alloc::Global;
@@ -75,8 +75,11 @@ pub fn http_dump_body<B: FrameSource>(
         → (B.state body.new).faults ≡ (B.state body.old).faults }
     ensures goes_on { GoesOn (B.state body.old) (B.state body.new) }
 
-    // It calls the body at most once more than the budget: not again behind the end or an error.
+    // It calls the body at most once more than the budget, and of a source that tells its frames not
+    // again behind the end or an error.
     ensures calls { B.calls body.new ≤ B.calls body.old + budget + 1 }
+    ensures called { CalledFor (B.state body.old).left (B.state body.new).left
+        (B.calls body.old) (B.calls body.new) }
 
     // It takes no memory itself.
     ensures memory { IsErrOf result DumpError.OutOfMemory → B.asks body.old }
