@@ -2,7 +2,7 @@
 ghost use Rattle.std.specs.Prelude.{◌≡◌, ◌+◌, ◌-◌, ◌^◌, ◌<◌, ◌≤◌, [], ◌∷◌, IfOk};
 ghost use Rattle.http_bodies.specs.Bodies.{failing};
 ghost use Rattle.http_bodies.specs.Memory.{fresh_frames};
-ghost use Rattle.http_bodies.specs.Sources.{GoesOn};
+ghost use Rattle.http_bodies.specs.Sources.{CalledFor, GoesOn};
 ghost use Rattle.body_reading.specs.Gathered.{GathersInto};
 ghost use Rattle.body_reading.specs.Whole.{TakesAtMost};
 
@@ -28,8 +28,11 @@ pub fn gather_frames<S: FrameSource>(
     ensures most { TakesAtMost (budget + 1) (S.state source.old).left (S.state source.new).left }
     ensures goes_on { GoesOn (S.state source.old) (S.state source.new) }
 
-    // It calls the source at most once more than the budget.
+    // It calls the source at most once more than the budget, and one that tells its frames not again
+    // behind the end or an error.
     ensures calls { S.calls source.new ≤ S.calls source.old + budget + 1 }
+    ensures called { CalledFor (S.state source.old).left (S.state source.new).left
+        (S.calls source.old) (S.calls source.new) }
 {
     let mut frames = List::new(alloc);
     for count in 0..budget + 1 {

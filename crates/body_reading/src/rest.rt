@@ -1,6 +1,6 @@
 //! The rest of a body, which is thrown away.
 ghost use Rattle.std.specs.Prelude.{◌≡◌, ◌+◌, ◌≤◌, IsErrOf, OnOk};
-ghost use Rattle.http_bodies.specs.Sources.{GoesOn, HasFailed};
+ghost use Rattle.http_bodies.specs.Sources.{CalledFor, GoesOn, HasFailed};
 ghost use Rattle.body_reading.specs.Whole.{TakesAtMost, TakesRoom};
 
 use http_bodies::{DumpError, FrameError, FrameSource, http_dump_body};
@@ -20,6 +20,8 @@ pub fn throw_away<S: FrameSource>(
         → (S.state source.new).faults ≡ (S.state source.old).faults }
     ensures goes_on { GoesOn (S.state source.old) (S.state source.new) }
     ensures calls { S.calls source.new ≤ S.calls source.old + room }
+    ensures called { CalledFor (S.state source.old).left (S.state source.new).left
+        (S.calls source.old) (S.calls source.new) }
 
     // It takes no memory itself.
     ensures memory { IsErrOf result FrameError.OutOfMemory → S.asks source.old }

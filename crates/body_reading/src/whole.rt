@@ -2,7 +2,7 @@
 ghost use Rattle.std.specs.Prelude.{◌≡◌, ◌+◌, ◌-◌, ◌^◌, ◌<◌, ◌≤◌, ◌⊎◌, ◌++◌, IfSome};
 ghost use Rattle.std.specs.Prelude.{ℕ, [], IsErrOf, IsOk, OnOk, Err, length};
 ghost use Rattle.http_bodies.specs.Frames.{data_of};
-ghost use Rattle.http_bodies.specs.Sources.{GoesOn, HasFailed};
+ghost use Rattle.http_bodies.specs.Sources.{CalledFor, GoesOn, HasFailed};
 ghost use Rattle.body_reading.specs.Whole.{HasContent, IsCutShort, Reads, TakesAtMost, TakesRoom, whole};
 
 use crate::rest::throw_away;
@@ -102,8 +102,11 @@ pub fn read_whole<S: FrameSource>(
         → (S.state source.new).faults ≡ (S.state source.old).faults }
     ensures goes_on { GoesOn (S.state source.old) (S.state source.new) }
 
-    // It calls the source at most once more than the budget, what it throws away with it.
+    // It calls the source at most once more than the budget, what it throws away with it, and one
+    // that tells its frames not again behind the end or an error.
     ensures calls { S.calls source.new ≤ S.calls source.old + budget + 1 }
+    ensures called { CalledFor (S.state source.old).left (S.state source.new).left
+        (S.calls source.old) (S.calls source.new) }
 
     // Memory runs out only where the source may want some, or some frame has content.
     ensures memory { IsErrOf result BodyError.OutOfMemory
@@ -161,6 +164,8 @@ fn too_large<S: FrameSource>(alloc: Global, source: &mut S, sum: u64, room: u64)
         → (S.state source.new).faults ≡ (S.state source.old).faults }
     ensures goes_on { GoesOn (S.state source.old) (S.state source.new) }
     ensures calls { S.calls source.new ≤ S.calls source.old + room }
+    ensures called { CalledFor (S.state source.old).left (S.state source.new).left
+        (S.calls source.old) (S.calls source.new) }
     ensures memory { result ≡ BodyError.OutOfMemory → S.asks source.old }
 {
     match throw_away(alloc, source, room) {

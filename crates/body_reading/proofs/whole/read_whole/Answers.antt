@@ -1,7 +1,10 @@
-use Rattle.std.proofs.Common.{◌≤◌, ◌∙◌, arith, inr, refl, rules}
+use Rattle.std.proofs.Common.{◌≤◌, [], ◌∷◌, ◌++◌, ◌∙◌, arith, inr, refl, rules}
 use Rattle.std.proofs.lemmas.Result.{err_from_is_err_and}
+use Rattle.std.proofs.lemmas.List.{length-append}
+use Rattle.http_bodies.proofs.CallerLemmas.{called_behind, called_for}
 use Rattle.body_reading.proofs.Outcomes.{reads_whole}
 use Rattle.body_reading.proofs.Reading.{content_came, reading_ends, reading_fails, reading_large, reading_more, reading_over, reading_stops}
+use Rattle.body_reading.proofs.Taking.{takes_both}
 use Rattle.body_reading.proofs.whole.read_whole.Goals as goal
 
 pub returns-in_err-frame-clause-came : goal.returns-in_err-frame-clause-came
@@ -15,6 +18,14 @@ returns-in_err-frame-clause-came g c =
 pub returns-in_err-frame-clause-outcome : goal.returns-in_err-frame-clause-outcome
 returns-in_err-frame-clause-outcome g c = reads_whole _ _ _ _ _ (returns-in_err-frame-clause-came g c)
 
+pub returns-in_err-frame-clause-called : goal.returns-in_err-frame-clause-called
+returns-in_err-frame-clause-called g c =
+    let d = c.loop-count.invariant.reading in
+    let counted = d.counted in
+    let before = c.loop-count.invariant.calls in
+    let once = c.next_frame.ensures.once in
+    called_for _ _ _ d.came _ _ d.taken c.in_err-frame.ensures.kept (omega arith)
+
 pub returns-in_default-clause-came : goal.returns-in_default-clause-came
 returns-in_default-clause-came g c =
     let gives = rw c.in_default.is at c.in_ok-frame.ensures.gives in
@@ -25,6 +36,15 @@ returns-in_default-clause-came g c =
 
 pub returns-in_default-clause-outcome : goal.returns-in_default-clause-outcome
 returns-in_default-clause-outcome g c = reads_whole _ _ _ _ _ (returns-in_default-clause-came g c)
+
+pub returns-in_default-clause-called : goal.returns-in_default-clause-called
+returns-in_default-clause-called g c =
+    let gives = rw c.in_default.is at c.in_ok-frame.ensures.gives in
+    let d = c.loop-count.invariant.reading in
+    let counted = d.counted in
+    let before = c.loop-count.invariant.calls in
+    let once = c.next_frame.ensures.once in
+    called_for _ _ _ d.came _ _ d.taken gives.1 (omega arith)
 
 pub returns-then-sum-limit-clause-came : goal.returns-then-sum-limit-clause-came
 returns-then-sum-limit-clause-came g c =
@@ -44,6 +64,26 @@ returns-then-sum-limit-clause-came g c =
 
 pub returns-then-sum-limit-clause-outcome : goal.returns-then-sum-limit-clause-outcome
 returns-then-sum-limit-clause-outcome g c = reads_whole _ _ _ _ _ (returns-then-sum-limit-clause-came g c)
+
+pub returns-then-sum-limit-clause-called : goal.returns-then-sum-limit-clause-called
+returns-then-sum-limit-clause-called g c =
+    let gives = rw c.in-Some.is at c.in_ok-frame.ensures.gives in
+    let d = c.loop-count.invariant.reading in
+    let counted = d.counted in
+    let before = c.loop-count.invariant.calls in
+    let once = c.next_frame.ensures.once in
+    called_behind _ _ _ (d.came ++ c.in-Some.frame ∷ []) _ _ _ (takes_both _ _ _ d.came (c.in-Some.frame ∷ []) d.taken gives)
+    (omega (arith, length-append d.came (c.in-Some.frame ∷ []))) c.too_large.ensures.called
+
+pub returns-in_err-append-clause-called : goal.returns-in_err-append-clause-called
+returns-in_err-append-clause-called g c =
+    let gives = rw c.in-Some.is at c.in_ok-frame.ensures.gives in
+    let d = c.loop-count.invariant.reading in
+    let counted = d.counted in
+    let before = c.loop-count.invariant.calls in
+    let once = c.next_frame.ensures.once in
+    called_for _ _ _ (d.came ++ c.in-Some.frame ∷ []) _ _ (takes_both _ _ _ d.came (c.in-Some.frame ∷ []) d.taken gives) refl
+    (omega (arith, length-append d.came (c.in-Some.frame ∷ [])))
 
 pub returns-in_err-append-clause-came : goal.returns-in_err-append-clause-came
 returns-in_err-append-clause-came g c =
@@ -87,3 +127,10 @@ returns-clause-came g c =
 
 pub returns-clause-outcome : goal.returns-clause-outcome
 returns-clause-outcome g c = reads_whole _ _ _ _ _ (returns-clause-came g c)
+
+pub returns-clause-called : goal.returns-clause-called
+returns-clause-called g c =
+    let d = c.loop-count.invariant.reading in
+    let counted = d.counted in
+    let calls = c.loop-count.invariant.calls in
+    called_for _ _ _ d.came _ _ d.taken refl (omega arith)
