@@ -1,7 +1,7 @@
 //! What comes of a request to an API.
 ghost use Rattle.std.specs.Prelude.{◌≡◌, ◌⊎◌, ◌+◌, ◌-◌, ◌^◌, ◌<◌, ◌≤◌, [], IsErrAnd, Some};
 ghost use Rattle.http_bodies.specs.Bodies.{calls_of, frames_of, never_failing, state_of};
-ghost use Rattle.http_bodies.specs.Sources.{GoesOn, HasFailed};
+ghost use Rattle.http_bodies.specs.Sources.{CalledFor, GoesOn, HasFailed};
 ghost use Rattle.body_reading.specs.Whole.{TakesAtMost};
 ghost use Rattle.api_endpoints.specs.Endpoints.{boxed};
 ghost use Rattle.endpoint_answers.specs.BodyReads.{ReadsBodyFor};
@@ -76,9 +76,11 @@ impl ApiDescription {
             (called config.now request.now store.old) budget
             (Some (frames_of body.old)) (Some (frames_of body.new)) result }
 
-        // The body, where it counts its calls, is called at most once more than the budget, but for what a handler
-        // calls of a stream.
+        // The body, where it counts its calls, is called at most once more than the budget, and not again behind
+        // the end or an error, but for what a handler calls of a stream.
         ensures calls { calls_of body.new ≤ calls_of body.old + budget + 1 }
+        ensures called { CalledFor (Some (frames_of body.old)) (Some (frames_of body.new))
+            (calls_of body.old) (calls_of body.new) }
     {
         let (endpoints, index) = (self.endpoints.as_slice(), self.index.templates());
         exchange(
@@ -121,8 +123,11 @@ impl ApiDescription {
             (S.state source.old).left (S.state source.new).left result }
         ensures goes_on { GoesOn (S.state source.old) (S.state source.new) }
 
-        // The source, where it counts its calls, is called at most once more than the budget, to gather frames too.
+        // The source, where it counts its calls, is called at most once more than the budget, to gather frames too,
+        // and one that tells its frames not again behind the end or an error.
         ensures calls { S.calls source.new ≤ S.calls source.old + budget + 1 }
+        ensures called { CalledFor (S.state source.old).left (S.state source.new).left
+            (S.calls source.old) (S.calls source.new) }
     {
         let (endpoints, index) = (self.endpoints.as_slice(), self.index.templates());
         exchange_from(

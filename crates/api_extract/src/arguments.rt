@@ -4,7 +4,7 @@ ghost use Rattle.std.specs.Prelude.{IfOk, IsErrAnd, IsErrOf, IsTrue, OnOk};
 ghost use Rattle.std.specs.List.{list_any};
 ghost use Rattle.http_bodies.specs.Bodies.{calls_of, frames_of, never_failing, state_of};
 ghost use Rattle.http_bodies.specs.Frames.{all_data};
-ghost use Rattle.http_bodies.specs.Sources.{HasFailed};
+ghost use Rattle.http_bodies.specs.Sources.{CalledFor, HasFailed};
 ghost use Rattle.body_reading.specs.Whole.{TakesAtMost};
 ghost use Rattle.request_parts.specs.Wire.{wire_of};
 ghost use Rattle.typed_values.specs.declared.fault.Fault.{Fault as FaultValue};
@@ -95,9 +95,11 @@ pub fn extract(
         → IsTrue (list_any takes_stream slots.now)
         ⊎ ((state_of body.new).faults ≡ (state_of body.old).faults) }
 
-    // The body, where it counts its calls, is called at most once more than the budget; one that a
-    // stream takes is not called.
+    // The body, where it counts its calls, is called at most once more than the budget, and not
+    // again behind the end or an error; one that a stream takes is not called.
     ensures calls { calls_of body.new ≤ calls_of body.old + budget + 1 }
+    ensures called { CalledFor (Some (frames_of body.old)) (Some (frames_of body.new))
+        (calls_of body.old) (calls_of body.new) }
 {
     let (shared, last) = without_body(slots.as_slice());
     let args = shared_arguments(alloc, table, request, shared)?;

@@ -2,7 +2,7 @@
 ghost use Rattle.std.specs.Prelude.{◌≡◌, ◌⊎◌, ◌+◌, ◌-◌, ◌^◌, ◌<◌, ◌≤◌, [], ℕ, true, false};
 ghost use Rattle.std.specs.Prelude.{IfSome, IsErrAnd, IsErrOf, Some};
 ghost use Rattle.http_bodies.specs.Bodies.{BodyState, calls_of, frames_of, never_failing, state_of};
-ghost use Rattle.http_bodies.specs.Sources.{GoesOn, HasFailed};
+ghost use Rattle.http_bodies.specs.Sources.{CalledFor, GoesOn, HasFailed};
 ghost use Rattle.body_reading.specs.Whole.{TakesAtMost, whole};
 ghost use Rattle.request_parts.specs.Wire.{wire_of};
 ghost use Rattle.typed_values.specs.Checks.{TablePasses};
@@ -60,6 +60,8 @@ pub(crate) fn body_argument(
         → (takes_stream slot.now ≡ true)
         ⊎ ((state_of body.new).faults ≡ (state_of body.old).faults) }
     ensures calls { calls_of body.new ≤ calls_of body.old + reading.budget + 1 }
+    ensures called { CalledFor (Some (frames_of body.old)) (Some (frames_of body.new))
+        (calls_of body.old) (calls_of body.new) }
 {
     match slot {
         Slot::StreamBody => {
@@ -99,6 +101,8 @@ pub(crate) fn source_argument<S: FrameSource>(
         ⊎ ((S.state source.new).faults ≡ (S.state source.old).faults) }
     ensures goes_on { GoesOn (S.state source.old) (S.state source.new) }
     ensures calls { S.calls source.new ≤ S.calls source.old + reading.budget + 1 }
+    ensures called { CalledFor (S.state source.old).left (S.state source.new).left
+        (S.calls source.old) (S.calls source.new) }
 {
     match slot {
         Slot::StreamBody => {
@@ -138,6 +142,8 @@ fn whole_argument<S: FrameSource>(
         → (S.state source.new).faults ≡ (S.state source.old).faults }
     ensures goes_on { GoesOn (S.state source.old) (S.state source.new) }
     ensures calls { S.calls source.new ≤ S.calls source.old + reading.budget + 1 }
+    ensures called { CalledFor (S.state source.old).left (S.state source.new).left
+        (S.calls source.old) (S.calls source.new) }
 {
     let content = read_whole(alloc, source, reading.limit, reading.budget)?;
     content_argument(

@@ -2,7 +2,7 @@
 ghost use Rattle.std.specs.Prelude.{◌≡◌, ◌⊎◌, ◌+◌, ◌-◌, ◌^◌, ◌<◌, ◌≤◌, false};
 ghost use Rattle.std.specs.Prelude.{IfOk, IsErrAnd, IsErrOf, IsTrue};
 ghost use Rattle.std.specs.List.{list_any};
-ghost use Rattle.http_bodies.specs.Sources.{GoesOn, HasFailed};
+ghost use Rattle.http_bodies.specs.Sources.{CalledFor, GoesOn, HasFailed};
 ghost use Rattle.handler_shapes.specs.Arguments.{ArgsFit};
 ghost use Rattle.handler_shapes.specs.BodySlots.{takes_body};
 ghost use Rattle.api_extract.specs.declared.extract_error.ExtractError.{ExtractError as Extract};
@@ -68,8 +68,11 @@ pub fn extract_from<S: FrameSource>(
         ⊎ ((S.state source.new).faults ≡ (S.state source.old).faults) }
     ensures goes_on { GoesOn (S.state source.old) (S.state source.new) }
 
-    // It calls the source at most once more than the budget, to gather frames too.
+    // It calls the source at most once more than the budget, to gather frames too, and one that
+    // tells its frames not again behind the end or an error.
     ensures calls { S.calls source.new ≤ S.calls source.old + budget + 1 }
+    ensures called { CalledFor (S.state source.old).left (S.state source.new).left
+        (S.calls source.old) (S.calls source.new) }
 {
     let (shared, last) = without_body(slots.as_slice());
     let args = shared_arguments(alloc, table, request, shared)?;

@@ -50,6 +50,7 @@ returns-in_err-endpoint g c =
           c.args.budget (Some (frames_of c.args.body.now)) (Some (frames_of c.args.body.now)) error
           c.in_err-endpoint.ensures.unreached);
       calls = omega arith;
+      called = omega arith;
     }
 
 -- the endpoint that is reached answers requests
@@ -134,4 +135,5 @@ returns g c =
           c.answer.result reaches (rw (c.shape-shape.ensures, c.limit_at-limit.ensures) at c.extract-given.ensures.read)
           c.answer.ensures.read;
       calls = c.extract-given.ensures.calls;
+      called = c.extract-given.ensures.called;
     }

@@ -1,6 +1,7 @@
 use Rattle.std.proofs.Common.{◌≡◌, inl, inr, refl, arith}
 use Rattle.std.proofs.lemmas.Result.{err_from_is_err_and}
 use Rattle.std.specs.declared.result.Result.TheVariants.{Err}
+use Rattle.http_bodies.proofs.CallerLemmas.{called_never}
 use Rattle.handler_shapes.specs.BodySlots.{BodyComesLast}
 use Rattle.api_endpoints.specs.Endpoints.{shape_at}
 use Rattle.endpoint_answers.specs.Exchanges.{IsServable, called}
@@ -34,6 +35,7 @@ returns-in_err-endpoint g c =
           error c.in_err-endpoint.ensures.unreached);
       goes_on = record { later = omega arith; same = refl };
       calls = omega arith;
+      called = called_never (g.S.FrameSource.state c.args.source.now).left (g.S.FrameSource.calls c.args.source.now);
     }
 
 -- the endpoint that is reached answers requests
@@ -95,4 +97,5 @@ returns g c =
           c.answer.ensures.read;
       goes_on = c.extract_from-given.ensures.goes_on;
       calls = c.extract_from-given.ensures.calls;
+      called = c.extract_from-given.ensures.called;
     }

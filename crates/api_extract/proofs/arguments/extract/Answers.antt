@@ -55,6 +55,7 @@ returns-in_err-args c =
       fault = λ e. front_not_reading table request slots result told (fault_of_reading result e);
       counts = λ h. inr refl;
       calls = omega arith;
+      called = omega arith;
     }
 
 -- the answer of the slot that takes the body is pushed behind the others
@@ -97,6 +98,7 @@ returns-in-Some c =
       fault = last_fault table request slots slot last result behind c.body_argument.ensures.fault;
       counts = last_counts table request slots slot last result behind c.body_argument.ensures.counts;
       calls = c.body_argument.ensures.calls;
+      called = c.body_argument.ensures.called;
     }
 
 -- no slot takes the body
@@ -131,4 +133,5 @@ returns-in-None c =
       fault = λ e. absurd (cc e);
       counts = λ h. inr refl;
       calls = omega arith;
+      called = omega arith;
     }

@@ -3,6 +3,7 @@ use Rattle.std.proofs.lemmas.Result.{IfOk-from_err, err_from_is_err_and}
 use Rattle.std.specs.Prelude.{is_err}
 use Rattle.std.specs.List.{list_any}
 use Rattle.std.specs.declared.result.Result.TheVariants.{Ok, Err}
+use Rattle.http_bodies.proofs.CallerLemmas.{called_never}
 use Rattle.http_bodies.specs.Bodies.{never_failing}
 use Rattle.handler_shapes.specs.declared.slot.Slot.{Slot}
 use Rattle.api_extract.specs.Answers.{IsGiven}
@@ -58,6 +59,7 @@ returns-in_err-args g c =
       counts = λ h. inr refl;
       goes_on = record { later = omega arith; same = refl };
       calls = omega arith;
+      called = called_never (g.S.FrameSource.state c.args.source.now).left (g.S.FrameSource.calls c.args.source.now);
     }
 
 -- the answer of the slot that takes the body is pushed behind the others
@@ -102,6 +104,7 @@ returns-in-Some g c =
       counts = last_counts table request slots slot last result behind c.source_argument.ensures.counts;
       goes_on = c.source_argument.ensures.goes_on;
       calls = c.source_argument.ensures.calls;
+      called = c.source_argument.ensures.called;
     }
 
 -- no slot takes the body
@@ -138,4 +141,5 @@ returns-in-None g c =
       counts = λ h. inr refl;
       goes_on = record { later = omega arith; same = refl };
       calls = omega arith;
+      called = called_never (g.S.FrameSource.state c.args.source.now).left (g.S.FrameSource.calls c.args.source.now);
     }
