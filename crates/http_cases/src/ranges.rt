@@ -103,29 +103,19 @@ pub fn request_version_told(alloc: Global, case: &Json) -> Result<Json, CaseErro
     let lines = lines_of(alloc, given_items(case, "lines")?)?;
     match case.get("header") {
         Some(_) => version_by_header(alloc, case, &lines),
-        None => version_of_any(alloc, &lines),
-    }
-}
-
-fn version_of_any(alloc: Global, lines: &HeaderList) -> Result<Json, CaseError> {
-    match VersionPolicy::Unversioned.request_version(alloc, lines) {
-        Ok(Some(version)) => version_told(alloc, &version),
-        Ok(None) => say(alloc, "unversioned"),
-        Err(refusal) => refusal_told(alloc, &refusal),
+        None => asked(alloc, &VersionPolicy::Unversioned, &lines),
     }
 }
 
 fn version_by_header(alloc: Global, case: &Json, lines: &HeaderList) -> Result<Json, CaseError> {
-    asked(alloc, &policy_of(alloc, case)?, lines)
+    let policy: Box<dyn DynamicVersionPolicy> = Box::new(alloc, policy_of(alloc, case)?)?;
+    asked(alloc, &VersionPolicy::Dynamic(policy), lines)
 }
 
-fn asked(
-    alloc: Global,
-    policy: &ClientSpecifiesVersionInHeader,
-    lines: &HeaderList,
-) -> Result<Json, CaseError> {
-    match policy.request_extract_version(alloc, lines) {
-        Ok(version) => version_told(alloc, &version),
+fn asked(alloc: Global, policy: &VersionPolicy, lines: &HeaderList) -> Result<Json, CaseError> {
+    match policy.request_version(alloc, lines) {
+        Ok(Some(version)) => version_told(alloc, &version),
+        Ok(None) => say(alloc, "unversioned"),
         Err(refusal) => refusal_told(alloc, &refusal),
     }
 }
