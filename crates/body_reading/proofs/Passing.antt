@@ -8,10 +8,12 @@ use Rattle.header_lists.specs.HeaderLists.{Line}
 use Rattle.http_bodies.proofs.CallerLemmas.{all_data-more}
 use Rattle.http_bodies.specs.declared.frame.Frame.{Frame}
 use Rattle.http_bodies.specs.declared.frame.Frame.TheVariants.{Bytes, Trailers}
-use Rattle.http_bodies.specs.Bodies.{calls_of, can_fail_of, faults_of, frames_of}
+use Rattle.http_bodies.specs.Bodies.{BodyState, calls_of, can_fail_of, faults_of, frames_of}
 use Rattle.http_bodies.specs.Frames.{all_data}
+use Rattle.http_bodies.specs.Sources.{CalledFor}
 use Rattle.body_reading.specs.declared.flaw.BodyFlaw.{BodyFlaw}
-use Rattle.body_reading.specs.Streams.{Advances, SameLimits, StreamState, contents, next_in, next_of, room_of, with_content}
+use Rattle.body_reading.specs.declared.flaw.BodyFlaw.TheVariants as flaws
+use Rattle.body_reading.specs.Streams.{Advances, IsOver, SameLimits, StreamState, contents, next_in, next_of, room_of, with_content}
 use Rattle.body_reading.specs.Whole.{TakesAtMost}
 
 -- as many frames as may yet come, and one more, tell what comes next
@@ -24,6 +26,10 @@ first_enough cap sum (suc room) ((Trailers lines) ∷ fs) =
     let some : nat_lt 0 (suc room) ≡ true = grind (arith, nat_tests) in
     let less : suc room - 1 ≡ room = omega arith in
     rw (some, less) (first_enough cap sum room fs)
+
+-- for each call a frame came at least
+abbrev pub IsPaired : BodyState → BodyState → Type 0
+IsPaired old new = calls_of new + length (frames_of new) ≤ calls_of old + length (frames_of old)
 
 -- what comes next, and what is left of the room, are those of the start; trailers came meanwhile, each by one call, and
 -- none of these failed
@@ -39,6 +45,7 @@ pub record Passes (old now : StreamState) : Type 0 where
   pub faults : faults_of now.body ≡ faults_of old.body
   pub same : can_fail_of now.body ≡ can_fail_of old.body
   pub calls : calls_of now.body ≤ calls_of old.body + (room_of old - room_of now)
+  pub paired : IsPaired old.body now.body
 
 pub passes_none : (old : StreamState) → Passes old old
 passes_none old = record {
@@ -53,6 +60,7 @@ passes_none old = record {
   faults = refl;
   same = refl;
   calls = omega arith;
+  paired = omega arith;
 }
 
 -- frames came of the body, and nothing else changed but their number
@@ -64,6 +72,11 @@ pub record TakesFirst (now after : StreamState) (frame : Frame) : Type 0 where
   pub faults : faults_of after.body ≡ faults_of now.body
   pub same : can_fail_of after.body ≡ can_fail_of now.body
   pub once : calls_of after.body ≤ calls_of now.body + 1
+
+-- one call more gave a frame
+pub paired_more : (old now after : BodyState) (frame : Frame) → IsPaired old now → frames_of now ≡ frame ∷ frames_of after
+    → calls_of after ≤ calls_of now + 1 → IsPaired old after
+paired_more old now after frame paired gives once = let size = ap length gives in omega arith
 
 next_passed : (now after : StreamState) (lines : List Line) → TakesFirst now after (Trailers lines)
     → now.frames < now.budget → after.frames ≡ now.frames + 1 → next_of after ≡ next_of now
@@ -111,6 +124,7 @@ passes_more old now after lines p t room one =
           let once = t.once in
           let start = p.limits.budget in
           let budget = t.limits.budget in omega arith;
+      paired = paired_more old.body now.body after.body (Trailers lines) p.paired t.gives t.once;
     }
 
 -- a frame with content more came, and is counted
@@ -187,6 +201,29 @@ judged_called old now mid new content (Ok next) p t uncounted counted kept =
 judged_called old now mid new content (Err wrong) p t uncounted counted kept =
     subst (λ (s : StreamState). calls_of s.body ≤ calls_of old.body + (room_of old + 1 - room_of s)) (sym kept)
     (passes_called old now mid p t.once t.limits.budget uncounted)
+
+-- and each call gave a frame
+pub judged_paired : (old now mid new : StreamState) (content : List ℕ) (result : Result (Option (List ℕ)) BodyFlaw)
+    → Passes old now → TakesFirst now mid (Bytes content) → OnOk result (new ≡ with_content mid content)
+    → OnErr result (new ≡ mid) → IsPaired old.body new.body
+judged_paired old now mid new content (Ok next) p t counted kept =
+    subst (λ (s : StreamState). IsPaired old.body s.body) (sym counted)
+    (paired_more old.body now.body mid.body (Bytes content) p.paired t.gives t.once)
+judged_paired old now mid new content (Err wrong) p t counted kept =
+    subst (λ (s : StreamState). IsPaired old.body s.body) (sym kept)
+    (paired_more old.body now.body mid.body (Bytes content) p.paired t.gives t.once)
+
+-- a reader that is closed behind what is wrong with its body
+pub refused_called : (old mid new : BodyState) (flaw : BodyFlaw)
+    → CalledFor (Some (frames_of old)) (Some (frames_of mid)) (calls_of old) (calls_of mid)
+    → (IsOver (Err flaw) → IsPaired old mid)
+    → CalledFor (Some (frames_of mid)) (Some (frames_of new)) (calls_of mid) (calls_of new)
+    → (flaw ≡ flaws.Fault → calls_of new ≤ calls_of mid) → (flaw ≡ flaws.Fault → frames_of new ≡ frames_of mid)
+    → CalledFor (Some (frames_of old)) (Some (frames_of new)) (calls_of old) (calls_of new)
+refused_called old mid new flaws.Fault first over behind few same =
+    let size = ap length (same refl) in let calls = few refl in omega arith
+refused_called old mid new (flaws.TooLarge cap) first over behind few same = let paired = over tt in omega arith
+refused_called old mid new flaws.FrameBudget first over behind few same = let paired = over tt in omega arith
 
 -- a content that is given was called for once for each frame that is counted
 pub judged_each : (old now mid new : StreamState) (content : List ℕ) (result : Result (Option (List ℕ)) BodyFlaw)

@@ -4,7 +4,7 @@ ghost use Rattle.std.specs.Prelude.{if◌then◌else◌, nat_lt, length, IfOk, I
 ghost use Rattle.std.specs.Prelude.{IsErrOf, IsErr, OnErr, OnOk, is_err};
 ghost use Rattle.http_bodies.specs.Bodies.{calls_of, faults_of, frames_of, never_failing, state_of};
 ghost use Rattle.http_bodies.specs.Frames.{content_frames};
-ghost use Rattle.http_bodies.specs.Sources.{GoesOn, HasFailed};
+ghost use Rattle.http_bodies.specs.Sources.{CalledFor, GoesOn, HasFailed};
 ghost use Rattle.http_bodies.specs.declared.frame.Frame.TheVariants.{Bytes};
 ghost use Rattle.body_reading.specs.Streams.{Advances, InOrder, IsAnswer, IsExcess, IsOver};
 ghost use Rattle.body_reading.specs.Streams.{SameLimits, answer_of, closed_stream, contents};
@@ -106,8 +106,11 @@ impl StreamingBody {
             (Some (frames_of self.new.body)) }
 
         // It calls the body at most once more than frames may yet come, what it throws away with
-        // it; and for a content that it gives once for each frame that it counts.
+        // it, and not again behind the end or an error; and for a content that it gives once for
+        // each frame that it counts.
         ensures calls { calls_of self.new.body ≤ calls_of self.old.body + room_of self.old + 1 }
+        ensures called { CalledFor (Some (frames_of self.old.body)) (Some (frames_of self.new.body))
+            (calls_of self.old.body) (calls_of self.new.body) }
         ensures each { IfOk result (λ next. IfSome next (λ _. calls_of self.new.body
             ≤ calls_of self.old.body + (self.new.frames - self.old.frames))) }
 
@@ -155,6 +158,10 @@ impl StreamingBody {
             ≤ calls_of self.old.body + (room_of self.old + 1 - room_of self.new) }
         ensures each { IfOk result (λ next. IfSome next (λ _. calls_of self.new.body
             ≤ calls_of self.old.body + (self.new.frames - self.old.frames))) }
+        ensures called { CalledFor (Some (frames_of self.old.body)) (Some (frames_of self.new.body))
+            (calls_of self.old.body) (calls_of self.new.body) }
+        ensures paired { IsOver result → calls_of self.new.body + length (frames_of self.new.body)
+            ≤ calls_of self.old.body + length (frames_of self.old.body) }
         ensures room { room_of self.new ≤ room_of self.old }
         ensures fault { IsErrOf result BodyFlaw.Fault
             → HasFailed (state_of self.old.body) (state_of self.new.body) }
@@ -211,6 +218,10 @@ impl StreamingBody {
         ensures taken { TakesAtMost (room_of self.old) (Some (frames_of self.old.body))
             (Some (frames_of self.new.body)) }
         ensures calls { calls_of self.new.body ≤ calls_of self.old.body + room_of self.old }
+        ensures called { CalledFor (Some (frames_of self.old.body)) (Some (frames_of self.new.body))
+            (calls_of self.old.body) (calls_of self.new.body) }
+        ensures unasked { (flaw ≡ BodyFlaw.Fault)
+            → calls_of self.new.body ≤ calls_of self.old.body }
         ensures still { (flaw ≡ BodyFlaw.Fault)
             → frames_of self.new.body ≡ frames_of self.old.body }
         ensures fault { result ≡ stream_fault → (flaw ≡ BodyFlaw.Fault)

@@ -29,6 +29,11 @@ with_places places (key ∷ keys) place q = with_place (with_places places keys 
 abbrev pub without_last : (List ℕ → List ℕ) → List ℕ → List ℕ → List ℕ
 without_last places key q = if bytes_eq key q then take (length (places q) - 1) (places q) else places q
 
+-- the last place at each of some keys away, at the first key first
+abbrev pub without_lasts : (List ℕ → List ℕ) → List (List ℕ) → List ℕ → List ℕ
+without_lasts places [] q = places q
+without_lasts places (key ∷ keys) q = without_lasts (without_last places key) keys q
+
 -- one more place before others, if it has a key
 abbrev pub if_keyed : List ℕ → List (List ℕ) → ℕ → List ℕ → List ℕ
 if_keyed q keys place places = if list_any (λ key. bytes_eq key q) keys then place ∷ places else places

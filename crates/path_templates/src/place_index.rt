@@ -1,6 +1,6 @@
 //! The places of things in a list, by their keys.
 ghost use Rattle.std.specs.Prelude.{◌≡◌, ◌-◌, [], OnErr, OnOk, List as ListOf, ℕ, length, take};
-ghost use Rattle.path_templates.specs.Places.{places_at, with_place, with_places, without_last};
+ghost use Rattle.path_templates.specs.Places.{places_at, with_place, with_places, without_last, without_lasts};
 
 use schema_values::{List, Text};
 use std::alloc::{AllocError, Global};
@@ -67,11 +67,10 @@ impl PlaceIndex {
         Ok(())
     }
 
-    /// Takes back the place that was added last at each of some keys.
+    /// Takes back the place that was added last at each of some keys; at a key that has none, none.
     pub fn take_back(&mut self, keys: &[Text])
-        ensures { (places : ListOf ℕ → ListOf ℕ) (place : ℕ)
-            → ((q : ListOf ℕ) → places_at self.old q ≡ with_places places keys.now place q)
-            → (q : ListOf ℕ) → places_at self.new q ≡ places q }
+        ensures { (q : ListOf ℕ)
+            → places_at self.new q ≡ without_lasts (places_at self.old) keys.now q }
     {
         let mut rest = keys;
         while let Some((key, others)) = rest.split_first() {

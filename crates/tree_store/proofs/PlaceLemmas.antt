@@ -5,7 +5,7 @@ use Rattle.std.specs.List.{position, position_from}
 use Rattle.std.proofs.Math.ListN.{set}
 use Rattle.std.proofs.lemmas.List.Quantifiers.{position-Some}
 use Rattle.std.proofs.lemmas.Iterator.Adapters.{position_from-zero}
-use Rattle.tree_store.specs.Tables.{Pairs, Tables, changed, pairs_of}
+use Rattle.tree_store.specs.Tables.{IsAbsent, Pairs, Tables, changed, pairs_of}
 
 -- the first table of the name stands at this place
 record IsFirst (name : List ℕ) (ts : Tables) (place : ℕ) (t : List ℕ × Pairs) : Type 0 where
@@ -72,3 +72,9 @@ pub changed-absent : (name : List ℕ) (change : Pairs → Pairs) (ts copy : Tab
     → changed name change ts ≡ ts ++ (name, change []) ∷ []
 changed-absent name change ts copy absent same =
     changed-absent_from name change ts 0 (sym (position_from-zero (λ u. bytes_eq name u.0) ts) ∙ sym (rw same at absent))
+
+-- a table with a place is not absent
+pub none_absent : (name : List ℕ) (ts : Tables) (place : ℕ) (copy : Tables)
+    → Some place ≡ position (λ u. bytes_eq name u.0) copy → copy ≡ ts → IsAbsent name ts → ⊥
+none_absent name ts place copy found same absent =
+    let clash : Some place ≡ None = found ∙ ap (position (λ u. bytes_eq name u.0)) same ∙ absent in cc

@@ -1,6 +1,6 @@
 -- A store: tables by name, each with trees by key in ascending order of the keys' bytes in UTF-8.
-use Rattle.std.specs.Prelude.{ℕ, List, [], ◌∷◌, Option, Some, None, if◌then◌else◌, bytes_eq}
-use Rattle.std.specs.List.{filter}
+use Rattle.std.specs.Prelude.{◌≡◌, ℕ, List, [], ◌∷◌, Option, Some, None, if◌then◌else◌, bytes_eq}
+use Rattle.std.specs.List.{filter, position}
 use Rattle.std.specs.List.Sorted.{IsStrictlySortedBy}
 use Rattle.std.specs.Map.{keys_of}
 use Rattle.std.specs.Ordering.{is_lt, nat_cmp, match_ordering}
@@ -20,6 +20,10 @@ Tables = List (List ℕ × Pairs)
 -- each key stands before those after it, by its bytes, so no two are the same
 abbrev pub Ascend : Pairs → Type 0
 Ascend pairs = IsStrictlySortedBy (slice_cmp nat_cmp) (keys_of pairs)
+
+-- no table has the name
+abbrev pub IsAbsent : List ℕ → Tables → Type 0
+IsAbsent name tables = position (λ t. bytes_eq name t.0) tables ≡ None
 
 -- a table that is absent is an empty one
 abbrev pub pairs_of : List ℕ → Tables → Pairs

@@ -1,9 +1,9 @@
 //! Ordered tables of trees, by name.
-ghost use Rattle.std.specs.Prelude.{◌≡◌, [], IfOk, IsSome, None, OnErr, OnOk, bytes_eq, length, map};
+ghost use Rattle.std.specs.Prelude.{◌≡◌, [], IfOk, IsOk, IsSome, None, OnErr, OnOk, bytes_eq, length, map};
 ghost use Rattle.std.specs.Prelude.{option_map, take};
 ghost use Rattle.std.specs.List.{position};
-ghost use Rattle.tree_store.specs.Tables.{Ascend, changed, pair_of, pairs_above, pairs_of};
-ghost use Rattle.tree_store.specs.Tables.{pairs_with, pairs_without, stored};
+ghost use Rattle.tree_store.specs.Tables.{Ascend, IsAbsent, changed, pair_of, pairs_above};
+ghost use Rattle.tree_store.specs.Tables.{pairs_of, pairs_with, pairs_without, stored};
 
 use crate::table::Table;
 use descriptors::{Pair, Tree};
@@ -109,11 +109,12 @@ impl Store {
     }
 
     /// The pairs of the `count` least keys of a table, fewer where it has fewer, with copies of their trees.
-    /// Fails only for want of memory.
+    /// Fails only for want of memory, and never where there are none.
     pub fn first(&self, alloc: Global, table: &str, count: u32) -> Result<List<Pair>, AllocError>
         ensures ascends { Ascend (pairs_of table.now self.now) }
         ensures pairs { IfOk result (λ pairs. pairs
             ≡ map pair_of (take count (pairs_of table.now self.now))) }
+        ensures none { take count (pairs_of table.now self.now) ≡ [] → IsOk result }
     {
         match place_of(self.tables.as_slice(), table) {
             Some(place) => self.tables[place].first(alloc, count as usize),
@@ -122,7 +123,8 @@ impl Store {
     }
 
     /// The pairs of the `count` least keys of a table that are greater than this key, by their bytes, fewer
-    /// where it has fewer, with copies of their trees. Fails only for want of memory.
+    /// where it has fewer, with copies of their trees. Fails only for want of memory, and never where the
+    /// table is absent.
     pub fn after(
         &self,
         alloc: Global,
@@ -133,6 +135,7 @@ impl Store {
         ensures ascends { OnOk result (Ascend (pairs_of table.now self.now)) }
         ensures pairs { IfOk result (λ pairs. pairs
             ≡ map pair_of (take count (pairs_above key.now (pairs_of table.now self.now)))) }
+        ensures absent { IsAbsent table.now self.now → IsOk result }
     {
         match place_of(self.tables.as_slice(), table) {
             Some(place) => self.tables[place].after(alloc, key, count as usize),

@@ -1,5 +1,5 @@
 // A table: trees by key, in ascending order of the keys' bytes.
-ghost use Rattle.std.specs.Prelude.{◌≡◌, ◌∷◌, [], IfOk, None, OnErr, OnOk, bytes_eq, length, map};
+ghost use Rattle.std.specs.Prelude.{◌≡◌, ◌∷◌, [], IfOk, IsOk, None, OnErr, OnOk, bytes_eq, length, map};
 ghost use Rattle.std.specs.Prelude.{option_map, take};
 ghost use Rattle.tree_store.specs.Tables.{Ascend, pair_of, pairs_above, pairs_with, pairs_without, tree_at};
 ghost use Rattle.tree_store.specs.TableView.{pairs_of_entries};
@@ -121,6 +121,7 @@ impl Table {
     pub(crate) fn first(&self, alloc: Global, count: usize) -> Result<List<Pair>, AllocError>
         ensures ascends { Ascend self.now.1 }
         ensures pairs { IfOk result (λ pairs. pairs ≡ map pair_of (take count self.now.1)) }
+        ensures none { take count self.now.1 ≡ [] → IsOk result }
     {
         copy_pairs(alloc, self.trees.range(..), count)
     }
@@ -151,7 +152,8 @@ fn copy_pairs(
     entries: Range<'_, String, Tree>,
     count: usize,
 ) -> Result<List<Pair>, AllocError>
-    ensures { IfOk result (λ pairs. pairs ≡ map pair_of (take count (pairs_of_entries entries.entry))) }
+    ensures pairs { IfOk result (λ pairs. pairs ≡ map pair_of (take count (pairs_of_entries entries.entry))) }
+    ensures none { take count (pairs_of_entries entries.entry) ≡ [] → IsOk result }
 {
     let mut pairs = List::new(alloc);
     for (key, value) in entries.take(count) {

@@ -1,5 +1,6 @@
-use Rattle.std.proofs.Common.{refl}
+use Rattle.std.proofs.Common.{refl, ◌∙◌}
 use Rattle.std.proofs.lemmas.Result.{err_from_is_err_and}
+use Rattle.path_templates.proofs.CallerLemmas.{lasts_back}
 use Rattle.path_templates.specs.Places.{places_at}
 use Rattle.endpoint_checks.proofs.index.add_path.Goals as goal
 
@@ -21,4 +22,4 @@ returns-in-Ok-clause-templates c = c.in-Ok.ensures.ok
 
 pub returns-clause-err : goal.returns-clause-err
 returns-clause-err c =
-    (c.take_back.ensures (places_at c.args.shapes.now) c.args.place c.in_ok-add_all.ensures.ok, c.in-Err.ensures.err)
+    (λ q. c.take_back.ensures q ∙ lasts_back (places_at c.args.shapes.now) c.args.place _ _ c.in_ok-add_all.ensures.ok q, c.in-Err.ensures.err)

@@ -2,6 +2,7 @@ use Rattle.std.proofs.Common.{[], ◌∷◌, ◌++◌, List, ap, length, map, re
 use Rattle.std.proofs.lemmas.List.{length-map, map-append}
 use Rattle.std.proofs.lemmas.List.Elements.{All-weaker}
 use Rattle.std.proofs.lemmas.Result.{err_from_is_err_and}
+use Rattle.path_templates.proofs.CallerLemmas.{lasts_back}
 use Rattle.path_templates.specs.Places.{places_at}
 use Rattle.api_declarations.specs.Keys.{shape_keys}
 use Rattle.api_declarations.specs.Values.{DeclarationValue}
@@ -58,7 +59,8 @@ pub returns-clause-err : goal.returns-clause-err
 returns-clause-err g c = record {
   templates = c.in-Err.ensures.err.1;
   shapes = c.in-Err.ensures.err.0;
-  definitions = c.take_back.ensures (places_at c.args.self.now.definitions) (length c.args.before.now) c.in_ok-add_all.ensures.ok;
+  definitions = λ q. c.take_back.ensures q
+      ∙ lasts_back (places_at c.args.self.now.definitions) (length c.args.before.now) _ _ c.in_ok-add_all.ensures.ok q;
 }
 
 pub returns-clause-kept : goal.returns-clause-kept

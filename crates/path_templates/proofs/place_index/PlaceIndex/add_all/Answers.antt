@@ -1,7 +1,7 @@
 use Rattle.std.proofs.Common.{◌≡◌, ◌+◌, ℕ, List, [], ◌∷◌, ◌++◌, ap, arith, sym, take, take_all, subst, ◌∙◌}
 use Rattle.std.proofs.lemmas.List.{take_more}
 use Rattle.path_templates.specs.Places.{places_at, with_places}
-use Rattle.path_templates.proofs.TakenBack.{places_more}
+use Rattle.path_templates.proofs.TakenBack.{lasts_back, places_more}
 use Rattle.path_templates.proofs.place_index.PlaceIndex.add_all.Goals as goal
 
 pub loop-index-preserved : goal.loop-index-preserved
@@ -17,7 +17,10 @@ loop-index-preserved c =
 
 pub returns-in-Err-clause-err : goal.returns-in-Err-clause-err
 returns-in-Err-clause-err c =
-    c.take_back.ensures (places_at c.args.self.now) c.args.place (λ q. c.in-Err.ensures.err q ∙ c.loop-index.invariant q)
+    let keys = take c.loop-index.index c.args.keys.now in
+    λ q. c.take_back.ensures q
+    ∙ lasts_back (places_at c.args.self.now) c.args.place keys (places_at c.add_copy.new.self)
+    (λ r. c.in-Err.ensures.err r ∙ c.loop-index.invariant r) q
 
 pub returns-clause-ok : goal.returns-clause-ok
 returns-clause-ok c =

@@ -2,7 +2,7 @@ use Rattle.std.proofs.Common.{◌≡◌, ◌∙◌, ap, map, subst, sym, take}
 use Rattle.std.specs.Prelude.{IfOk, OnOk}
 use Rattle.tree_store.specs.Tables.{Ascend, pair_of, pairs_above, pairs_of}
 use Rattle.tree_store.proofs.MapLemmas.{none_ascend, take_none}
-use Rattle.tree_store.proofs.PlaceLemmas.{pairs_of-absent, pairs_of-at}
+use Rattle.tree_store.proofs.PlaceLemmas.{none_absent, pairs_of-absent, pairs_of-at}
 use Rattle.tree_store.proofs.store.Store.after.Goals as goal
 
 pub returns-in-Some-clause-ascends : goal.returns-in-Some-clause-ascends
@@ -28,3 +28,8 @@ returns-in-None-clause-pairs c =
     let none = pairs_of-absent c.args.table.now c.self.inside.tables.items c.as_slice.result.now c.in-None.ensures c.as_slice.ensures.value in
     c.new.ensures
     ∙ ap (map pair_of) (sym (take_none c.args.count _ (ap (pairs_above c.args.key.now) (sym (ap (pairs_of c.args.table.now) c.self.view_is) ∙ none))))
+
+pub returns-in-Some-clause-absent : goal.returns-in-Some-clause-absent
+returns-in-Some-clause-absent c absent =
+    absurd (none_absent c.args.table.now c.args.self.now c.in-Some.place c.as_slice.result.now c.in-Some.ensures
+    (c.as_slice.ensures.value ∙ c.self.view_is) absent)

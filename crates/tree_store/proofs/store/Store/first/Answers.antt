@@ -27,3 +27,9 @@ pub returns-in-None-clause-pairs : goal.returns-in-None-clause-pairs
 returns-in-None-clause-pairs c =
     let none = pairs_of-absent c.args.table.now c.self.inside.tables.items c.as_slice.result.now c.in-None.ensures c.as_slice.ensures.value in
     c.new.ensures ∙ ap (map pair_of) (sym (take_none c.args.count _ (sym (ap (pairs_of c.args.table.now) c.self.view_is) ∙ none)))
+
+pub returns-in-Some-clause-none : goal.returns-in-Some-clause-none
+returns-in-Some-clause-none c =
+    let pairs = pairs_of-at c.args.table.now c.self.inside.tables.items c.in-Some.place c.index.result.now c.as_slice.result.now
+    c.in-Some.ensures c.as_slice.ensures.value c.index.ensures in
+    λ none. c.first.ensures.none (ap (take c.args.count) (sym (sym pairs ∙ ap (pairs_of c.args.table.now) c.self.view_is)) ∙ none)

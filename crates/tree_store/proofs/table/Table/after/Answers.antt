@@ -9,7 +9,7 @@ use Rattle.tree_store.proofs.table.Table.after.Goals as goal
 pub returns-clause-ascends : goal.returns-clause-ascends
 returns-clause-ascends c =
     IfOk-weaker c.copy_pairs.result _ _
-    (λ _ _. subst (λ table. Ascend table.1) c.self.view_is (ascending c.self.inside.trees.entries c.range.ensures.ordered)) c.copy_pairs.ensures
+    (λ _ _. subst (λ table. Ascend table.1) c.self.view_is (ascending c.self.inside.trees.entries c.range.ensures.ordered)) c.copy_pairs.ensures.pairs
 
 pub returns-clause-pairs : goal.returns-clause-pairs
 returns-clause-pairs c =
@@ -17,4 +17,4 @@ returns-clause-pairs c =
     let shown = ap pairs_of_entries (c.range.ensures.between tt) ∙ between_after entries c.in_ok-key.key
     ∙ ap (λ bytes. pairs_above bytes (pairs_of_entries entries)) c.in_ok-key.ensures.ok
     ∙ ap (λ table. pairs_above c.args.key.now table.1) c.self.view_is in
-    subst (λ ps. IfOk c.copy_pairs.result (λ pairs. pairs ≡ map pair_of (take c.args.count ps))) shown c.copy_pairs.ensures
+    subst (λ ps. IfOk c.copy_pairs.result (λ pairs. pairs ≡ map pair_of (take c.args.count ps))) shown c.copy_pairs.ensures.pairs
