@@ -32,4 +32,4 @@ pub returns-in-Some-clause-none : goal.returns-in-Some-clause-none
 returns-in-Some-clause-none c =
     let pairs = pairs_of-at c.args.table.now c.self.inside.tables.items c.in-Some.place c.index.result.now c.as_slice.result.now
     c.in-Some.ensures c.as_slice.ensures.value c.index.ensures in
-    λ none. c.first.ensures.none (ap (take c.args.count) (sym (sym pairs ∙ ap (pairs_of c.args.table.now) c.self.view_is)) ∙ none)
+    λ none. c.first.ensures.none (ap (take c.args.count) (sym pairs ∙ ap (pairs_of c.args.table.now) c.self.view_is) ∙ none)
