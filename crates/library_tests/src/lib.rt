@@ -8,6 +8,8 @@ mod endpoints;
 #[cfg(test)]
 mod ends;
 #[cfg(test)]
+mod lines;
+#[cfg(test)]
 mod points;
 #[cfg(test)]
 mod runs;

@@ -8,7 +8,7 @@ use type_wire::json_value;
 use typed_values::Tree;
 
 /// The value that a text of JSON is read as.
-fn read<T: ApiType>(alloc: Global, text: &str) -> Option<T> {
+pub(crate) fn read<T: ApiType>(alloc: Global, text: &str) -> Option<T> {
     let table = table_of::<T>(alloc).ok()?;
     let json = Json::read(alloc, text.as_bytes()).ok()?;
     json_value(alloc, &table, &json).ok()

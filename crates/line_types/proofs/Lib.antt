@@ -1,0 +1,4 @@
+pub mod Inside
+pub mod Choices
+pub mod Headers
+pub mod Values

@@ -1,0 +1,68 @@
+//! What the variables of a path stand for in a line.
+ghost use Rattle.std.specs.Prelude.{[], codes};
+ghost use Rattle.request_lines.specs.RequestLines.{variable_desc, variable_tree};
+ghost use Rattle.line_types.specs.LineTypes.{line_variable};
+
+use crate::choice::{chosen, untagged};
+use api_types::ApiType;
+use schema_values::{List, Text};
+use std::alloc::{AllocError, Global};
+use typed_values::{AddError, Desc, DescTable, Tree};
+
+/// What a variable of a path stands for, as it stands in a line: a text, or a list of texts.
+#[derive(Drop)]
+pub enum LineVariable {
+    /// One component of the path.
+    Text(Text),
+    /// The components that are left of the path, in their order.
+    Components(List<Text>),
+}
+
+impl ApiType for LineVariable {
+    ghost name_of = { codes "LineVariable" };
+
+    ghost desc_of = { variable_desc };
+
+    ghost definitions_of = { [] };
+
+    ghost tree_of = { λ variable. variable_tree (line_variable variable) };
+
+    fn type_name(alloc: Global) -> Result<Text, AllocError> {
+        Text::from_ascii(alloc, "LineVariable")
+    }
+
+    fn descriptor(alloc: Global) -> Result<Desc, AllocError> {
+        untagged::<Text, List<Text>>(alloc)
+    }
+
+    fn reach() {}
+
+    fn add_definitions(_alloc: Global, _table: &mut DescTable) -> Result<(), AddError> {
+        Ok(())
+    }
+
+    fn to_tree(&self, alloc: Global) -> Result<Tree, AllocError> {
+        match self {
+            LineVariable::Text(text) => chosen(alloc, 0, text),
+            LineVariable::Components(texts) => chosen(alloc, 1, texts),
+        }
+    }
+
+    fn fits(&self) {
+        match self {
+            LineVariable::Text(text) => text.fits(),
+            LineVariable::Components(texts) => texts.fits(),
+        }
+    }
+
+    fn from_tree(alloc: Global, tree: &Tree) -> Result<LineVariable, AllocError> {
+        match tree {
+            Tree::Variant(0, text) => Ok(LineVariable::Text(Text::from_tree(alloc, text.get())?)),
+            Tree::Variant(_, texts) => Ok(LineVariable::Components(<List<Text>>::from_tree(
+                alloc,
+                texts.get(),
+            )?)),
+            _ => unreachable!(),
+        }
+    }
+}
