@@ -94,8 +94,9 @@ module _ (d e : Desc) where
       sym (ap (choice_fits (fits_under table either) both) (ap out-Tree e ∙ trees.outs-Variant i s))
       ∙ sym (choice_row table either both t) ∙ fit
 
-  pub first_at : (t s : Tree) → FitsOne [] either t → t ≡ trees.Variant 0 s → FitsOne [] d s
-  first_at t s (table, is, fit) e = inner_one either d (stands 0 d refl) s table is (place_row table t 0 s e fit)
+  pub first_at : (t : Tree) (i : ℕ) (s : Tree) → FitsOne [] either t → t ≡ trees.Variant i s → i ≡ 0 → FitsOne [] d s
+  first_at t i s (table, is, fit) q here =
+      inner_one either d (stands 0 d refl) s table is (place_row table t 0 s (q ∙ ap (λ (j : ℕ). trees.Variant j s) here) fit)
 
   -- a place that is not the first is the second
   pub second_at : (t : Tree) (i : ℕ) (s : Tree) → FitsOne [] either t → t ≡ trees.Variant i s → (i ≡ 0 → ⊥)

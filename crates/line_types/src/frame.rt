@@ -1,6 +1,8 @@
 //! Frames of a body in a request line.
-ghost use Rattle.std.specs.Prelude.{◌∷◌, [], codes, true};
+ghost use Rattle.std.specs.Prelude.{◌≡◌, ◌∷◌, [], codes, true, IfOk};
+ghost use Rattle.descriptors.specs.declared.tree.Tree.TheVariants as trees;
 ghost use Rattle.api_types.specs.Heads.{required, struct_of};
+ghost use Rattle.api_types.specs.Types.{FitsOne};
 ghost use Rattle.request_lines.specs.RequestLines.{frame_desc, frame_tree};
 ghost use Rattle.line_types.specs.LineTypes.{line_frame};
 
@@ -105,12 +107,20 @@ impl ApiType for LineFrame {
 
     fn from_tree(alloc: Global, tree: &Tree) -> Result<LineFrame, AllocError> {
         match tree {
-            Tree::Variant(0, text) => Ok(LineFrame::Text(Text::from_tree(alloc, text.get())?)),
-            Tree::Variant(_, digits) => Ok(LineFrame::Digits(LineDigits::from_tree(
-                alloc,
-                digits.get(),
-            )?)),
+            Tree::Variant(place, value) => frame_at(alloc, *place, value.get()),
             _ => unreachable!(),
         }
+    }
+}
+
+// The frame of a value whose alternative stands at a place.
+fn frame_at(alloc: Global, place: u32, value: &Tree) -> Result<LineFrame, AllocError>
+    requires { FitsOne [] frame_desc (trees.Variant place value.now) }
+    ensures { IfOk result (λ frame. frame_tree (line_frame frame) ≡ trees.Variant place value.now) }
+{
+    if place == 0 {
+        Ok(LineFrame::Text(Text::from_tree(alloc, value)?))
+    } else {
+        Ok(LineFrame::Digits(LineDigits::from_tree(alloc, value)?))
     }
 }

@@ -1,7 +1,8 @@
 //! Request lines.
-ghost use Rattle.std.specs.Prelude.{◌∷◌, [], codes, true};
+ghost use Rattle.std.specs.Prelude.{◌≡◌, ◌∷◌, [], codes, true, IfOk, IsTrue};
+ghost use Rattle.schema_values.specs.Ascii.{all_ascii};
 ghost use Rattle.descriptors.specs.declared.tree.Tree.TheVariants as trees;
-ghost use Rattle.api_types.specs.Heads.{required, struct_of, with_default};
+ghost use Rattle.api_types.specs.Heads.{required, struct_of, with_default, with_field};
 
 use crate::frame::LineFrame;
 use crate::header::LineHeader;
@@ -87,15 +88,10 @@ impl ApiStruct for RequestLine {
             .required(alloc, "method")?
             .required(alloc, "template")?
             .required(alloc, "request_id")?;
-        let root = Tree::Text(Text::from_ascii(alloc, "/")?);
-        let uri = FieldHead::with_default(alloc, "uri", root)?;
-        let none = Tree::Map(List::new(alloc));
-        let variables = FieldHead::with_default(alloc, "variables", none)?;
-        let none = Tree::List(List::new(alloc));
-        let headers = FieldHead::with_default(alloc, "headers", none)?;
-        let none = Tree::List(List::new(alloc));
-        let frames = FieldHead::with_default(alloc, "frames", none)?;
-        head.with(uri)?.with(variables)?.with(headers)?.with(frames)
+        let head = with_target(alloc, head)?;
+        let head = defaulted(alloc, head, "variables", Tree::Map(List::new(alloc)))?;
+        let head = defaulted(alloc, head, "headers", Tree::List(List::new(alloc)))?;
+        defaulted(alloc, head, "frames", Tree::List(List::new(alloc)))
     }
 
     fn trees(&self, alloc: Global) -> Result<List<Tree>, AllocError> {
@@ -136,4 +132,26 @@ impl ApiStruct for RequestLine {
             frames,
         }
     }
+}
+
+// The struct with one more field, of the target: the root where it is absent.
+fn with_target(alloc: Global, head: StructHead) -> Result<StructHead, AllocError>
+    ensures { IfOk result (λ made. made
+        ≡ with_field (with_default (codes "uri") (trees.Text (codes "/"))) head) }
+{
+    let root = Text::from_ascii(alloc, "/")?;
+    defaulted(alloc, head, "uri", Tree::Text(root))
+}
+
+// The struct with one more field of this name, which has this tree where it is absent.
+fn defaulted(
+    alloc: Global,
+    head: StructHead,
+    name: &str,
+    tree: Tree,
+) -> Result<StructHead, AllocError>
+    requires { IsTrue (all_ascii name.now) }
+    ensures { IfOk result (λ made. made ≡ with_field (with_default name.now tree) head) }
+{
+    head.with(FieldHead::with_default(alloc, name, tree)?)
 }

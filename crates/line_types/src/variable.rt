@@ -1,5 +1,7 @@
 //! What the variables of a path stand for in a line.
-ghost use Rattle.std.specs.Prelude.{[], codes};
+ghost use Rattle.std.specs.Prelude.{◌≡◌, [], codes, IfOk};
+ghost use Rattle.descriptors.specs.declared.tree.Tree.TheVariants as trees;
+ghost use Rattle.api_types.specs.Types.{FitsOne};
 ghost use Rattle.request_lines.specs.RequestLines.{variable_desc, variable_tree};
 ghost use Rattle.line_types.specs.LineTypes.{line_variable};
 
@@ -57,12 +59,20 @@ impl ApiType for LineVariable {
 
     fn from_tree(alloc: Global, tree: &Tree) -> Result<LineVariable, AllocError> {
         match tree {
-            Tree::Variant(0, text) => Ok(LineVariable::Text(Text::from_tree(alloc, text.get())?)),
-            Tree::Variant(_, texts) => Ok(LineVariable::Components(<List<Text>>::from_tree(
-                alloc,
-                texts.get(),
-            )?)),
+            Tree::Variant(place, value) => variable_at(alloc, *place, value.get()),
             _ => unreachable!(),
         }
+    }
+}
+
+// The variable of a value whose alternative stands at a place.
+fn variable_at(alloc: Global, place: u32, value: &Tree) -> Result<LineVariable, AllocError>
+    requires { FitsOne [] variable_desc (trees.Variant place value.now) }
+    ensures { IfOk result (λ variable. variable_tree (line_variable variable) ≡ trees.Variant place value.now) }
+{
+    if place == 0 {
+        Ok(LineVariable::Text(Text::from_tree(alloc, value)?))
+    } else {
+        Ok(LineVariable::Components(<List<Text>>::from_tree(alloc, value)?))
     }
 }
