@@ -4,6 +4,10 @@
 #[cfg(test)]
 mod bodies;
 #[cfg(test)]
+mod codes;
+#[cfg(test)]
+mod copies;
+#[cfg(test)]
 mod endpoints;
 #[cfg(test)]
 mod ends;
