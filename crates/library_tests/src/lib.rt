@@ -14,6 +14,8 @@ mod ends;
 #[cfg(test)]
 mod lines;
 #[cfg(test)]
+mod maps;
+#[cfg(test)]
 mod points;
 #[cfg(test)]
 mod runs;
