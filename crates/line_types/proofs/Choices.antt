@@ -18,7 +18,7 @@ use Rattle.typed_values.specs.Levels.{DescLevel, PairOf, TreeOf, same_pair}
 use Rattle.typed_values.specs.Parts.{StandsIn, in_alternative, the_whole}
 use Rattle.typed_values.specs.Reached.{Mentions}
 use Rattle.typed_values.proofs.CallerLemmas.{alternative_inside}
-use Rattle.api_types.specs.Types.{FitsEach, FitsOne, IsTableOf, ReachesExactly}
+use Rattle.api_types.specs.Types.{FitsEach, FitsOne, ReachesExactly}
 use Rattle.line_types.proofs.Inside.{in_child, inner_each, inner_one, mentions_none, reaches_none}
 
 module _ (table : List Definition) (whole : Desc) (ds : List Desc) where

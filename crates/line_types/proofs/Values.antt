@@ -1,5 +1,5 @@
 -- The members that values say: each line's members are those of a value.
-use Rattle.std.proofs.Common.{◌≡◌, ◌↔◌, ℕ, List, [], ◌∷◌, map, refl, sym, ◌∙◌, ap, ap₂, subst, inl}
+use Rattle.std.proofs.Common.{◌≡◌, ◌↔◌, ℕ, List, [], ◌∷◌, map, refl, sym, ap, ap₂, subst, inl}
 use Rattle.std.proofs.lemmas.Simd.{map-map}
 use Rattle.std_collections.specs.Layout.BTreeMap.{btree_map}
 use Rattle.schema_values.specs.declared.variables.VariableValue.{VariableValue}
@@ -8,8 +8,8 @@ use Rattle.descriptors.specs.declared.tree.Tree.{Tree}
 use Rattle.descriptors.specs.declared.tree.Tree.TheVariants as trees
 use Rattle.api_types.specs.Maps.{pair_of}
 use Rattle.http_bodies.specs.declared.frame.Frame.{Frame}
-use Rattle.request_parts.specs.Requests.{Request, Variables}
-use Rattle.request_lines.specs.RequestLines.{AreMade, AsksFor, HasMembers, HasTree, Members, WrittenFrame, WrittenLine}
+use Rattle.request_parts.specs.Requests.{Request}
+use Rattle.request_lines.specs.RequestLines.{AreMade, AsksFor, HasMembers, Members, WrittenFrame, WrittenLine}
 use Rattle.request_lines.specs.RequestLines.{as_hex, as_text, frame_tree, line_tree, members_tree, variable_tree}
 use Rattle.semver.specs.Parse.{Parts}
 use Rattle.line_types.specs.LineTypes.{line_entry, line_frame, line_header, line_members, line_variable}

@@ -1,11 +1,31 @@
 //! What the type of request lines has to do with them.
-ghost use Rattle.std.specs.Prelude.{◌↔◌, List, ℕ};
+ghost use Rattle.std.specs.Prelude.{◌≡◌, ◌↔◌, IfOk, List, ℕ};
 ghost use Rattle.semver.specs.Parse.{Parts};
 ghost use Rattle.http_bodies.specs.declared.frame.Frame.{Frame};
 ghost use Rattle.request_parts.specs.Requests.{Request};
 ghost use Rattle.request_lines.specs.RequestLines.{AreMade, AsksFor, HasMembers};
+ghost use Rattle.request_lines.specs.RequestLines.{members_desc, members_tree};
 ghost use Rattle.line_types.specs.LineTypes.{line_members};
 ghost use Rattle.line_types.specs.declared.request_line.RequestLine.{RequestLine as LineValue};
+
+use crate::request_line::RequestLine;
+use api_types::ApiType;
+use std::alloc::{AllocError, Global};
+use typed_values::{Desc, Tree};
+
+/// The descriptor of the type, which is that of the members of a line. Fails only for want of memory.
+pub fn line_descriptor(alloc: Global) -> Result<Desc, AllocError>
+    ensures { IfOk result (λ desc. desc ≡ members_desc) }
+{
+    RequestLine::descriptor(alloc)
+}
+
+/// The tree of a value, which is that of the members that it says. Fails only for want of memory.
+pub fn line_tree(alloc: Global, line: &RequestLine) -> Result<Tree, AllocError>
+    ensures { IfOk result (λ tree. tree ≡ members_tree (line_members line.now)) }
+{
+    line.to_tree(alloc)
+}
 
 /// A line asks for what is made of the members of a value that it says, and for nothing else. It does nothing: its
 /// clause is for proofs.
