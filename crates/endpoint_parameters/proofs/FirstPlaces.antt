@@ -1,19 +1,28 @@
 -- The first place at which something holds of a thing, and the thing that is lent there.
-use Rattle.std.proofs.Common.{◌≡◌, inl, inr, ◌⊎◌, ℕ, ◌+◌, ◌<◌, List, length, take, get_or, Option, Some, None, sym, subst, arith}
-use Rattle.std.specs.Prelude.{MatchOption}
+use Rattle.std.proofs.Common.{◌≡◌, inl, inr, ◌⊎◌, ℕ, ◌+◌, ◌<◌, List, [], ◌∷◌, length, take, get_or, Option, Some, None, sym, subst, arith}
+use Rattle.std.specs.Prelude.{Contains, MatchOption}
 use Rattle.std.specs.List.{ItemBy}
-use Rattle.std.proofs.lemmas.List.{get_or-take, length-take-le}
-use Rattle.std.proofs.lemmas.List.Elements.{All-more, All-weaker}
+use Rattle.std.proofs.lemmas.List.{get_or-take, length-take-le, take_more}
+use Rattle.std.proofs.lemmas.List.Elements.{All-more, All-weaker, Contains-append_left, Contains-push}
 use Rattle.std.proofs.lemmas.Option.{get_or_from_slice_get, slice_get-get_or}
 use Rattle.endpoint_parameters.specs.Firsts.{IsFirstOf, IsFirstPlace, IsSuchAt, NoneOf}
 use Rattle.endpoint_parameters.proofs.Firsts.{first_at}
 
 module _ {A : Type 0} (Holds : A → Type 0) (things : List A) where
   module _ (places : List ℕ) (end first i : ℕ) (inside : i < length places) (so_far : IsFirstPlace Holds things (take i places) end first) where
+    -- the places that were read are those before this one, and it
+    read_before : (q : ℕ) → Contains (take i places) q → Contains (take (i + 1) places) q
+    read_before q among =
+        subst (λ (ps : List ℕ). Contains ps q) (sym (take_more places i 0 inside)) (Contains-append_left (take i places) (get_or places i 0 ∷ []) q among)
+
+    read_here : Contains (take (i + 1) places) (get_or places i 0)
+    read_here = subst (λ (ps : List ℕ). Contains ps (get_or places i 0)) (sym (take_more places i 0 inside)) (Contains-push (take i places) (get_or places i 0))
+
     -- the next place is the first now, where it stands before the first so far and something holds there
     pub earlier_found : get_or places i 0 < first → IsSuchAt Holds things (get_or places i 0) → IsFirstPlace Holds things (take (i + 1) places) end (get_or places i 0)
     earlier_found earlier such = record {
       within = omega (arith, earlier, so_far.within);
+      among = inr read_here;
       is_such = inr such;
       none_earlier =
           All-more (λ q. q < get_or places i 0 → ¬ IsSuchAt Holds things q) places i 0 inside
@@ -25,6 +34,10 @@ module _ {A : Type 0} (Holds : A → Type 0) (things : List A) where
     pub none_found : (get_or places i 0 < first → ¬ IsSuchAt Holds things (get_or places i 0)) → IsFirstPlace Holds things (take (i + 1) places) end first
     none_found none = record {
       within = so_far.within;
+      among = elim so_far.among [
+        | inl end ↦ inl end
+        | inr there ↦ inr (read_before first there)
+      ];
       is_such = so_far.is_such;
       none_earlier = All-more (λ q. q < first → ¬ IsSuchAt Holds things q) places i 0 inside so_far.none_earlier none;
     }

@@ -22,6 +22,7 @@ pub record IsSuchAt {A : Type 0} (Holds : A → Type 0) (things : List A) (place
 -- the first of some places before an end at which something holds of a thing, or the end, where it does at none of them
 pub record IsFirstPlace {A : Type 0} (Holds : A → Type 0) (things : List A) (places : List ℕ) (end first : ℕ) : Type 0 where
   pub within : first ≤ end
+  pub among : (first ≡ end) ⊎ Contains places first
   pub is_such : (first ≡ end) ⊎ IsSuchAt Holds things first
   pub none_earlier : All (λ place. place < first → ¬ IsSuchAt Holds things place) places
 
