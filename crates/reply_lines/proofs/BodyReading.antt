@@ -1,15 +1,16 @@
 -- The loop that reads the body of a response.
 use Rattle.std.proofs.Common.{◌≡◌, ℕ, ◌+◌, ◌-◌, ◌^◌, ◌<◌, ◌≤◌, List, [], ◌∷◌, ◌++◌, length, inl, inr}
 use Rattle.std.proofs.Common.{arith, sym, ap, ◌∙◌, refl, append-nil, append_assoc, below_more}
-use Rattle.std.specs.Prelude.{◌⊎◌, ◌&&◌, ◌==◌, IsTrue, IsFalse}
+use Rattle.std.specs.Prelude.{◌⊎◌, ◌&&◌, ◌==◌, Some, IsTrue, IsFalse}
 use Rattle.std.specs.List.{list_any}
 use Rattle.std.proofs.lemmas.Bool.{cases_lt, le-ltb}
 use Rattle.std.proofs.lemmas.List.{length-append}
-use Rattle.http_bodies.proofs.CallerLemmas.{all_data-more}
+use Rattle.http_bodies.proofs.CallerLemmas.{all_data-more, called_for}
 use Rattle.http_bodies.specs.declared.frame.Frame.{Frame}
-use Rattle.http_bodies.specs.Bodies.{BodyState, after_body_call, failing, fails_next, frames_of, never_failing}
+use Rattle.http_bodies.specs.Bodies.{BodyState, after_body_call, calls_of, failing, fails_next, frames_of, never_failing}
 use Rattle.http_bodies.specs.Frames.{all_data, data_of}
 use Rattle.http_bodies.specs.Memory.{is_failing, one_more}
+use Rattle.http_bodies.specs.Sources.{CalledFor}
 use Rattle.reply_lines.specs.ResponseBodies.{FailsWithin, IsReadWhole, NoneFails, fails_after}
 
 -- no call past the last value of a counter fails
@@ -106,3 +107,12 @@ reading_fails start now content count budget reading broken allowed =
       fails = next_counted start now content count reading ∙ broken;
       first = reading.none_fails;
     }
+
+-- the last call took no frame
+pub reading_called : (start now after : BodyState) (content : List ℕ) (count : ℕ) → IsReading start now content count
+    → frames_of after ≡ frames_of now → calls_of now ≤ calls_of start + count → calls_of after ≤ calls_of now + 1
+    → CalledFor (Some (frames_of start)) (Some (frames_of after)) (calls_of start) (calls_of after)
+reading_called start now after content count reading same few once =
+    let counted = reading.counted in
+    called_for (Some (frames_of start)) (Some (frames_of now)) (Some (frames_of after)) reading.came
+    (calls_of start) (calls_of after) reading.taken (ap Some same) (omega arith)

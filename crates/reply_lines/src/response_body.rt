@@ -1,7 +1,8 @@
 //! The body of a response, read whole.
-ghost use Rattle.std.specs.Prelude.{◌≡◌, ◌+◌, ◌-◌, ◌<◌, ◌≤◌, ◌^◌, ◌++◌, IfOk, IsErrOf, OnOk};
+ghost use Rattle.std.specs.Prelude.{◌≡◌, ◌+◌, ◌-◌, ◌<◌, ◌≤◌, ◌^◌, ◌++◌, Some, IfOk, IsErrOf, OnOk};
 ghost use Rattle.http_bodies.specs.Bodies.{calls_of, frames_of};
 ghost use Rattle.http_bodies.specs.Frames.{all_data, data_of};
+ghost use Rattle.http_bodies.specs.Sources.{CalledFor};
 ghost use Rattle.reply_lines.specs.ResponseBodies.{FailsWithin, HasMoreFrames, IsReadWhole};
 
 use http_bodies::{Body, Frame, FrameError};
@@ -43,6 +44,8 @@ pub(crate) fn read_content(
     ensures fault { IsErrOf result ContentError.BodyFault → FailsWithin budget body.old }
     ensures over { IsErrOf result ContentError.FrameBudget → HasMoreFrames budget body.old }
     ensures calls { calls_of body.new ≤ calls_of body.old + budget + 1 }
+    ensures called { CalledFor (Some (frames_of body.old)) (Some (frames_of body.new))
+        (calls_of body.old) (calls_of body.new) }
 {
     let mut content = Vec::new(alloc);
     for _ in 0..budget + 1 {

@@ -1,9 +1,10 @@
 //! The lines that tell an outcome, and the response where there is one, written straight into their bytes.
 ghost use Rattle.std.specs.Prelude.{◌≡◌, ◌<◌, ◌≤◌, ◌+◌, ◌-◌, ◌^◌, [], ◌∷◌, ◌++◌, IfOk, OnOk, IsTrue};
-ghost use Rattle.std.specs.Prelude.{List as ListOf, codes, map, pos, slice_index};
+ghost use Rattle.std.specs.Prelude.{List as ListOf, Some, codes, map, pos, slice_index};
 ghost use Rattle.std.specs.List.{flat_map};
 ghost use Rattle.hex.specs.Hex.{encode_lower, lower_digits};
-ghost use Rattle.http_bodies.specs.Bodies.{calls_of};
+ghost use Rattle.http_bodies.specs.Bodies.{calls_of, frames_of};
+ghost use Rattle.http_bodies.specs.Sources.{CalledFor};
 ghost use Rattle.schema_values.specs.Ascii.{all_ascii};
 ghost use Rattle.schema_values.specs.Print.{comma_before, compact_of, escape, joined};
 ghost use Rattle.schema_values.specs.PrintMember.{compact_member};
@@ -45,8 +46,8 @@ pub fn outcome_line(alloc: Global, outcome: &str) -> Result<List<u8>, AllocError
 /// of a compact object that tells the outcome, the status, the header lines and the content of the body. Where a call
 /// on the body fails, the line tells `reply-fault` in place of the outcome, and where the body has more frames than
 /// the budget, `reply-budget`; then it tells nothing of the response. The outcome is ASCII, and the budget below
-/// 2^64-1. The body, where it counts its calls, is called at most once more than the budget; all else of the response
-/// stays.
+/// 2^64-1. The body, where it counts its calls, is called at most once more than the budget, and not again behind its end
+/// or a call that failed; all else of the response stays.
 pub fn response_line(
     alloc: Global,
     outcome: &str,
@@ -58,6 +59,8 @@ pub fn response_line(
     ensures line { IfOk result (λ line. (json : JsonValue) × Shows budget outcome.now response.old json
         × (line ≡ bytes_of_line json)) }
     ensures calls { calls_of response.new.body ≤ calls_of response.old.body + budget + 1 }
+    ensures called { CalledFor (Some (frames_of response.old.body)) (Some (frames_of response.new.body))
+        (calls_of response.old.body) (calls_of response.new.body) }
     ensures status { response.new.status ≡ response.old.status }
     ensures headers { response.new.headers ≡ response.old.headers }
 {

@@ -1,5 +1,5 @@
-use Rattle.std.proofs.Common.{arith, sym}
-use Rattle.reply_lines.proofs.BodyReading.{reading_ends, reading_fails, reading_more}
+use Rattle.std.proofs.Common.{arith, refl, sym}
+use Rattle.reply_lines.proofs.BodyReading.{reading_called, reading_ends, reading_fails, reading_more}
 use Rattle.reply_lines.proofs.response_body.read_content.Goals as goal
 
 pub returns-in-Ok-None-clause-whole : goal.returns-in-Ok-None-clause-whole
@@ -26,3 +26,24 @@ loop-preserved c =
           c.next_frame.ensures.after);
       calls = omega arith;
     }
+
+pub returns-in-Ok-None-clause-called : goal.returns-in-Ok-None-clause-called
+returns-in-Ok-None-clause-called c =
+    let gives = rw c.in-Ok-None.field-0-is at c.in-Ok-None.ensures.gives in
+    reading_called c.args.body.now c.loop.body c.next_frame.new.self c.loop.content.items c.loop.counter
+    c.loop.invariant.reading (cc gives.1) c.loop.invariant.calls c.next_frame.ensures.once
+
+pub returns-in-Err-Failed-clause-called : goal.returns-in-Err-Failed-clause-called
+returns-in-Err-Failed-clause-called c =
+    reading_called c.args.body.now c.loop.body c.next_frame.new.self c.loop.content.items c.loop.counter
+    c.loop.invariant.reading c.in-Err-Failed.ensures.kept c.loop.invariant.calls c.next_frame.ensures.once
+
+pub returns-in-Err-OutOfMemory-clause-called : goal.returns-in-Err-OutOfMemory-clause-called
+returns-in-Err-OutOfMemory-clause-called c =
+    reading_called c.args.body.now c.loop.body c.next_frame.new.self c.loop.content.items c.loop.counter
+    c.loop.invariant.reading c.in-Err-OutOfMemory.ensures.kept c.loop.invariant.calls c.next_frame.ensures.once
+
+pub returns-clause-called : goal.returns-clause-called
+returns-clause-called c =
+    reading_called c.args.body.now c.loop.body c.loop.body c.loop.content.items c.loop.counter
+    c.loop.invariant.reading refl c.loop.invariant.calls (omega arith)
