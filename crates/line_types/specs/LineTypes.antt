@@ -28,7 +28,7 @@ abbrev pub line_frame : LineFrame → WrittenFrame
 line_frame (frames.Text text) = as_text text
 line_frame (frames.Digits digits) = as_hex digits.hex
 
--- the members of a line that a value says
+-- the members of a line that a value has
 abbrev pub line_members : RequestLine → Members
 line_members line = record {
   method = line.method;

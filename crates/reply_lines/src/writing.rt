@@ -46,8 +46,8 @@ pub fn outcome_line(alloc: Global, outcome: &str) -> Result<List<u8>, AllocError
 /// of a compact object that tells the outcome, the status, the header lines and the content of the body. Where a call
 /// on the body fails, the line tells `reply-fault` in place of the outcome, and where the body has more frames than
 /// the budget, `reply-budget`; then it tells nothing of the response. The outcome is ASCII, and the budget below
-/// 2^64-1. The body, where it counts its calls, is called at most once more than the budget, and not again behind its end
-/// or a call that failed; all else of the response stays.
+/// 2^64-1. The body, where it counts its calls, is called at most once more than the budget, and not again behind
+/// its end or a call that failed; all else of the response stays.
 pub fn response_line(
     alloc: Global,
     outcome: &str,
