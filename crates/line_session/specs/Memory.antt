@@ -1,16 +1,17 @@
 -- Ends in memory, and what a read from memory gives.
 use Rattle.std.specs.Prelude.{ℕ, ◌≡◌, ◌+◌, ◌<◌, ◌≤◌, Bool, min, ◌-◌, ◌^◌, nat_lt, ◌&&◌, ◌==◌, if◌then◌else◌, List, [], length, take, drop}
-use Rattle.std.specs.Prelude.{◌↔◌, IsErrOf, IsTrue, Result, is_err}
+use Rattle.std.specs.Prelude.{◌↔◌, IfOk, IsErrOf, IsTrue, Result, is_err}
 use Rattle.std.specs.List.{list_any}
 use Rattle.line_session.specs.declared.ends.SinkError.{SinkError}
 use Rattle.line_session.specs.declared.ends.SinkError.TheVariants.{Failed}
 
--- the first `count` bytes of buf are those of content from `at` on; none only at the end or for no room
+-- the first `count` bytes of buf are those of content from `at` on, as many as there are and fit
 pub record CopiesFront (content : List ℕ) (at : ℕ) (buf : List ℕ) (count : ℕ) : Type 0 where
   pub fits : count ≤ length buf
   pub there : count + at ≤ length content
   pub front : take count buf ≡ take count (drop at content)
   pub none : count ≡ 0 → 0 < length buf → drop at content ≡ []
+  pub whole : count ≡ min (length (drop at content)) (length buf)
 
 -- the call with this number is one of those that fail; the last number of a counter is none
 abbrev pub is_failing : List ℕ → ℕ → Bool
@@ -41,10 +42,22 @@ after_call s bytes = record {
   faults = if is_failing s.failing s.calls then one_more s.faults else s.faults;
 }
 
--- what a call of an end in memory says of itself: it fails where it is to fail and nowhere else, and is counted
-abbrev pub IsMemoryRead : {E : Type 0} → MemoryState → Result ℕ E → MemoryState → Type 0
-IsMemoryRead old result new = (is_err result ≡ is_failing old.failing old.calls) × (new ≡ after_call old new.bytes)
+-- what is read from an end in memory: as many bytes as are left and have room
+abbrev pub ReadsWhole : {E : Type 0} → List ℕ → List ℕ → Result ℕ E → Type 0
+ReadsWhole left buf result = IfOk result (λ count. count ≡ min (length left) (length buf))
 
-abbrev pub IsMemoryWrite : MemoryState → Result ℕ SinkError → MemoryState → Type 0
-IsMemoryWrite old result new =
-    (IsErrOf result Failed ↔ IsTrue (is_failing old.failing old.calls)) × (new ≡ after_call old new.bytes)
+-- what is written to one: the whole piece
+abbrev pub WritesWhole : {E : Type 0} → List ℕ → Result ℕ E → Type 0
+WritesWhole piece result = IfOk result (λ count. count ≡ length piece)
+
+-- what a call of an end in memory says of itself: it fails where it is to fail and nowhere else, is counted, and reads or
+-- writes the whole
+pub record IsMemoryRead {E : Type 0} (old : MemoryState) (buf : List ℕ) (result : Result ℕ E) (new : MemoryState) : Type 0 where
+  pub exactly : is_err result ≡ is_failing old.failing old.calls
+  pub after : new ≡ after_call old new.bytes
+  pub whole : ReadsWhole old.bytes buf result
+
+pub record IsMemoryWrite (old : MemoryState) (piece : List ℕ) (result : Result ℕ SinkError) (new : MemoryState) : Type 0 where
+  pub exactly : IsErrOf result Failed ↔ IsTrue (is_failing old.failing old.calls)
+  pub after : new ≡ after_call old new.bytes
+  pub whole : WritesWhole piece result

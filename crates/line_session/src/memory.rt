@@ -4,7 +4,7 @@ ghost use Rattle.std.specs.Prelude.{OnOk};
 ghost use Rattle.std.specs.Io.{ReadsAtMost, WritesAtMost};
 ghost use Rattle.std.specs.Io.KnownBytes.{ReadConsumes, WriteAppends};
 ghost use Rattle.schema_values.specs.Causes.{HasCause, HasRisen};
-ghost use Rattle.line_session.specs.Memory.{CopiesFront, IsMemoryRead, IsMemoryWrite};
+ghost use Rattle.line_session.specs.Memory.{CopiesFront, IsMemoryRead, IsMemoryWrite, ReadsWhole, WritesWhole};
 ghost use Rattle.line_session.specs.Memory.{after_call, fresh, is_failing, one_more};
 
 use crate::ends::{Failed, Sink, SinkError, Source};
@@ -23,7 +23,7 @@ pub struct MemorySource {
     faults: u64,
 }
 
-/// Bytes to be read, by calls that never fail.
+/// Bytes to be read, by calls that never fail and give as many as are left and fit.
 #[derive(Drop)]
 pub struct SafeSource {
     content: List<u8>,
@@ -185,7 +185,7 @@ impl Source for MemorySource {
 
     ghost faults = { λ s. s.faults };
 
-    ghost read_gives = { λ old buf result new. IsMemoryRead old result new };
+    ghost read_gives = { λ old buf result new. IsMemoryRead old buf result new };
 
     fn read(&mut self, buf: &mut [u8]) -> Result<usize, Failed>
         ensures bound { ReadsAtMost result buf.new }
@@ -196,6 +196,9 @@ impl Source for MemorySource {
         // It fails at these calls and at no other, and the count rises by each.
         ensures exactly { is_err result ≡ is_failing self.old.failing self.old.calls }
         ensures after { self.new ≡ after_call self.old self.new.bytes }
+
+        // It gives as many bytes as are left and fit.
+        ensures whole { ReadsWhole self.old.bytes buf.new result }
     {
         if is_failing(self.failing.as_slice(), &mut self.calls) {
             self.faults = self.faults.saturating_add(1);
@@ -212,6 +215,8 @@ impl Source for SafeSource {
 
     ghost faults = { λ s. 0 };
 
+    ghost read_gives = { λ old buf result _. ReadsWhole old buf result };
+
     fn read(&mut self, buf: &mut [u8]) -> Result<usize, Failed> {
         let count = copy_front(self.content.as_slice(), self.at, buf);
         self.at += count;
@@ -224,7 +229,7 @@ impl Sink for MemorySink {
 
     ghost faults = { λ s. s.faults };
 
-    ghost write_gives = { λ old piece result new. IsMemoryWrite old result new };
+    ghost write_gives = { λ old piece result new. IsMemoryWrite old piece result new };
 
     fn write(&mut self, piece: &[u8]) -> Result<usize, SinkError>
         ensures bound { WritesAtMost result piece.now }
@@ -238,6 +243,9 @@ impl Sink for MemorySink {
         ensures exactly { IsErrOf result SinkError.Failed
             ↔ IsTrue (is_failing self.old.failing self.old.calls) }
         ensures after { self.new ≡ after_call self.old self.new.bytes }
+
+        // It takes the whole piece.
+        ensures whole { WritesWhole piece.now result }
     {
         if is_failing(self.failing.as_slice(), &mut self.calls) {
             self.faults = self.faults.saturating_add(1);
@@ -254,6 +262,8 @@ impl Sink for SafeSink {
     ghost taken = { λ s. Some s };
 
     ghost faults = { λ s. 0 };
+
+    ghost write_gives = { λ _ piece result _. WritesWhole piece result };
 
     fn write(&mut self, piece: &[u8]) -> Result<usize, SinkError> {
         match self.content.extend_from_slice(piece) {

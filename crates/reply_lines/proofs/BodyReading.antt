@@ -11,7 +11,7 @@ use Rattle.http_bodies.specs.Bodies.{BodyState, after_body_call, calls_of, faili
 use Rattle.http_bodies.specs.Frames.{all_data, data_of}
 use Rattle.http_bodies.specs.Memory.{is_failing, one_more}
 use Rattle.http_bodies.specs.Sources.{CalledFor}
-use Rattle.reply_lines.specs.ResponseBodies.{FailsWithin, IsReadWhole, NoneFails, fails_after}
+use Rattle.reply_lines.specs.ResponseBodies.{FailsWithin, IsReadWhole, NoneFails, TakesFirst, fails_after}
 
 -- no call past the last value of a counter fails
 past_last : (numbers : List ℕ) (number : ℕ) → 2 ^ 64 - 1 ≤ number → IsFalse (is_failing numbers number)
@@ -116,3 +116,13 @@ reading_called start now after content count reading same few once =
     let counted = reading.counted in
     called_for (Some (frames_of start)) (Some (frames_of now)) (Some (frames_of after)) reading.came
     (calls_of start) (calls_of after) reading.taken (ap Some same) (omega arith)
+
+pub reading_takes : (start now after : BodyState) (content : List ℕ) (count most : ℕ) → IsReading start now content count
+    → frames_of after ≡ frames_of now → count ≤ most → TakesFirst most start after
+reading_takes start now after content count most reading same allowed =
+    let counted = reading.counted in
+    record {
+      came = reading.came;
+      taken = reading.taken ∙ ap (λ (left : List Frame). reading.came ++ left) (sym same);
+      few = omega arith;
+    }

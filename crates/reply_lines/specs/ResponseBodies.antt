@@ -1,7 +1,8 @@
 -- Bodies of responses: which of the calls on a body fail, and what reading it under a budget of frames comes to.
-use Rattle.std.specs.Prelude.{◌+◌, ◌<◌, ◌≤◌, ℕ, Bool, false, IsTrue, IsFalse, length}
+use Rattle.std.specs.Prelude.{◌≡◌, ◌+◌, ◌<◌, ◌≤◌, ◌++◌, ℕ, List, Bool, false, IsTrue, IsFalse, length}
 use Rattle.http_bodies.specs.Bodies.{BodyState, failing, frames_of, never_failing}
 use Rattle.http_bodies.specs.Memory.{is_failing}
+use Rattle.http_bodies.specs.declared.frame.Frame.{Frame}
 
 -- Whether the call on a body fails that is made after so many earlier ones. A body that can fail was told the numbers
 -- of the calls that do, and has counted the calls before these.
@@ -33,3 +34,9 @@ pub record FailsWithin (budget : ℕ) (body : BodyState) : Type 0 where
 pub record HasMoreFrames (budget : ℕ) (body : BodyState) : Type 0 where
   pub many : budget < length (frames_of body)
   pub none_fails : NoneFails body (budget + 1)
+
+-- at most so many frames were taken of a body, which are its first ones
+pub record TakesFirst (most : ℕ) (before after : BodyState) : Type 0 where
+  pub came : List Frame
+  pub taken : frames_of before ≡ came ++ frames_of after
+  pub few : length came ≤ most

@@ -3,7 +3,7 @@ ghost use Rattle.std.specs.Prelude.{◌≡◌, ◌+◌, ◌-◌, ◌<◌, ◌≤
 ghost use Rattle.http_bodies.specs.Bodies.{calls_of, frames_of};
 ghost use Rattle.http_bodies.specs.Frames.{all_data, data_of};
 ghost use Rattle.http_bodies.specs.Sources.{CalledFor};
-ghost use Rattle.reply_lines.specs.ResponseBodies.{FailsWithin, HasMoreFrames, IsReadWhole};
+ghost use Rattle.reply_lines.specs.ResponseBodies.{FailsWithin, HasMoreFrames, IsReadWhole, TakesFirst};
 
 use http_bodies::{Body, Frame, FrameError};
 use schema_values::List;
@@ -43,6 +43,7 @@ pub(crate) fn read_content(
         IsReadWhole budget body.old × (content ≡ all_data (frames_of body.old))) }
     ensures fault { IsErrOf result ContentError.BodyFault → FailsWithin budget body.old }
     ensures over { IsErrOf result ContentError.FrameBudget → HasMoreFrames budget body.old }
+    ensures taken { TakesFirst (budget + 1) body.old body.new }
     ensures calls { calls_of body.new ≤ calls_of body.old + budget + 1 }
     ensures called { CalledFor (Some (frames_of body.old)) (Some (frames_of body.new))
         (calls_of body.old) (calls_of body.new) }

@@ -15,6 +15,7 @@ ghost use Rattle.schema_values.specs.Member.{member};
 ghost use Rattle.reply_lines.specs.ReplyLines.{ArePairsOf, IsBodyMember, IsPairOf, IsShownAs};
 ghost use Rattle.reply_lines.specs.ReplyLines.{Shows, TellsResponse, bytes_of_line};
 ghost use Rattle.reply_lines.specs.ReplyLines.{outcome_alone, outcome_member};
+ghost use Rattle.reply_lines.specs.ResponseBodies.{TakesFirst};
 
 use crate::response_body::{ContentError, read_content};
 use http::StatusCode;
@@ -46,8 +47,8 @@ pub fn outcome_line(alloc: Global, outcome: &str) -> Result<List<u8>, AllocError
 /// of a compact object that tells the outcome, the status, the header lines and the content of the body. Where a call
 /// on the body fails, the line tells `reply-fault` in place of the outcome, and where the body has more frames than
 /// the budget, `reply-budget`; then it tells nothing of the response. The outcome is ASCII, and the budget below
-/// 2^64-1. The body, where it counts its calls, is called at most once more than the budget, and not again behind
-/// its end or a call that failed; all else of the response stays.
+/// 2^64-1. At most one frame more than the budget is taken of the body, which, where it counts its calls, is called at
+/// most as often, and not again behind its end or a call that failed; all else of the response stays.
 pub fn response_line(
     alloc: Global,
     outcome: &str,
@@ -58,6 +59,7 @@ pub fn response_line(
     requires budget { budget < 2 ^ 64 - 1 }
     ensures line { IfOk result (λ line. (json : JsonValue) × Shows budget outcome.now response.old json
         × (line ≡ bytes_of_line json)) }
+    ensures taken { TakesFirst (budget + 1) response.old.body response.new.body }
     ensures calls { calls_of response.new.body ≤ calls_of response.old.body + budget + 1 }
     ensures called { CalledFor (Some (frames_of response.old.body)) (Some (frames_of response.new.body))
         (calls_of response.old.body) (calls_of response.new.body) }

@@ -1,5 +1,7 @@
-use Rattle.std.proofs.Common.{arith, refl, sym}
+use Rattle.std.proofs.Common.{◌+◌, ◌++◌, arith, refl, sym}
+use Rattle.http_bodies.specs.Frames.{data_of}
 use Rattle.reply_lines.proofs.BodyReading.{reading_called, reading_ends, reading_fails, reading_more}
+use Rattle.reply_lines.proofs.BodyReading.{reading_takes}
 use Rattle.reply_lines.proofs.response_body.read_content.Goals as goal
 
 pub returns-in-Ok-None-clause-whole : goal.returns-in-Ok-None-clause-whole
@@ -47,3 +49,32 @@ pub returns-clause-called : goal.returns-clause-called
 returns-clause-called c =
     reading_called c.args.body.now c.loop.body c.loop.body c.loop.content.items c.loop.counter
     c.loop.invariant.reading refl c.loop.invariant.calls (omega arith)
+
+pub returns-in-Ok-None-clause-taken : goal.returns-in-Ok-None-clause-taken
+returns-in-Ok-None-clause-taken c =
+    let gives = rw c.in-Ok-None.field-0-is at c.in-Ok-None.ensures.gives in
+    reading_takes c.args.body.now c.loop.body c.next_frame.new.self c.loop.content.items c.loop.counter (c.args.budget + 1)
+    c.loop.invariant.reading (cc gives.1) (omega arith)
+
+pub returns-in-Err-Failed-clause-taken : goal.returns-in-Err-Failed-clause-taken
+returns-in-Err-Failed-clause-taken c =
+    reading_takes c.args.body.now c.loop.body c.next_frame.new.self c.loop.content.items c.loop.counter (c.args.budget + 1)
+    c.loop.invariant.reading c.in-Err-Failed.ensures.kept (omega arith)
+
+pub returns-in-Err-OutOfMemory-clause-taken : goal.returns-in-Err-OutOfMemory-clause-taken
+returns-in-Err-OutOfMemory-clause-taken c =
+    reading_takes c.args.body.now c.loop.body c.next_frame.new.self c.loop.content.items c.loop.counter (c.args.budget + 1)
+    c.loop.invariant.reading c.in-Err-OutOfMemory.ensures.kept (omega arith)
+
+pub returns-clause-taken : goal.returns-clause-taken
+returns-clause-taken c =
+    reading_takes c.args.body.now c.loop.body c.loop.body c.loop.content.items c.loop.counter (c.args.budget + 1)
+    c.loop.invariant.reading refl (omega arith)
+
+pub returns-in_err-append-in-Ok-Some-clause-taken : goal.returns-in_err-append-in-Ok-Some-clause-taken
+returns-in_err-append-in-Ok-Some-clause-taken c =
+    let gives = rw c.in-Ok-Some.field-0-is at c.in-Ok-Some.ensures.gives in
+    let more = reading_more c.args.body.now c.loop.body c.next_frame.new.self c.loop.content.items c.loop.counter
+    c.in-Ok-Some.frame c.loop.invariant.reading (sym c.in-Ok-Some.ensures.exactly) gives c.next_frame.ensures.after in
+    reading_takes c.args.body.now c.next_frame.new.self c.next_frame.new.self (c.loop.content.items ++ data_of c.in-Ok-Some.frame)
+    (c.loop.counter + 1) (c.args.budget + 1) more refl (omega arith)
