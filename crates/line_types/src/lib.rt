@@ -10,6 +10,6 @@ mod variable;
 
 pub use frame::{LineDigits, LineFrame};
 pub use header::LineHeader;
-pub use laws::{lines_are_typed, lines_are_values};
+pub use laws::{lines_are_values, request_line_descriptor, request_line_tree};
 pub use request_line::RequestLine;
 pub use variable::LineVariable;
