@@ -1,5 +1,7 @@
 //! Calling the handler of an endpoint.
 ghost use Rattle.std.specs.Prelude.{◌≡◌, ◌⊎◌, IfOk, OnErr};
+ghost use Rattle.request_parts.specs.Requests.{Request};
+ghost use Rattle.request_parts.specs.declared.config.ServerConfig.{ServerConfig as ConfigValue};
 ghost use Rattle.handler_shapes.specs.Arguments.{ArgsFit};
 ghost use Rattle.handler_shapes.specs.ShapeChecks.{ShapePasses};
 ghost use Rattle.api_respond.specs.declared.reply.Reply.{Reply as ReplyValue};
@@ -39,11 +41,34 @@ pub(crate) fn handle(
         (called config.now request.now store.old) args reply store.new)) }
 {
     let context = context_of(alloc, endpoint, request, request_id, config)?;
+    reply_in(alloc, endpoint, &context, store, args)
+}
+
+// Calls the handler in a context, and encodes its reply. The context is lent, so that only the arguments and the reply
+// are owned while more can fail.
+fn reply_in(
+    alloc: Global,
+    endpoint: &ApiEndpoint,
+    context: &RequestContext,
+    store: &mut Store,
+    args: ArgList,
+) -> Result<Exchange, AllocError>
+    requires shape { ShapePasses (shape_at (boxed ⟦<dyn RouteHandler as RouteHandler>⟧) endpoint.now) }
+    requires fit { ArgsFit
+        (shape_at (boxed ⟦<dyn RouteHandler as RouteHandler>⟧) endpoint.now).table
+        (shape_at (boxed ⟦<dyn RouteHandler as RouteHandler>⟧) endpoint.now).slots args }
+    ensures sent { (config : ConfigValue) (request : Request) → context.now ≡ context_of endpoint.now config request
+        → IfOk result (λ exchange. IsHandledWith (boxed ⟦<dyn RouteHandler as RouteHandler>⟧)
+        endpoint.now (called config request store.old) args exchange store.new) }
+    ensures lost { (config : ConfigValue) (request : Request) → context.now ≡ context_of endpoint.now config request
+        → OnErr result ((store.new ≡ store.old) ⊎ ((reply : ReplyValue)
+        × MayReply (boxed ⟦<dyn RouteHandler as RouteHandler>⟧) endpoint.now
+        (called config request store.old) args reply store.new)) }
+{
     let handler = endpoint.handler();
     let mut args = args;
-    let mut reply = handler.handle(alloc, &context, store, &mut args)?;
-    let RequestContext { request_id, .. } = context;
-    let response = encode_reply(alloc, handler, &mut reply, &request_id)?;
+    let mut reply = handler.handle(alloc, context, store, &mut args)?;
+    let response = encode_reply(alloc, handler, &mut reply, &context.request_id)?;
     Ok(Exchange::Handled {
         args,
         reply,

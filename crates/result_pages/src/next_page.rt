@@ -3,6 +3,7 @@ ghost use Rattle.std.specs.Prelude.{◌≡◌, ◌≤◌, ◌++◌, [], IfOk, If
 ghost use Rattle.std.specs.Fmt.{decimal};
 ghost use Rattle.http_status.specs.Errors.{internal_error};
 ghost use Rattle.api_types.specs.Additions.{with_all};
+ghost use Rattle.page_tokens.specs.Encoded.{IsUnwritten};
 ghost use Rattle.result_pages.specs.NextPages.{AreAllTooLarge, HasTable, IsNextPage, IsNoPage};
 ghost use Rattle.result_pages.specs.NextPages.{IsNoToken, Selects, too_large_text, type_token};
 
@@ -89,16 +90,28 @@ fn selector_token<P: ApiType>(alloc: Global, selector: &P) -> Result<Text, HttpR
     ensures refused { IfErr result (IsNoToken
         (type_token P.definitions_of P.desc_of (P.tree_of selector.now))) }
 {
-    let table = selector_table::<P>(alloc)?;
-    let desc = P::descriptor(alloc)?;
-    let tree = selector.to_tree(alloc)?;
-    selector.fits();
-    match write_token(alloc, &table, &desc, &tree) {
+    match written(alloc, selector) {
         Ok(token) => Ok(token),
         Err(TokenError::TooLarge(size)) => Err(HttpRefusal::Http(too_large(alloc, size)?)),
         Err(TokenError::OutOfMemory) => Err(HttpRefusal::OutOfMemory),
         Err(TokenError::NotBase64 | TokenError::Corrupted) => unreachable!(),
     }
+}
+
+// The token of a selector, or that it is too large. What it is written from is owned here alone.
+fn written<P: ApiType>(alloc: Global, selector: &P) -> Result<Text, TokenError>
+    requires { HasTable P.definitions_of P.desc_of }
+    ensures token { IfOk result (λ text. text
+        ≡ type_token P.definitions_of P.desc_of (P.tree_of selector.now)) }
+    ensures small { IfOk result (λ text. length text ≤ 512) }
+    ensures refused { IfErr result (IsUnwritten
+        (type_token P.definitions_of P.desc_of (P.tree_of selector.now))) }
+{
+    let tree = selector.to_tree(alloc)?;
+    let table = selector_table::<P>(alloc)?;
+    let desc = P::descriptor(alloc)?;
+    selector.fits();
+    write_token(alloc, &table, &desc, &tree)
 }
 
 // The table of a selector's definitions, which do not clash.

@@ -1,6 +1,7 @@
-ghost use Rattle.std.specs.Prelude.{◌≡◌, [], ◌∷◌, map, IfOk, OnErr};
+ghost use Rattle.std.specs.Prelude.{◌≡◌, [], ◌∷◌, codes, map, IfOk, OnErr};
 ghost use Rattle.descriptors.specs.declared.tree.Tree.TheVariants as trees;
 ghost use Rattle.api_types.specs.Adds.{AddsAll};
+ghost use Rattle.api_types.specs.Heads.{described, nullable, required};
 ghost use Rattle.api_types.specs.Kinds.{KindsFitOne};
 ghost use Rattle.api_types.specs.Options.{option_tree};
 ghost use Rattle.api_types.specs.Types.{FitsOne};
@@ -96,18 +97,27 @@ fn page_name<T: ApiType>(alloc: Global) -> Result<Text, AllocError>
 fn page_head(alloc: Global) -> Result<StructHead, AllocError>
     ensures { IfOk result (λ head. head ≡ page_head) }
 {
-    let next_page = FieldHead::nullable(alloc, "next_page")?.described(
-        alloc,
-        "token used to fetch the next page of results (if any)",
-    )?;
-    let items = FieldHead::required(alloc, "items")?.described(
-        alloc,
-        "list of items on this page of results",
-    )?;
     StructHead::new(alloc)
         .described(alloc, "A single page of results")?
-        .with(next_page)?
-        .with(items)
+        .with(next_page_head(alloc)?)?
+        .with(items_head(alloc)?)
+}
+
+fn next_page_head(alloc: Global) -> Result<FieldHead, AllocError>
+    ensures { IfOk result (λ head. head ≡ described
+        (codes "token used to fetch the next page of results (if any)") (nullable (codes "next_page"))) }
+{
+    FieldHead::nullable(alloc, "next_page")?.described(
+        alloc,
+        "token used to fetch the next page of results (if any)",
+    )
+}
+
+fn items_head(alloc: Global) -> Result<FieldHead, AllocError>
+    ensures { IfOk result (λ head. head ≡ described
+        (codes "list of items on this page of results") (required (codes "items"))) }
+{
+    FieldHead::required(alloc, "items")?.described(alloc, "list of items on this page of results")
 }
 
 fn definition<T: ApiType>(alloc: Global) -> Result<Definition, AllocError>
