@@ -52,8 +52,8 @@ fn sample_config(alloc: Global) -> Result<ToolConfig, AllocError>
     })
 }
 
-// Runs a command of the sample API. Handlers are boxed in the function that keeps them: one that hands a box out is not
-// allowed.
+// Runs a command of the sample API. Endpoints are made in the function that keeps them: one that makes an endpoint and
+// hands it out is not allowed.
 fn run_sample(rt: &HostRuntime, words: &[String]) -> Result<ToolStatus, NewEndpointError> {
     let alloc = rt.alloc();
     let mut endpoints = Vec::new(alloc);
@@ -67,9 +67,6 @@ fn run_sample(rt: &HostRuntime, words: &[String]) -> Result<ToolStatus, NewEndpo
             body_limit,
             visible,
         } = endpoint;
-        let Ok(handler) = Box::new(alloc, handler) else {
-            return Err(NewEndpointError::OutOfMemory);
-        };
         let mut made = ApiEndpoint::new(
             alloc,
             operation_id,

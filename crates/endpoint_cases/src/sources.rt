@@ -1,18 +1,15 @@
 //! The endpoints of a case: those of the sample where `"sample"` is true, else those under `"endpoints"`, noted as
 //! making.rt says. With `"for_types"` the latter are made for documents alone.
 //!
-//! Handlers are boxed, and endpoints made, where no endpoint is handed out: a function that makes one and hands it out
-//! is not allowed.
+//! Endpoints are made where none is handed out: a function that makes one and hands it out is not allowed.
 use crate::calls::{Call, over_made};
-use crate::making::{Noted, error_told, noted_of, set_words};
+use crate::making::{Noted, error_told, noted_of, with_words};
 use api_descriptions::ApiEndpoint;
-use api_versions::ApiEndpointVersions;
 use case_notation::{CaseError, Row, labelled};
 use endpoint_notation::items_at;
-use http::Method;
-use sample_api::{SampleEndpoint, SampleHandler, endpoints};
-use schema_values::{Json, Text};
-use std::alloc::{AllocError, Global};
+use sample_api::{SampleEndpoint, endpoints};
+use schema_values::Json;
+use std::alloc::Global;
 
 // The media type of typed bodies of the sample.
 const JSON: &str = "application/json";
@@ -49,12 +46,7 @@ fn over_noted(
             ApiEndpoint::new(alloc, id, handler, method, kind.as_str(), path, versions)
         };
         match outcome {
-            Ok(mut endpoint) => {
-                for tag in set_words(&mut endpoint, words).into_vec() {
-                    endpoint = endpoint.tag(tag)?;
-                }
-                made.push(endpoint)?;
-            }
+            Ok(endpoint) => made.push(with_words(endpoint, words)?)?,
             Err(error) => refusals.push(error_told(alloc, &error)),
         }
     }
@@ -67,16 +59,16 @@ fn over_noted(
 fn over_sample(alloc: Global, case: &Json, call: Call<'_>) -> Result<Json, CaseError> {
     let mut made = Vec::new(alloc);
     for endpoint in endpoints(alloc)? {
-        let Sample {
-            id,
+        let SampleEndpoint {
+            handler,
+            operation_id,
             method,
             path,
             versions,
             body_limit,
             visible,
-            handler,
-        } = sample_of(alloc, endpoint)?;
-        match ApiEndpoint::new(alloc, id, handler, method, JSON, path, versions) {
+        } = endpoint;
+        match ApiEndpoint::new(alloc, operation_id, handler, method, JSON, path, versions) {
             Ok(mut endpoint) => {
                 endpoint.request_body_max_bytes = body_limit;
                 made.push(endpoint.visible(visible))?;
@@ -85,38 +77,4 @@ fn over_sample(alloc: Global, case: &Json, call: Call<'_>) -> Result<Json, CaseE
         }
     }
     over_made(alloc, case, call, made)
-}
-
-// What an endpoint of the sample is made of, with its handler in a box.
-#[derive(Drop)]
-struct Sample {
-    id: Text,
-    method: Method,
-    path: Text,
-    versions: ApiEndpointVersions,
-    body_limit: Option<u64>,
-    visible: bool,
-    handler: Box<SampleHandler>,
-}
-
-fn sample_of(alloc: Global, endpoint: SampleEndpoint) -> Result<Sample, AllocError> {
-    let SampleEndpoint {
-        handler,
-        operation_id,
-        method,
-        path,
-        versions,
-        body_limit,
-        visible,
-    } = endpoint;
-    let handler = Box::new(alloc, handler)?;
-    Ok(Sample {
-        id: operation_id,
-        method,
-        path,
-        versions,
-        body_limit,
-        visible,
-        handler,
-    })
 }

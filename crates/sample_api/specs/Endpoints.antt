@@ -9,7 +9,7 @@ use Rattle.sample_types.specs.declared.operation.Operation.{Operation}
 use Rattle.sample_types.specs.declared.operation.Operation.TheVariants as operations
 use Rattle.sample_types.specs.Operations.{name_of, shape_of}
 
--- what is said of an endpoint of the sample, as it is meant to be boxed: typed bodies are JSON, and no tags are given
+-- what is said of an endpoint of the sample, as it is meant to be made: typed bodies are JSON, and no tags are given
 abbrev pub declared : SampleEndpoint → DeclarationValue
 declared e = record {
   operation_id = e.operation_id;
@@ -23,12 +23,12 @@ declared e = record {
   summary = None;
   description = None;
   body_limit = e.body_limit;
-  shape = e.handler.shape;
+  shape = e.handler.value.shape;
 }
 
 -- that, and what its handler does
 abbrev pub served : SampleEndpoint → DeclarationValue × Operation
-served e = (declared e, e.handler.operation)
+served e = (declared e, e.handler.value.operation)
 
 -- an operation under a method and a path, in all versions, that is shown
 abbrev pub usual : Operation → List ℕ → List ℕ → DeclarationValue

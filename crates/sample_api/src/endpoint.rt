@@ -13,12 +13,12 @@ use schema_values::Text;
 use semver::Version;
 use std::alloc::{AllocError, Global};
 
-/// An endpoint of the sample, before its handler is boxed. It is meant to be boxed without tags and further texts, and
-/// with JSON as the media type of its bodies.
+/// An endpoint of the sample, as it is handed to `ApiEndpoint::new`: without tags and further texts, and with JSON as
+/// the media type of its bodies.
 #[derive(Drop)]
 pub struct SampleEndpoint {
     /// What handles its requests.
-    pub handler: SampleHandler,
+    pub handler: Box<SampleHandler>,
     /// The name of the operation.
     pub operation_id: Text,
     /// The method.
@@ -91,7 +91,7 @@ fn endpoint(
 {
     let operation_id = Text::from_ascii(alloc, operation.name())?;
     let path = Text::from_ascii(alloc, path)?;
-    let handler = SampleHandler::new(alloc, operation)?;
+    let handler = Box::new(alloc, SampleHandler::new(alloc, operation)?)?;
     Ok(SampleEndpoint {
         handler,
         operation_id,
