@@ -128,15 +128,12 @@ fn copy_texts(reader: &mut Reader, texts: &[Text]) -> List<Text> {
     copies
 }
 
-/// The endpoint with what is left to say of it.
-pub fn with_words(mut endpoint: ApiEndpoint, words: Words) -> Result<ApiEndpoint, AllocError> {
+/// Says of an endpoint what is left to say, but for its tags, which are given back.
+pub fn set_words(endpoint: &mut ApiEndpoint, words: Words) -> List<Text> {
     endpoint.summary = words.summary;
     endpoint.description = words.description;
     endpoint.request_body_max_bytes = words.body_limit;
     endpoint.visible = words.visible;
     endpoint.deprecated = words.deprecated;
-    for tag in words.tags.into_vec() {
-        endpoint = endpoint.tag(tag)?;
-    }
-    Ok(endpoint)
+    words.tags
 }

@@ -1,9 +1,10 @@
 //! The endpoints of a case: those of the sample where `"sample"` is true, else those under `"endpoints"`, noted as
 //! making.rt says. With `"for_types"` the latter are made for documents alone.
 //!
-//! Endpoints are made where none is handed out: a function that makes one and hands it out is not allowed.
+//! Endpoints are made, and their tags set, where none is handed out: a function that makes one and hands it out is not
+//! allowed.
 use crate::calls::{Call, over_made};
-use crate::making::{Noted, error_told, noted_of, with_words};
+use crate::making::{Noted, error_told, noted_of, set_words};
 use api_descriptions::ApiEndpoint;
 use case_notation::{CaseError, Row, labelled};
 use endpoint_notation::items_at;
@@ -46,7 +47,12 @@ fn over_noted(
             ApiEndpoint::new(alloc, id, handler, method, kind.as_str(), path, versions)
         };
         match outcome {
-            Ok(endpoint) => made.push(with_words(endpoint, words)?)?,
+            Ok(mut endpoint) => {
+                for tag in set_words(&mut endpoint, words).into_vec() {
+                    endpoint = endpoint.tag(tag)?;
+                }
+                made.push(endpoint)?;
+            }
             Err(error) => refusals.push(error_told(alloc, &error)),
         }
     }
